@@ -1,0 +1,2 @@
+// The rules stand in specs/. A crate has at least one function.
+pub fn rules() {}
