@@ -2,6 +2,7 @@ pub mod Refusals
 pub mod Limits
 pub mod Lists
 pub mod Lines
+pub mod Places
 pub mod Schema
 pub mod Ast
 pub mod Equality
