@@ -1,0 +1,22 @@
+-- What holds in each case of a test holds of its result.
+use Prim.Native.Nat.{ℕ}
+use mathlib.Core.Path.{_≡_, refl}
+use mathlib.Core.Bool.{Bool, true, false}
+use mathlib.Core.Option.{Option, none, some}
+use Rattle.rules.specs.Refusals.{Reason, Answer, refuse}
+use Rattle.claims.specs.Answers.{Ensures, refusing}
+
+pub either-way : {A : Type 0} (Q : A → Type 0) (b : Bool) (x y : A) → Q x → Q y → Q (elim b [ true ↦ x | false ↦ y ])
+either-way Q true x y p q = p
+either-way Q false x y p q = q
+
+-- an answer that is refused where a test passes
+pub unless : {A : Type 0} (b : Bool) (n : Reason) (l : ℕ) (m : Answer A) (Q : A → Type 0) → Ensures m Q → Ensures (elim b [ true ↦ refuse n l | false ↦ m ]) Q
+unless true n l m Q h = refusing n l Q
+unless false n l m Q h = h
+
+-- an answer that is refused where there is no value
+pub provided : {A B : Type 0} (o : Option B) (n : Reason) (l : ℕ) (f : B → Answer A) (Q : A → Type 0) → ((b : B) → o ≡ some b → Ensures (f b) Q)
+    → Ensures (elim o [ some b ↦ f b | none ↦ refuse n l ]) Q
+provided none n l f Q k = refusing n l Q
+provided (some b) n l f Q k = k b refl
