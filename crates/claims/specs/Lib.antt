@@ -62,3 +62,4 @@ pub mod ReadEvery
 pub mod StatementEvery
 pub mod CatalogEvery
 pub mod Within
+pub mod Demands
