@@ -114,7 +114,7 @@ select-bound c q =
     then (buildOption (f .1) (clauseExpr (q .filter))) _ _ _ (anything (buildOption (f .1) (clauseExpr (q .filter)))) λ w hw.
     then (buildGroups (filtered (f .0) w) (q .group) (functionsOf is′ (laterOf q)) (f .1)) _ _ _ (groups-count (filtered (f .0) w) (q .group) _ (f .1)) λ a ha.
     then (buildProjection (a .0) is′ (laterOf q) (a .1)) _ _ _ (both (buildProjection (a .0) is′ (laterOf q) (a .1)) _ _
-        (projection-count (a .0) is′ (laterOf q) (a .1)) (projection-bound q _ (a .0) is′ (laterOf q) (a .1) (f .1) (hi .0))) λ p hp.
+    (projection-count (a .0) is′ (laterOf q) (a .1)) (projection-bound q _ (a .0) is′ (laterOf q) (a .1) (f .1) (hi .0))) λ p hp.
     then (buildHaving (p .0) (q .having) (p .1)) _ _ _ (having-bound (p .0) (q .having) (p .1) (f .1)) λ h hh.
     let e : countIn c q is′ (f .1) (a .1) (p .1) ≡ countSelect c q = rw (hp .0 .0, ha .0, hi .0, hf .0 .0) in
     settled (buildOrder h (q .order) (p .1)) _ _ _ (order-bound h (q .order) (p .1) (f .1)) λ o ho.

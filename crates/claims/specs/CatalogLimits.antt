@@ -33,14 +33,14 @@ unfolding tables All stop
 limited-tables zero n ns b p u = reads-give [] p _ (omega arith, tt)
 limited-tables (suc fuel) n ns b p u = reads-list (p .left) _ _ _ (omega arith, tt)
     (reads-test (at (bytes "table") p) _ _ _
-      (λ t. reads-into _ _ p _ (reads-within _ _ _ p _ λ h e m. reads-by _ _ _ _ few-columns tt λ cs q g.
-        reads-next _ _ q _ _ (key-fits (p .line) (h .1) cs q tt) λ v r k.
-        reads-by _ _ _ _ (limited-tables fuel (suc n) (h .0 .bytes ∷ ns) m) tt λ ts s l. reads-give _ s _ (omega arith, ((k, g .1), l .1))))
-      (λ t. tt))
+    (λ t. reads-into _ _ p _ (reads-within _ _ _ p _ λ h e m. reads-by _ _ _ _ few-columns tt λ cs q g.
+    reads-next _ _ q _ _ (key-fits (p .line) (h .1) cs q tt) λ v r k.
+    reads-by _ _ _ _ (limited-tables fuel (suc n) (h .0 .bytes ∷ ns) m) tt λ ts s l. reads-give _ s _ (omega arith, ((k, g .1), l .1))))
+    (λ t. tt))
 
 -- A catalog that is read has no more tables than the limit, each within its own limits.
 pub catalog-limited : (t : Bytes) → Ensures (readCatalog t) (λ ts. (length ts ≤ mostTables) × All LimitedTable ts)
 unfolding readCatalog
 catalog-limited t = reads-value (turns (λ k. tables k 0 []) (start catalog t)) _
     (reads-turns _ (λ p ts q. (length ts ≤ mostTables) × All LimitedTable ts)
-      (λ k p u. weaken (tables k 0 [] p) _ _ (λ r h. (omega arith, h .1)) (limited-tables k 0 [] (omega arith) p u)) (start catalog t) tt)
+    (λ k p u. weaken (tables k 0 [] p) _ _ (λ r h. (omega arith, h .1)) (limited-tables k 0 [] (omega arith) p u)) (start catalog t) tt)

@@ -63,8 +63,11 @@ mutual
   walk-more p (literal l v) h = visit-more p (literal l v) h
   walk-more p (call l n as′) h = omega (arith, visit-more p (call l n as′) h, any-more p as′ (visit p (call l n as′) h))
   walk-more p (unary l o a) h = omega (arith, visit-more p (unary l o a) h, walk-more p a (visit p (unary l o a) h))
-  walk-more p (binary l o a b) h = omega (arith, visit-more p (binary l o a b) h,
-      true-more (walk p a (visit p (binary l o a b) h)) (λ h₁. walk p b h₁) _ (size b) (walk-more p a (visit p (binary l o a b) h)) (λ h₁. walk-more p b h₁))
+  walk-more p (binary l o a b) h = omega (
+    arith,
+    visit-more p (binary l o a b) h,
+    true-more (walk p a (visit p (binary l o a b) h)) (λ h₁. walk p b h₁) _ (size b) (walk-more p a (visit p (binary l o a b) h)) (λ h₁. walk-more p b h₁),
+  )
   walk-more p (is l a v) h = omega (arith, visit-more p (is l a v) h, walk-more p a (visit p (is l a v) h))
 
   any-more : (p : Scope) (as′ : Exprs) (h : Hidden) → hiddens (walkAny p as′ h .1) ≤ hiddens h + sizeAll as′

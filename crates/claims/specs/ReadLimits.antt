@@ -134,7 +134,7 @@ few-names : Reads Anywhere columnsHere (λ p cs q. Given (λ ns. length ns ≤ m
 unfolding columnsHere Given
 few-names p u = reads-test (at (bytes "columns") p) _ _ _
     (λ t. reads-next _ _ p _ _ (reads-record _ _ p (λ u q. Anywhere q) λ u e. tt) λ u q g.
-      reads-by _ _ _ _ (adds-run _ _ _ _ _ adds-name) tt λ ns r h. reads-give _ r _ (h .1))
+    reads-by _ _ _ _ (adds-run _ _ _ _ _ adds-name) tt λ ns r h. reads-give _ r _ (h .1))
     (λ t. tt)
 
 limited-insert : (l : ℕ) (n : Word) → Keeps (λ (d : Insert). rowsSize (d .rows)) LimitedInsert (insertBody l n)
@@ -150,7 +150,7 @@ unfolding sets setsSize total
 adds-sets zero n b k p u = reads-give [] p _ (stays p, omega arith)
 adds-sets (suc fuel) n b k p u = reads-test (at (bytes "set") p) _ _ _
     (λ t. reads-into _ _ p _ (reads-within _ _ _ p _ λ h e m. reads-by _ _ _ _ (adds-optional _) tt λ a q g.
-      reads-by _ _ _ _ (adds-sets fuel (suc n) (some (h .0 .bytes)) m) tt λ xs r u. reads-give _ r _ (omega (arith, after p g))))
+    reads-by _ _ _ _ (adds-sets fuel (suc n) (some (h .0 .bytes)) m) tt λ xs r u. reads-give _ r _ (omega (arith, after p g))))
     (λ t. (stays p, omega arith))
 
 limited-update : (l : ℕ) (n : Word) → Keeps (λ (d : Update). setsSize (d .sets) + clauseSize (d .filter)) (λ d. length (d .sets) ≤ mostEntries) (updateBody l n)
@@ -183,9 +183,9 @@ limited-records : Keeps statementSize Limited statementRecords
 unfolding statementRecords lineNumber statementHere
 limited-records p u = reads-into _ _ p _
     (reads-into _ _ p _ (reads-fit (oneOf statementHeads (lineHere p)) p _ λ h e.
-      reads-by _ _ _ _ (limited-body h (p .line)) tt λ s q g.
-      reads-next _ _ q _ _ (reads-record _ _ q (λ u r. Unit {0}) λ u e. tt) λ u r v.
-      reads-next _ _ r (λ w t. Unit {0}) _ (anything (nothingLeft r)) λ w t k. reads-give s t _ g))
+    reads-by _ _ _ _ (limited-body h (p .line)) tt λ s q g.
+    reads-next _ _ q _ _ (reads-record _ _ q (λ u r. Unit {0}) λ u e. tt) λ u r v.
+    reads-next _ _ r (λ w t. Unit {0}) _ (anything (nothingLeft r)) λ w t k. reads-give s t _ g))
 
 -- A statement that is read has at most 512 cells, and of each kind of record no more than the limit.
 pub statement-limited : (t : Bytes) → Ensures (readStatement t) (λ s. (statementSize s ≤ mostCells) × Limited s)

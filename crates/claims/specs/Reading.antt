@@ -122,7 +122,7 @@ module _ {H A : Type 0} (k : Bytes) (f : List Word → Option H) (most : ℕ) (b
   reads-many zero n b p h = reads-give [] p _ (none′ p h, omega arith)
   reads-many (suc fuel) n b p h = reads-test (at k p) _ _ _
       (λ t. reads-into (recordWithin f n most) _ p _ (reads-within f n most p _ λ g e l. reads-then (body (p .line) g) _ (next p) _ _ (entry p g h e) λ a q s.
-        reads-then (many k f most body fuel (suc n)) _ q _ _ (reads-many fuel (suc n) l q (s .1)) λ as′ r u. reads-give (a ∷ as′) r _ (more p q r a as′ (s .0) (u .0), omega arith)))
+      reads-then (many k f most body fuel (suc n)) _ q _ _ (reads-many fuel (suc n) l q (s .1)) λ as′ r u. reads-give (a ∷ as′) r _ (more p q r a as′ (s .0) (u .0), omega arith)))
       (λ t. (none′ p h, omega arith))
 
   pub reads-run : Reads P (turns λ fuel. many k f most body fuel 0) (λ p as′ q. Q p as′ q × (length as′ ≤ most))

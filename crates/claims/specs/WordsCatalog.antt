@@ -53,9 +53,9 @@ module _ {t : Word → List Word} {P : Word → Type 0} {I : Place → Type 0} (
   gives-tables zero m ns = gives-give s [] _ tt
   gives-tables (suc n) m ns = λ p i. reads-list (p .left) _ _ _ (tt, i) (reads-test (at (bytes "table") p) _ _ _
       (λ b. reads-into (recordWithin (tableFields ns) m mostTables) _ p _ (reads-within (tableFields ns) m mostTables p _ λ h g l.
-        gives-then s _ _ _ _ (gives-many s (bytes "column") columnFields mostTableColumns columnBody _ _ (makes-columnFields t P) gives-column) (λ cs k.
-        gives-next s (keyFits (p .line) (h .1) cs) _ _ _ (gives-fits (p .line) (h .1) cs) (gives-then s (tables n (suc m) (h .0 .bytes ∷ ns)) _ _ _ (gives-tables n (suc m) (h .0 .bytes ∷ ns)) λ ts w.
-        gives-give s _ _ ((rest-has s _ (tableFields ns) (makes-table ns) p i h g, all-words P (columnWords t) cs k), w))) (next p) (s .next p i)))
+      gives-then s _ _ _ _ (gives-many s (bytes "column") columnFields mostTableColumns columnBody _ _ (makes-columnFields t P) gives-column) (λ cs k.
+      gives-next s (keyFits (p .line) (h .1) cs) _ _ _ (gives-fits (p .line) (h .1) cs) (gives-then s (tables n (suc m) (h .0 .bytes ∷ ns)) _ _ _ (gives-tables n (suc m) (h .0 .bytes ∷ ns)) λ ts w.
+      gives-give s _ _ ((rest-has s _ (tableFields ns) (makes-table ns) p i h g, all-words P (columnWords t) cs k), w))) (next p) (s .next p i)))
       (λ b. tt))
 
   -- the words of an accepted catalog

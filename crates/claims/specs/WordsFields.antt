@@ -151,13 +151,22 @@ module _ (t : Word → List Word) (P : Word → Type 0) where
 
   pub makes-literals : All (λ e. Makes (e .1) (WordedValue t P)) literals
   unfolding literals All Given valueWords
-  makes-literals =
-      (λ r h. given-mapped _ Valued (λ u. tt) (noField r),
-      (makes-one _ Valued (λ w h. given-mapped bool Valued (λ b. tt) (word flags w)),
-      (makes-one _ Valued (λ w h. given-mapped int Valued (λ n. tt) (Lines.integer (w .bytes))),
-      (makes-one _ Valued (λ w h. given-mapped float Valued (λ n. tt) (Lines.float (w .bytes))),
-      (makes-one _ Valued makes-text,
-      tt)))))
+  makes-literals = (
+    λ r h. given-mapped _ Valued (λ u. tt) (noField r),
+    (
+      makes-one _ Valued (λ w h. given-mapped bool Valued (λ b. tt) (word flags w)),
+      (
+        makes-one _ Valued (λ w h. given-mapped int Valued (λ n. tt) (Lines.integer (w .bytes))),
+        (
+          makes-one _ Valued (λ w h. given-mapped float Valued (λ n. tt) (Lines.float (w .bytes))),
+          (
+            makes-one _ Valued makes-text,
+            tt,
+          ),
+        ),
+      ),
+    ),
+  )
 
   abbrev Headed : Head → Type 0
   Headed h = All P (headWords t h)

@@ -59,7 +59,7 @@ module _ (t : Word → List Word) (P : Word → Type 0) where
       past (mustGetTable c (d .line) (d .table .bytes)) _ _ λ a.
       past (columnMap (a .1 .columns) (d .columns)) _ _ λ m.
       then (each (each (build empty)) (d .rows)) _ _ _
-        (each-from (each (build empty)) (All (Worded t P)) (All (WordedBuilt t P)) (each-from (build empty) (Worded t P) (WordedBuilt t P) (λ e w. build-worded t P e empty w)) (d .rows) (all-weaken _ _ (exprs-worded t P) (d .rows) rows)) λ rs g.
+      (each-from (each (build empty)) (All (Worded t P)) (All (WordedBuilt t P)) (each-from (build empty) (Worded t P) (WordedBuilt t P) (λ e w. build-worded t P e empty w)) (d .rows) (all-weaken _ _ (exprs-worded t P) (d .rows) rows)) λ rs g.
       all-words P (wordsOf (builtWords t)) rs (all-weaken _ _ (all-words P (builtWords t)) rs g)
 
   orDefault-worded : (l : ℕ) (o : Option Value) → All (WordedValue t P) (given o) → Ensures (orDefault l o) (WordedBuilt t P)
@@ -86,7 +86,7 @@ module _ (t : Word → List Word) (P : Word → Type 0) where
       let cs = words-all P (columnWords t) (a .1 .columns) (all-right P (a .1 .name ∷ []) _ m) in
       then (buildOption s (clauseExpr (d .filter))) _ _ _ (filter-worded s (d .filter) (all-right P (wordsOf (setWords t) (d .sets)) _ h₁)) λ w g.
       then (each (setBuilt s (a .1 .columns)) (d .sets)) _ _ _
-        (each-from (setBuilt s (a .1 .columns)) _ (λ r. WordedBuilt t P (r .1)) (set-worded s (a .1 .columns) cs) (d .sets) (words-all P (setWords t) (d .sets) (all-left P (wordsOf (setWords t) (d .sets)) _ h₁))) λ xs n.
+      (each-from (setBuilt s (a .1 .columns)) _ (λ r. WordedBuilt t P (r .1)) (set-worded s (a .1 .columns) cs) (d .sets) (words-all P (setWords t) (d .sets) (all-left P (wordsOf (setWords t) (d .sets)) _ h₁))) λ xs n.
       all-append P (wordsOf (builtWords t) (given w)) _ g (all-words P _ xs n)
 
   -- CREATE's defaults

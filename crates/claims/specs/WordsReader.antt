@@ -66,4 +66,4 @@ module _ {t : Word → List Word} {P : Word → Type 0} {I : Place → Type 0} (
   unfolding All
   gives-many k f most body Q R m h p i = weaken (turns (λ n. many k f most body n 0) p) _ _ (λ r g. g .0)
       (reads-run k f most body I (λ p a q. R a) (λ p as′ q. All R as′ × I q)
-        (λ p g i e. h (p .line) g (rest-has Q f m p i g e) (next p) (s .next p i)) (λ p i. (tt, i)) (λ p q r a as′ e g. ((e, g .0), g .1)) p i)
+      (λ p g i e. h (p .line) g (rest-has Q f m p i g e) (next p) (s .next p i)) (λ p i. (tt, i)) (λ p q r a as′ e g. ((e, g .0), g .1)) p i)

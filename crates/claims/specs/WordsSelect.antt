@@ -148,8 +148,8 @@ module _ (t : Word → List Word) (P : Word → Type 0) where
       then (expanded q (f .0)) _ _ _ (expanded-worded q (f .0) items) λ is′ a₁.
       then (buildOption (f .1) (clauseExpr (q .filter))) _ _ _ (option-worded t P (f .1) (clauseExpr (q .filter)) (clauseExpr-worded (q .filter) (clause-worded (q .filter) (all-left P (wordsOf (clauseWords t) (given (q .filter))) _ h₂)))) λ w a₂.
       then (buildGroups (filtered (f .0) w) (q .group) (functionsOf is′ (laterOf q)) (f .1)) _ _ _
-        (groups-worded t P (filtered (f .0) w) (q .group) (functionsOf is′ (laterOf q)) (f .1) (filtered-worded (f .0) w a₀ a₂) (exprs-worded t P (q .group) (all-left P (wordsOf (exprWords t) (q .group)) _ h₃))
-          (collectEach-worded t P _ (all-append (Worded t P) (map (λ (i : Item). i .expr) is′) (laterOf q) (all-map (Worded t P) (λ i. i .expr) WordedItem (λ i g. g .0) is′ a₁) later))) λ a a₃.
+      (groups-worded t P (filtered (f .0) w) (q .group) (functionsOf is′ (laterOf q)) (f .1) (filtered-worded (f .0) w a₀ a₂) (exprs-worded t P (q .group) (all-left P (wordsOf (exprWords t) (q .group)) _ h₃))
+      (collectEach-worded t P _ (all-append (Worded t P) (map (λ (i : Item). i .expr) is′) (laterOf q) (all-map (Worded t P) (λ i. i .expr) WordedItem (λ i g. g .0) is′ a₁) later))) λ a a₃.
       then (buildProjection (a .0) is′ (laterOf q) (a .1)) _ _ _ (projection-worded (a .0) is′ (laterOf q) (a .1) a₃ a₁) λ p a₄.
       then (buildHaving (p .0) (q .having) (p .1)) _ _ _ (having-worded (p .0) (q .having) (p .1) a₄ having) λ n a₅.
       then (buildOrder n (q .order) (p .1)) _ _ _ (order-worded n (q .order) (p .1) a₅ keys) λ o a₆.

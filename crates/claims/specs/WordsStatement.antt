@@ -98,7 +98,7 @@ module _ {t : Word → List Word} {P : Word → Type 0} {I : Place → Type 0} (
       gives-then s _ _ _ _ (gives-clause s (bytes "offset")) λ o h₆.
       gives-then s _ _ _ _ (gives-clause s (bytes "limit")) λ l h₇.
       gives-give s _ _ (all-words-and P _ is′ _ h₀ (all-words-and P _ fs _ h₁ (all-words-and P _ (given w) _ h₂ (all-words-and P _ gs _ h₃ (all-words-and P _ (given h) _ h₄
-        (all-words-and P _ os _ h₅ (all-words-and P _ (given o) _ h₆ (all-words P _ (given l) h₇))))))))
+      (all-words-and P _ os _ h₅ (all-words-and P _ (given o) _ h₆ (all-words P _ (given l) h₇))))))))
 
   -- DELETE
   gives-delete : (l : ℕ) (n : Word) → P n → Gives I (deleteBody l n) (λ d. All P (statementWordsBy t (Ast.delete d)))
@@ -149,8 +149,8 @@ module _ {t : Word → List Word} {P : Word → Type 0} {I : Place → Type 0} (
   gives-sets zero m b = gives-give s [] _ tt
   gives-sets (suc n) m b = λ p i. reads-test (at (bytes "set") p) _ _ _
       (λ e. reads-into (recordWithin (risingSet b) m mostEntries) _ p _ (reads-within (risingSet b) m mostEntries p _ λ h g l.
-        gives-then s _ _ _ _ (gives-optional s (not (h .1)) expression _ (gives-expression s)) (λ x w. gives-then s (sets n (suc m) (some (h .0 .bytes))) _ _ _ (gives-sets n (suc m) (some (h .0 .bytes))) λ xs k.
-        gives-give s _ _ ((rest-has s _ (risingSet b) (makes-set b) p i h g, all-words P (exprWords t) (given x) w), k)) (next p) (s .next p i)))
+      gives-then s _ _ _ _ (gives-optional s (not (h .1)) expression _ (gives-expression s)) (λ x w. gives-then s (sets n (suc m) (some (h .0 .bytes))) _ _ _ (gives-sets n (suc m) (some (h .0 .bytes))) λ xs k.
+      gives-give s _ _ ((rest-has s _ (risingSet b) (makes-set b) p i h g, all-words P (exprWords t) (given x) w), k)) (next p) (s .next p i)))
       (λ e. (tt, i))
 
   gives-update : (l : ℕ) (n : Word) → P n → Gives I (updateBody l n) (λ d. All P (statementWordsBy t (Ast.update d)))
@@ -174,14 +174,25 @@ module _ {t : Word → List Word} {P : Word → Type 0} {I : Place → Type 0} (
   -- STATEMENTS
   makes-statement : All (λ e. Makes t P (e .1) (λ h. All P (statementHeadWords h))) statementHeads
   unfolding statementHeads statementHeadWords All
-  makes-statement =
-      (λ r h. given-mapped _ _ (λ u. tt) (noField r),
-      (one deleteHead (λ n g. (g, tt)),
-      (one insertHead (λ n g. (g, tt)),
-      (one updateHead (λ n g. (g, tt)),
-      (one createHead (λ n g. (g, tt)),
-      (λ r h. given-map _ _ _ (λ q g. (g .0, tt)) (twoFields name (word answers) r) (makes-two t P name (word answers) P (λ b. Unit {0}) (makes-name t P) (λ w g. given-any (word answers w)) r h),
-      (λ r h. given-mapped _ _ (λ u. tt) (noField r), tt)))))))
+  makes-statement = (
+    λ r h. given-mapped _ _ (λ u. tt) (noField r),
+    (
+      one deleteHead (λ n g. (g, tt)),
+      (
+        one insertHead (λ n g. (g, tt)),
+        (
+          one updateHead (λ n g. (g, tt)),
+          (
+            one createHead (λ n g. (g, tt)),
+            (
+              λ r h. given-map _ _ _ (λ q g. (g .0, tt)) (twoFields name (word answers) r) (makes-two t P name (word answers) P (λ b. Unit {0}) (makes-name t P) (λ w g. given-any (word answers w)) r h),
+              (λ r h. given-mapped _ _ (λ u. tt) (noField r), tt),
+            ),
+          ),
+        ),
+      ),
+    ),
+  )
     where
       one : (f : Word → StatementHead) → ((n : Word) → P n → All P (statementHeadWords (f n))) → Makes t P (λ r. mapOption f (oneField name r)) (λ h. All P (statementHeadWords h))
       one f k r h = given-map f P _ k (oneField name r) (makes-oneName t P r h)
