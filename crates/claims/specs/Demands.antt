@@ -24,19 +24,19 @@ use Rattle.rules.specs.Count.{countSelect, starred, boundSelect}
 use Rattle.rules.specs.Area.{planNumbers}
 use Rattle.rules.specs.Entry.{planOf, entry}
 use Rattle.claims.specs.Answers.{Ensures, then, ensures, ensured, anything, weaken, both}
-use Rattle.claims.specs.Bounded.{PlanBounded}
-use Rattle.claims.specs.Widths.{widths}
-use Rattle.claims.specs.Unfold.{tree, unfolded}
-use Rattle.claims.specs.Unfolding.{unfolds}
-use Rattle.claims.specs.Numbers.{NumberOf}
-use Rattle.claims.specs.Operands.{cellAt, Uses}
-use Rattle.claims.specs.Reach.{Reached, reached-all, reach-count}
-use Rattle.claims.specs.Order.{operands-below}
-use Rattle.claims.specs.Sharing.{SharedOnly, shared-only}
-use Rattle.claims.specs.SelectCount.{select-count}
-use Rattle.claims.specs.Bound.{select-bound}
-use Rattle.claims.specs.RoomStatement.{room}
-use Rattle.claims.specs.Equality.{bare, equal-bare}
+use Rattle.claims.specs.Widths.Bounded.{PlanBounded}
+use Rattle.claims.specs.Widths.Statements.{widths}
+use Rattle.claims.specs.Cells.Unfold.{tree, unfolded}
+use Rattle.claims.specs.Cells.UnfoldPlan.{unfolds}
+use Rattle.claims.specs.Cells.Numbers.{NumberOf}
+use Rattle.claims.specs.Cells.Operands.{cellAt, Uses}
+use Rattle.claims.specs.Cells.Reach.{Reached, reached-all, reach-count}
+use Rattle.claims.specs.Cells.Order.{operands-below}
+use Rattle.claims.specs.Cells.Sharing.{SharedOnly, shared-only}
+use Rattle.claims.specs.Count.Select.{select-count}
+use Rattle.claims.specs.Count.Bound.{select-bound}
+use Rattle.claims.specs.Room.Statements.{room}
+use Rattle.claims.specs.Values.Equality.{bare, equal-bare}
 
 -- DEMAND 1
 -- In every accepted plan each column number is below the width of the rows that its expression reads.

@@ -1,80 +1,13 @@
--- Every column number of an accepted statement's plan is below the width that its expression reads.
-use Prim.Native.Nat.{ℕ, _<_}
-use mathlib.Core.List.{List}
-use mathlib.Core.Option.{Option, none, some}
-use lib.ListN.{length}
-use Rattle.rules.specs.Refusals.{otherStatement, noDefault}
-use Rattle.rules.specs.Schema.{Value, Column, Catalog, mustGetTable, defaultAt}
-use Rattle.rules.specs.Ast.{Expr, Delete, Insert, Update, Create, Statement}
-use Rattle.rules.specs.Ast as Ast
-use Rattle.rules.specs.Plan.{columns}
-use Rattle.rules.specs.Scope.{Scope, empty, lookup, fromTable}
-use Rattle.rules.specs.BuildExpression.{found, build, each, buildOption, clauseExpr}
-use Rattle.rules.specs.BuildStatement.{buildDelete, columnMap, buildInsert, orDefault, setValue, setBuilt, buildUpdate, keyColumns, primaryKey, madeColumn, buildCreate, buildStatement}
-use Rattle.claims.specs.Answers.{Ensures, then, refusing, weaken, anything, All, each-ensures}
-use Rattle.claims.specs.Below.{Below, found-below, lookup-below}
-use Rattle.claims.specs.Scopes.{Wide, wide-width, wide-empty, wide-table}
-use Rattle.claims.specs.Bounded.{Bounded, PlanBounded, wide-build, wide-option}
-use Rattle.claims.specs.SelectStages.{select-bounded}
-
--- DELETE
-delete-bounded : (c : Catalog) (d : Delete) → Ensures (buildDelete c d) PlanBounded
-unfolding buildDelete Bounded
-delete-bounded c d =
-    then (mustGetTable c (d .line) (d .table .bytes)) _ _ _ (anything (mustGetTable c (d .line) (d .table .bytes))) λ t u.
-    then (buildOption (fromTable (t .1 .name) (t .1)) (clauseExpr (d .filter))) _ _ _ (wide-option _ _ (clauseExpr (d .filter)) (wide-table (t .1 .name) (t .1))) λ w hw. hw
-
--- INSERT
-row-bounded : (es : List Expr) → Ensures (each (build empty) es) (All (Below 0))
-row-bounded es = weaken (each (build empty) es) _ _ (λ xs h. h .0) (each-ensures (build empty) (Below 0) (λ e. wide-build 0 empty e wide-empty) es)
-
-insert-bounded : (c : Catalog) (d : Insert) → Ensures (buildInsert c d) PlanBounded
-unfolding buildInsert Bounded
-insert-bounded c d =
-    then (mustGetTable c (d .line) (d .table .bytes)) _ _ _ (anything (mustGetTable c (d .line) (d .table .bytes))) λ t u.
-    then (columnMap (t .1 .columns) (d .columns)) _ _ _ (anything (columnMap (t .1 .columns) (d .columns))) λ m u.
-    then (each (each (build empty)) (d .rows)) _ _ _ (each-ensures (each (build empty)) (All (Below 0)) row-bounded (d .rows)) λ rs h. h .0
-
--- UPDATE
-default-below : (w l : ℕ) (v : Option Value) → Ensures (orDefault l v) (Below w)
-unfolding orDefault Below
-default-below w l none = refusing noDefault l _
-default-below w l (some v) = tt
-
-value-below : (w : ℕ) (s : Scope) (cs : List Column) (l i : ℕ) (e : Option Expr) → Wide w s → Ensures (setValue s cs l i e) (Below w)
-unfolding setValue
-value-below w s cs l i (some e) h = wide-build w s e h
-value-below w s cs l i none h = default-below w l (defaultAt cs i)
-
-set-below : (w : ℕ) (s : Scope) (cs : List Column) (x : Ast.Set) → Wide w s → Ensures (setBuilt s cs x) (λ y. (y .0 < w) × Below w (y .1))
-unfolding setBuilt
-set-below w s cs x h =
-    then (found (x .line) (lookup s none (x .name))) _ _ _ (found-below w (x .line) (lookup s none (x .name)) (rw (wide-width w s h) at (lookup-below s none (x .name)))) λ i p.
-    then (setValue s cs (x .line) i (x .value)) _ _ _ (value-below w s cs (x .line) i (x .value) h) λ e q. (p, q)
-
-update-bounded : (c : Catalog) (d : Update) → Ensures (buildUpdate c d) PlanBounded
-unfolding buildUpdate Bounded columns
-update-bounded c d =
-    then (mustGetTable c (d .line) (d .table .bytes)) _ _ _ (anything (mustGetTable c (d .line) (d .table .bytes))) λ t u.
-    let s : Scope = fromTable (t .1 .name) (t .1) in
-    let h : Wide (length (t .1 .columns)) s = wide-table (t .1 .name) (t .1) in
-    then (buildOption s (clauseExpr (d .filter))) _ _ _ (wide-option _ s (clauseExpr (d .filter)) h) λ w hw.
-    then (each (setBuilt s (t .1 .columns)) (d .sets)) _ _ _ (each-ensures (setBuilt s (t .1 .columns)) _ (λ x. set-below _ s (t .1 .columns) x h) (d .sets)) λ xs hx. (hw, hx .0)
-
--- CREATE
-create-bounded : (d : Create) → Ensures (buildCreate d) PlanBounded
-unfolding buildCreate
-create-bounded d =
-    then (primaryKey (d .line) (keyColumns 0 (d .columns))) _ _ _ (anything (primaryKey (d .line) (keyColumns 0 (d .columns)))) λ k u.
-    then (each madeColumn (d .columns)) _ _ _ (anything (each madeColumn (d .columns))) λ cs u. tt
-
--- every statement's plan is bounded
-pub widths : (c : Catalog) (s : Statement) → Ensures (buildStatement c s) PlanBounded
-unfolding buildStatement
-widths c (Ast.select q) = select-bounded c q
-widths c (Ast.delete d) = delete-bounded c d
-widths c (Ast.insert d) = insert-bounded c d
-widths c (Ast.update d) = update-bounded c d
-widths c (Ast.create d) = create-bounded d
-widths c (Ast.drop d) = tt
-widths c (Ast.other l) = refusing otherStatement l _
+-- Demand 1: column numbers are below the widths they are read at; the labels of FROM.
+pub mod Below
+pub mod Tabulate
+pub mod Swapped
+pub mod Scopes
+pub mod FromClause
+pub mod Labels
+pub mod Bounded
+pub mod FromStages
+pub mod HiddenStages
+pub mod SelectStages
+pub mod Statements
+pub mod Positions

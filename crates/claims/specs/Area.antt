@@ -1,0 +1,8 @@
+-- The area speaks: cells and nodes are read back from its numbers.
+pub mod ReadArea
+pub mod ReadingLaws
+pub mod Readable
+pub mod ReadablePlan
+pub mod AreaSpeaks
+pub mod NodeTree
+pub mod AreaExit

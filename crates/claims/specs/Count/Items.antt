@@ -1,0 +1,117 @@
+-- A projection's cells, with the arguments of its items' aggregates: at most three for each expression cell of the items,
+-- one for each starred column, and one for each expression cell of HAVING and ORDER.
+use Prim.Native.Nat.{ℕ, _+_, _*_, _≤_}
+use native.Mathlib.Omega.{arith}
+use mathlib.Core.Path.{_≡_, refl}
+use mathlib.Core.Bool.{Bool, true, false}
+use mathlib.Core.List.{List, [], _∷_, _++_, map}
+use mathlib.Core.Option.{Option, none, some}
+use lib.ListN.{length}
+use Rattle.rules.specs.Refusals.{ok, _>>=_}
+use Rattle.rules.specs.Lines as Lines
+use Rattle.rules.specs.Ast.{Expr, column, size, Item, Select}
+use Rattle.rules.specs.Plan.{Built, Node, Label, nameless, unqualified, qualified}
+use Rattle.rules.specs.Plan as P
+use Rattle.rules.specs.Scope.{Scope, matched}
+use Rattle.rules.specs.BuildExpression.{build, each}
+use Rattle.rules.specs.BuildAggregate.{collect}
+use Rattle.rules.specs.Items.{starLine, isLone, starredColumn, expandStars, expands, expandedItems, Hidden, projected, hiddenWithin}
+use Rattle.rules.specs.BuildSelect.{itemBuilt, hiddenBuilt, buildProjection}
+use Rattle.rules.specs.Sizes.{total, itemsSize}
+use Rattle.rules.specs.Count.{cost, itemCost, itemStarred}
+use Rattle.claims.specs.Answers.{Ensures, then, anything, All, all-right}
+use Rattle.claims.specs.Count.Totals.{total-append, all-most, each-accepted}
+use Rattle.claims.specs.Count.Costs.{pick-one}
+use Rattle.claims.specs.Count.Arguments.{argumentsCost, arguments-most, argument-bound}
+use Rattle.claims.specs.Count.Hidden.{hidden-most}
+use Rattle.claims.specs.Count.Stars.{starredOver}
+
+-- what the arguments of the items' aggregates cost
+abbrev pub itemsArguments : Scope → List Item → ℕ
+itemsArguments s is′ = total (λ (i : Item). argumentsCost s (i .expr)) is′
+
+starred-cost : (g : Scope) (l : ℕ) (a : Label) → cost g (starredColumn l a .expr) ≡ 1
+unfolding starredColumn cost
+starred-cost g l nameless = pick-one (matched g (column l none (Lines.empty 0)))
+starred-cost g l (unqualified n) = pick-one (matched g (column l none n))
+starred-cost g l (qualified t n) = pick-one (matched g (column l (some t) n))
+
+starred-arguments : (s : Scope) (l : ℕ) (a : Label) → argumentsCost s (starredColumn l a .expr) ≡ 0
+unfolding starredColumn argumentsCost collect total
+starred-arguments s l nameless = refl
+starred-arguments s l (unqualified n) = refl
+starred-arguments s l (qualified t n) = refl
+
+-- ITEMS, by a cost of theirs that is at most 1 for a starred column
+module _ (f : Expr → ℕ) (one : (l : ℕ) (a : Label) → f (starredColumn l a .expr) ≤ 1) (s : Scope) where
+  -- at most three cells for each of an item's expression cells
+  abbrev Within : Item → Type 0
+  Within i = f (i .expr) + argumentsCost s (i .expr) ≤ 3 * size (i .expr)
+
+  -- the items' cost and that of their aggregates' arguments
+  abbrev both-costs : List Item → ℕ
+  both-costs is′ = total (λ (i : Item). f (i .expr)) is′ + itemsArguments s is′
+
+  both-append : (xs ys : List Item) → both-costs (xs ++ ys) ≡ both-costs xs + both-costs ys
+  both-append xs ys = omega (arith, total-append (λ (i : Item). f (i .expr)) xs ys, total-append (λ (i : Item). argumentsCost s (i .expr)) xs ys)
+
+  starred-both : (l : ℕ) (ls : List Label) → both-costs (map (starredColumn l) ls) ≤ length ls
+  unfolding total
+  starred-both l [] = omega arith
+  starred-both l (a ∷ ls) = omega (arith, one l a, starred-arguments s l a, starred-both l ls)
+
+  stars-bound : (ls : List Label) (is′ : List Item) → All Within (expandStars ls is′) → both-costs (expandStars ls is′) ≤ 3 * itemsSize is′ + total (itemStarred (length ls)) is′
+  unfolding expandStars total itemsSize itemStarred All
+  stars-bound ls [] h = omega arith
+  stars-bound ls (i ∷ is′) h = go (starLine (i .expr)) (stars-bound ls is′) h
+    where
+      rest : List Item
+      rest = expandStars ls is′
+
+      go : (o : Option ℕ) → (All Within rest → both-costs rest ≤ 3 * itemsSize is′ + total (itemStarred (length ls)) is′)
+          → All Within (elim o [ some l ↦ map (starredColumn l) ls ++ rest | none ↦ i ∷ rest ])
+          → both-costs (elim o [ some l ↦ map (starredColumn l) ls ++ rest | none ↦ i ∷ rest ])
+          ≤ 3 * (size (i .expr) + itemsSize is′) + ((elim o as (λ x. ℕ) [ some l ↦ length ls | none ↦ 0 ]) + total (itemStarred (length ls)) is′)
+      go none k p = omega (arith, k (p .1), p .0)
+      go (some l) k p = omega (arith, k (all-right Within (map (starredColumn l) ls) rest p), both-append (map (starredColumn l) ls) rest, starred-both l ls)
+
+  items-bound : (q : Select) (ls : List Label) → All Within (expandedItems q ls) → both-costs (expandedItems q ls) ≤ 3 * itemsSize (q .items) + starredOver q (length ls)
+  unfolding expandedItems starredOver
+  items-bound q ls = go (expands q)
+    where
+      go : (b : Bool) → All Within (elim b [ true ↦ expandStars ls (q .items) | false ↦ q .items ])
+          → both-costs (elim b [ true ↦ expandStars ls (q .items) | false ↦ q .items ])
+          ≤ 3 * itemsSize (q .items) + (elim b as (λ x. ℕ) [ true ↦ total (itemStarred (length ls)) (q .items) | false ↦ 0 ])
+      go true h = stars-bound ls (q .items) h
+      go false h = unfold itemsSize in (omega (arith, all-most (λ (i : Item). f (i .expr)) (λ (i : Item). argumentsCost s (i .expr)) (λ (i : Item). size (i .expr)) (q .items) h))
+
+-- THE PROJECTION
+every : {A : Type 0} (Q : A → Type 0) → ((a : A) → Q a) → (as′ : List A) → All Q as′
+unfolding All
+every Q k [] = tt
+every Q k (a ∷ as′) = (k a, every Q k as′)
+
+item-bound : (g s : Scope) (i : Item) → Ensures (itemBuilt g i) (λ x. cost g (i .expr) + argumentsCost s (i .expr) ≤ 3 * size (i .expr))
+unfolding itemBuilt
+item-bound g s i = then (build g (i .expr)) _ _ _ (argument-bound g s (i .expr)) λ b p. p
+
+-- built over one scope, the aggregates' arguments over another, with the stars expanded to some labels
+pub projection-bound : (q : Select) (ls : List Label) (n : Node Built) (is′ : List Item) (later : List Expr) (g s : Scope) → is′ ≡ expandedItems q ls
+    → Ensures (buildProjection n is′ later g) (λ r. itemCost g is′ later + itemsArguments s is′ ≤ 3 * itemsSize (q .items) + starredOver q (length ls) + total size later)
+unfolding buildProjection itemCost
+projection-bound q ls n is′ later g s e = go (isLone is′)
+  where
+    d : Hidden
+    d = projected g is′ later
+
+    bound : (f : Expr → ℕ) → ((l : ℕ) (a : Label) → f (starredColumn l a .expr) ≤ 1) → All (λ i. f (i .expr) + argumentsCost s (i .expr) ≤ 3 * size (i .expr)) is′
+        → total (λ (i : Item). f (i .expr)) is′ + itemsArguments s is′ ≤ 3 * itemsSize (q .items) + starredOver q (length ls)
+    bound f one h = rw e (items-bound f one s q ls (rw e at h))
+
+    go : (b : Bool) → Ensures (elim b [ true ↦ ok (n, g) | false ↦ (each (itemBuilt g) is′ >>= λ xs. hiddenWithin (length is′) (d .columns) >>= λ u. ok (P.project n (xs ++ map hiddenBuilt (d .columns)), d .scope)) ])
+        (λ (r : Node Built × Scope). (elim b as (λ x. ℕ) [ true ↦ 0 | false ↦ total (λ (i : Item). cost g (i .expr)) is′ + length (d .columns) ]) + itemsArguments s is′ ≤ 3 * itemsSize (q .items) + starredOver q (length ls) + total size later)
+    go true = omega (arith, bound (λ e. 0) (λ l a. omega arith) (every _ (λ i. omega (arith, arguments-most s (i .expr))) is′))
+    go false =
+        then (each (itemBuilt g) is′) _ _ _ (each-accepted (itemBuilt g) _ (item-bound g s) is′) λ xs h.
+        then (hiddenWithin (length is′) (d .columns)) _ _ _ (anything (hiddenWithin (length is′) (d .columns))) λ u v.
+        omega (arith, bound (cost g) (λ l a. omega (arith, starred-cost g l a)) h, hidden-most g is′ later)

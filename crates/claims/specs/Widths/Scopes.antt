@@ -1,0 +1,172 @@
+-- What each change of a scope does to its width, and that its matches stay below it.
+use Prim.Native.Nat.{ℕ, zero, suc, _+_, _≤_, _<_}
+use native.Mathlib.Omega.{arith}
+use native.Mathlib.Nat.{add-zero, zero-add}
+use mathlib.Core.Path.{_≡_, refl}
+use mathlib.Core.Bool.{Bool, true, false, _||_}
+use mathlib.Core.List.{List, [], _∷_, _++_}
+use mathlib.Core.Option.{Option, none, some}
+use lib.Dec.{eqb, ltb}
+use lib.ListN.{length, length-append, length-map}
+use Rattle.rules.specs.Refusals.{ok, refuse, limitPassed, duplicateTable}
+use Rattle.rules.specs.Limits.{mostColumns}
+use Rattle.rules.specs.Lists.{any, isEmpty, isSome}
+use Rattle.rules.specs.Lines.{Word}
+use Rattle.rules.specs.Schema.{Table}
+use Rattle.rules.specs.Ast.{Expr, Item}
+use Rattle.rules.specs.Plan.{Label}
+use Rattle.rules.specs.Scope.{Scope, empty, width, spawn, addColumn, fromTable, matched, addMatch, labelOf, addAggregate, hide, addMatches, addPassthrough, shares, shift, merge, itemLabel, projectOne, projectAll, project, passAll, remap}
+use Rattle.rules.specs.BuildAggregate.{retain}
+use Rattle.rules.specs.BuildFrom.{Source, mergeInto, rising, swapped}
+use Rattle.claims.specs.Answers.{Ensures, refusing, All, all-append, all-weaken}
+use Rattle.claims.specs.Widths.Below.{MatchesBelow, Sound}
+use Rattle.claims.specs.Widths.Swapped.{swapped-sources}
+
+-- a scope of width w whose matches are below w
+unfoldable pub Wide : ℕ → Scope → Type 0
+Wide w s = (width s ≡ w) × MatchesBelow w (s .aggregates)
+
+pub wide-width : (w : ℕ) (s : Scope) → Wide w s → width s ≡ w
+unfolding Wide
+wide-width w s h = h .0
+
+pub wide-sound : (w : ℕ) (s : Scope) → Wide w s → Sound s
+unfolding Wide Sound
+wide-sound w s h = rw (h .0) (h .1)
+
+pub wide-is : (v w : ℕ) (s : Scope) → v ≡ w → Wide v s → Wide w s
+wide-is v w s e h = rw e at h
+
+-- NEW SCOPES
+pub wide-empty : Wide 0 empty
+unfolding Wide empty width MatchesBelow All
+wide-empty = (refl, tt)
+
+pub wide-spawn : (s : Scope) → Wide 0 (spawn s)
+unfolding Wide spawn width MatchesBelow All
+wide-spawn s = (refl, tt)
+
+pub wide-table : (n : Word) (t : Table) → Wide (length (t .columns)) (fromTable n t)
+unfolding fromTable Wide width MatchesBelow All
+wide-table n t = (length-map (t .columns) _, tt)
+
+-- COLUMNS AND MATCHES
+matches-up : (es : List (Expr × ℕ)) (v w : ℕ) → v ≤ w → MatchesBelow v es → MatchesBelow w es
+unfolding MatchesBelow
+matches-up es v w l h = all-weaken _ _ (λ e p. omega arith) es h
+
+wide-column : (w : ℕ) (l : Label) (s : Scope) → Wide w s → Wide (w + 1) (addColumn l s)
+unfolding Wide addColumn width
+wide-column w l s h = (rw length-append (omega arith), matches-up (s .aggregates) w (w + 1) (omega arith) (h .1))
+
+wide-match : (w : ℕ) (e : Expr) (i : ℕ) (s : Scope) → i < w → Wide w s → Wide w (addMatch e i s)
+unfolding Wide addMatch width MatchesBelow All
+wide-match w e i s l h = go (isSome (matched s e))
+  where
+    go : (b : Bool) → Wide w (elim b [ true ↦ s | false ↦ record { columns = s .columns; tables = s .tables; aggregates = s .aggregates ++ ((e, i) ∷ []); hidden = s .hidden } ])
+    go true = h
+    go false = (h .0, all-append _ (s .aggregates) ((e, i) ∷ []) (h .1) (l, tt))
+
+-- a column that a match goes with
+wide-both : (w : ℕ) (e : Expr) (l : Label) (s : Scope) → Wide w s → Wide (w + 1) (addMatch e (width s) (addColumn l s))
+wide-both w e l s h = wide-match (w + 1) e (width s) (addColumn l s) (omega (arith, wide-width w s h)) (wide-column w l s h)
+
+wide-aggregate : (w : ℕ) (p : Scope) (e : Expr) (s : Scope) → Wide w s → Wide (w + 1) (addAggregate p e s)
+unfolding addAggregate
+wide-aggregate w p e s h = wide-both w e (labelOf p e) s h
+
+wide-matches : (es : List (Expr × ℕ)) (w from to : ℕ) (s : Scope) → to < w → Wide w s → Wide w (addMatches es from to s)
+unfolding addMatches
+wide-matches [] w from to s l h = h
+wide-matches (e ∷ es) w from to s l h = go (eqb (e .1) from) (wide-matches es w from to (addMatch (e .0) to s) l (wide-match w (e .0) to s l h)) (wide-matches es w from to s l h)
+  where
+    go : (b : Bool) → Wide w (addMatches es from to (addMatch (e .0) to s)) → Wide w (addMatches es from to s)
+        → Wide w (elim b [ true ↦ addMatches es from to (addMatch (e .0) to s) | false ↦ addMatches es from to s ])
+    go true p q = p
+    go false p q = q
+
+wide-hide : (w : ℕ) (b : Bool) (i : ℕ) (s : Scope) → Wide w s → Wide w (hide b i s)
+unfolding Wide hide width
+wide-hide w true i s h = h
+wide-hide w false i s h = h
+
+-- a column passed through adds one
+pub wide-passthrough : (w : ℕ) (p : Scope) (i : ℕ) (b : Bool) (s : Scope) → Wide w s → Wide (w + 1) (addPassthrough p i b s)
+unfolding addPassthrough
+wide-passthrough w p i b s h = wide-hide (w + 1) (b || any (eqb i) (p .hidden)) (width s) _ (wide-matches (p .aggregates) (w + 1) i (width s) _ (omega (arith, wide-width w s h)) (wide-column w _ s h))
+
+-- MERGE
+wide-shift : (es : List (Expr × ℕ)) (v w : ℕ) (s : Scope) → MatchesBelow w es → Wide (v + w) s → Wide (v + w) (shift v es s)
+unfolding shift MatchesBelow All
+wide-shift [] v w s h g = g
+wide-shift (e ∷ es) v w s h g = wide-shift es v w (addMatch (e .0) (e .1 + v) s) (h .1) (wide-match (v + w) (e .0) (e .1 + v) s (omega arith) g)
+
+-- a merged scope is as wide as both
+pub wide-merge : (v w : ℕ) (s t : Scope) → Wide v s → Wide w t → Wide (v + w) (merge s t)
+unfolding merge Wide width
+wide-merge v w s t h g = rw (h .0) (wide-shift (t .aggregates) v w _ (g .1) (rw length-append (omega arith), matches-up (s .aggregates) v (v + w) (omega arith) (h .1)))
+
+-- what holds of two scopes merged holds where merging is accepted
+pub merging : (s : Scope) (f : Source) (Q : Scope → Type 0) → Q (merge s (f .scope)) → Ensures (mergeInto s f) Q
+unfolding mergeInto
+merging s f Q h = go (shares (s .tables) (f .scope .tables)) (ltb mostColumns (width s + width (f .scope)))
+  where
+    go : (a b : Bool) → Ensures {A = Scope} (elim a [ true ↦ refuse duplicateTable (f .line) | false ↦ elim b [ true ↦ refuse limitPassed (f .line) | false ↦ ok (merge s (f .scope)) ] ]) Q
+    go true b = refusing duplicateTable (f .line) Q
+    go false true = refusing limitPassed (f .line) Q
+    go false false = h
+
+-- PROJECT
+wide-one : (w : ℕ) (p : Scope) (i : Item) (c : Scope) → Wide w c → Wide (w + 1) (projectOne p i c)
+unfolding projectOne
+wide-one w p i c h = go (isEmpty (p .aggregates))
+  where
+    go : (b : Bool) → Wide (w + 1) (elim b [ true ↦ addColumn (itemLabel p (i .expr) (i .alias)) c | false ↦ addMatch (i .expr) (width c) (addColumn (itemLabel p (i .expr) (i .alias)) c) ])
+    go true = wide-column w _ c h
+    go false = wide-both w _ _ c h
+
+wide-all : (is′ : List Item) (w : ℕ) (p c : Scope) → Wide w c → Wide (w + length is′) (projectAll p is′ c)
+unfolding projectAll
+wide-all [] w p c h = rw add-zero h
+wide-all (i ∷ is′) w p c h = wide-is (w + 1 + length is′) _ _ (omega arith) (wide-all is′ (w + 1) p (projectOne p i c) (wide-one w p i c h))
+
+-- a projection has a column for each item
+pub wide-project : (is′ : List Item) (p : Scope) → Wide (length is′) (project p is′)
+unfolding project
+wide-project is′ p = rw zero-add at (wide-all is′ 0 p (spawn p) (wide-spawn p))
+
+-- GROUPS
+-- the child has a column for each expression that it lacked
+pub wide-retain : (es : List Expr) (w : ℕ) (p c : Scope) → Wide w c → Wide (w + length (retain p es c .0)) (retain p es c .1)
+unfolding retain
+wide-retain [] w p c h = rw add-zero h
+wide-retain (e ∷ es) w p c h = go (isSome (matched c e)) (wide-retain es w p c h) (wide-retain es (w + 1) p (addAggregate p e c) (wide-aggregate w p e c h))
+  where
+    Kept : ℕ → List Expr × Scope → Type 0
+    Kept v r = Wide (v + length (r .0)) (r .1)
+
+    go : (b : Bool) → Kept w (retain p es c) → Kept (w + 1) (retain p es (addAggregate p e c))
+        → Kept w (elim b [ true ↦ retain p es c | false ↦ (e ∷ retain p es (addAggregate p e c) .0, retain p es (addAggregate p e c) .1) ])
+    go true x y = x
+    go false x y = wide-is _ _ _ (omega arith) y
+
+-- REMAP
+passAll-append : (s : Scope) (xs ys : List (Option ℕ)) (c : Scope) → passAll s (xs ++ ys) c ≡ passAll s ys (passAll s xs c)
+unfolding passAll
+passAll-append s [] ys c = refl
+passAll-append s (none ∷ xs) ys c = passAll-append s xs ys c
+passAll-append s (some i ∷ xs) ys c = passAll-append s xs ys (addPassthrough s i false c)
+
+-- a swap passes the b columns behind the first a through, then those a
+pub remap-swapped : (a b : ℕ) (s : Scope) → remap s (swapped a b) ≡ passAll s (rising 0 a) (passAll s (rising a b) (spawn s))
+unfolding remap
+remap-swapped a b s = rw swapped-sources (unfold swapped in (passAll-append s (rising a b) (rising 0 a) (spawn s)))
+
+wide-rising : (n w i : ℕ) (s c : Scope) → Wide w c → Wide (w + n) (passAll s (rising i n) c)
+unfolding passAll rising
+wide-rising zero w i s c h = rw add-zero h
+wide-rising (suc n) w i s c h = wide-is (w + 1 + n) _ _ (omega arith) (wide-rising n (w + 1) (i + 1) s (addPassthrough s i false c) (wide-passthrough w s i false c h))
+
+-- a swap keeps the width
+pub wide-swapped : (a b : ℕ) (s : Scope) → Wide (a + b) (remap s (swapped a b))
+wide-swapped a b s = rw remap-swapped (wide-is (0 + b + a) _ _ (omega arith) (wide-rising a (0 + b) 0 s _ (wide-rising b 0 a s (spawn s) (wide-spawn s))))
