@@ -6,3 +6,10 @@ pub mod ReadablePlan
 pub mod AreaSpeaks
 pub mod NodeTree
 pub mod AreaExit
+pub mod Proper
+pub mod ProperFrom
+pub mod ProperSelect
+pub mod ProperPlan
+pub mod Accepted
+pub mod PlanReadable
+pub mod AreaDemand

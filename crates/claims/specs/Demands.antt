@@ -1,12 +1,12 @@
 -- The demands of document 01, as theorems about the rules: for all texts, catalogs and statements.
-use Prim.Native.Nat.{ℕ, _+_, _*_, _≤_, _<_}
-use mathlib.Core.Path.{_≡_, refl}
-use mathlib.Core.Bool.{Bool, true, false}
+use Prim.Native.Nat.{ℕ, _+_, _*_, _^_, _≤_, _<_}
+use mathlib.Core.Path.{_≡_}
+use mathlib.Core.Bool.{true}
 use mathlib.Core.Logic.{_↔_}
 use mathlib.Core.List.{List, []}
 use lib.ListN.{length}
 use borrow.Author.Tests.{le-ltb}
-use Rattle.rules.specs.Refusals.{Answer, ok, refused}
+use Rattle.rules.specs.Refusals.{ok}
 use Rattle.rules.specs.Limits.{mostBytes, leastArea}
 use Rattle.rules.specs.Lists.{Bytes}
 use Rattle.rules.specs.Schema.{Catalog}
@@ -22,8 +22,8 @@ use Rattle.rules.specs.Cells.{planCells, planExpressions, numberPlan}
 use Rattle.rules.specs.Sizes.{selectSize}
 use Rattle.rules.specs.Count.{countSelect, starred, boundSelect}
 use Rattle.rules.specs.Area.{planNumbers}
-use Rattle.rules.specs.Entry.{planOf, entry}
-use Rattle.claims.specs.Answers.{Ensures, then, ensures, ensured, anything, weaken, both}
+use Rattle.rules.specs.Entry.{planOf, entry, plan}
+use Rattle.claims.specs.Answers.{Ensures, then, ensured, anything, weaken, both, All}
 use Rattle.claims.specs.Widths.Bounded.{PlanBounded}
 use Rattle.claims.specs.Widths.Statements.{widths}
 use Rattle.claims.specs.Cells.Unfold.{tree, unfolded}
@@ -36,6 +36,8 @@ use Rattle.claims.specs.Cells.Sharing.{SharedOnly, shared-only}
 use Rattle.claims.specs.Count.Select.{select-count}
 use Rattle.claims.specs.Count.Bound.{select-bound}
 use Rattle.claims.specs.Room.Statements.{room}
+use Rattle.claims.specs.Numbers32.Plan.{numbers-fit}
+use Rattle.claims.specs.Area.AreaDemand.{Speaks, area-demand, area-length}
 use Rattle.claims.specs.Values.Equality.{bare, equal-bare}
 
 -- DEMAND 1
@@ -87,10 +89,23 @@ pub nothing-else : (c q : Bytes) (a : List ℕ) → leastArea ≤ length a → l
 unfolding entry
 nothing-else c q a ha hc hq = rw (entry, le-ltb (length a) leastArea ha, le-ltb mostBytes (length c) hc, le-ltb mostBytes (length q) hq)
 
--- ROOM
--- The numbers of every accepted plan, of every statement, fit in the area's least length.
+-- THE AREA
+-- The numbers of every accepted plan, of every statement, fit in the area's least length ..
 pub enough-room : (c q : Bytes) → Ensures (planOf c q) (λ p. length (planNumbers p) ≤ leastArea)
 enough-room c q = room c q
+
+-- .. and in 32 bits each.
+pub narrow : (c q : Bytes) → length c ≤ mostBytes → length q ≤ mostBytes → Ensures (planOf c q) (λ p. All (λ n. n < 2 ^ 32) (planNumbers p))
+narrow c q hc hq = numbers-fit c q hc hq
+
+-- Whatever the area held and whatever the answer, it keeps its length.
+pub same-length : (c q : Bytes) (a : List ℕ) → length (plan c q a .area) ≡ length a
+same-length c q a = area-length c q a
+
+-- Where the entry accepts, reading the area back gives exactly the plan's cells, its node records and its node, and as many
+-- cells as the entry reports: what is claimed of the cells is claimed of the area.
+pub area-speaks : (c q : Bytes) (a : List ℕ) (p : Plan Built) → entry (length a) c q ≡ ok p → Speaks c q a p
+area-speaks c q a p h = area-demand c q a p h
 
 -- EQUALITY
 -- The equality by which expressions match is that of the trees without lines and places, floats by bits.

@@ -1,5 +1,6 @@
 pub mod Answers
 pub mod Cases
+pub mod Lists
 pub mod Widths
 pub mod Cells
 pub mod Count
@@ -8,4 +9,5 @@ pub mod Words
 pub mod Area
 pub mod Room
 pub mod Values
+pub mod Numbers32
 pub mod Demands

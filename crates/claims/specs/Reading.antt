@@ -4,3 +4,6 @@ pub mod Cells
 pub mod Limits
 pub mod Catalog
 pub mod Capped
+pub mod Literals
+pub mod Fits
+pub mod Expressions

@@ -16,3 +16,4 @@ pub mod Aggregate
 pub mod Select
 pub mod Plan
 pub mod PlacedPlan
+pub mod Ends

@@ -1,0 +1,67 @@
+-- The area at exit: as long as before, and read back after an accepted plan it gives the plan.
+use Prim.Native.Nat.{ℕ}
+use native.Mathlib.Omega.{arith}
+use mathlib.Core.Path.{_≡_, refl}
+use mathlib.Core.Bool.{Bool, true, false}
+use mathlib.Core.List.{List}
+use mathlib.Core.Option.{some}
+use lib.Dec.{ltb}
+use lib.ListN.{length, length-append, length-replicate}
+use Rattle.rules.specs.Refusals.{Answer, ok, refused}
+use Rattle.rules.specs.Limits.{leastArea}
+use Rattle.rules.specs.Lists.{Bytes, mapOption}
+use Rattle.rules.specs.Schema.{Catalog}
+use Rattle.rules.specs.ReadCatalog.{readCatalog}
+use Rattle.rules.specs.Plan.{Built, Plan}
+use Rattle.rules.specs.Cells.{planCells, numberPlan}
+use Rattle.rules.specs.Nodes.{nodeOf, planRecords}
+use Rattle.rules.specs.Entry.{planOf, entry, refusedArea, outcome, plan}
+use Rattle.claims.specs.Answers.{ensured}
+use Rattle.claims.specs.Area.Accepted.{accepted, catalog-read}
+use Rattle.claims.specs.Area.ReadArea.{readArea}
+use Rattle.claims.specs.Area.NodeTree.{nodeBack}
+use Rattle.claims.specs.Area.AreaExit.{exit-speaks, exit-node, area-count}
+use Rattle.claims.specs.Room.Statements.{room}
+use Rattle.claims.specs.Area.PlanReadable.{plan-readable}
+
+-- THE AREA SPEAKS
+-- The area at exit, read back over the catalog's tables, gives exactly the plan's cells and node records, and so its node;
+-- and the reported count is the number of the cells read.
+pub record Speaks (c q : Bytes) (a : List ℕ) (p : Plan Built) : Type 0 where
+  pub tables : Catalog
+  pub catalog : readCatalog c ≡ ok tables
+  pub contents : readArea c q tables (plan c q a .area) ≡ some (planCells p, planRecords (numberPlan p))
+  pub node : mapOption (λ r. nodeBack (r .1)) (readArea c q tables (plan c q a .area)) ≡ some (nodeOf (numberPlan p))
+  pub count : mapOption (λ r. length (r .0)) (readArea c q tables (plan c q a .area)) ≡ some (plan c q a .count)
+
+-- whenever the entry accepts, the area speaks
+pub area-demand : (c q : Bytes) (a : List ℕ) (p : Plan Built) → entry (length a) c q ≡ ok p → Speaks c q a p
+area-demand c q a p e =
+    let h = accepted (length a) c q p e in
+    let ts = catalog-read c q p (h .planned) in
+    let r = ensured (planOf c q) _ (plan-readable c q (ts .0) (h .catalog) (ts .1)) p (h .planned) in
+    record {
+      tables = ts .0;
+      catalog = ts .1;
+      contents = exit-speaks c q a (ts .0) p e r;
+      node = exit-node c q a (ts .0) p e r;
+      count = area-count c q a (ts .0) p e r .2;
+    }
+
+-- ITS LENGTH
+refused-length : (b : Bool) (a : List ℕ) → length (refusedArea b a) ≡ length a
+unfolding refusedArea
+refused-length true a = refl
+refused-length false a = length-replicate (length a) 0
+
+-- the area keeps its length
+pub area-length : (c q : Bytes) (a : List ℕ) → length (plan c q a .area) ≡ length a
+unfolding plan outcome
+area-length c q a = go (entry (length a) c q) refl
+  where
+    go : (m : Answer (Plan Built)) → entry (length a) c q ≡ m → length (outcome a m .area) ≡ length a
+    go (ok p) e =
+        let h = accepted (length a) c q p e in
+        let r = ensured (planOf c q) _ (room c q) p (h .planned) in
+        simp (length-append, length-replicate) (omega (arith, h .area))
+    go (refused r) e = refused-length (ltb (length a) leastArea) a

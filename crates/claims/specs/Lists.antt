@@ -1,0 +1,58 @@
+-- More laws of what holds of every entry of a list and of what an option gives.
+use Prim.Native.Nat.{ℕ, zero, suc, _<_}
+use native.Mathlib.Omega.{arith}
+use mathlib.Core.Path.{_≡_}
+use mathlib.Core.List.{List, [], _∷_, map}
+use mathlib.Core.Option.{Option, none, some}
+use lib.ListN.{length}
+use Rattle.rules.specs.Lists.{given, concat, entryAfter}
+use Rattle.claims.specs.Answers.{All, Given, all-append, all-left, all-right}
+
+-- two properties at once
+pub all-both : {B : Type 0} (P Q : B → Type 0) (xs : List B) → All P xs → All Q xs → All (λ b. P b × Q b) xs
+unfolding All
+all-both P Q [] h g = tt
+all-both P Q (x ∷ xs) h g = ((h .0, g .0), all-both P Q xs (h .1) (g .1))
+
+-- of every list, and so of all of them as one
+pub all-concat : {B : Type 0} (Q : B → Type 0) (rs : List (List B)) → All (All Q) rs → All Q (concat rs)
+unfolding concat All
+all-concat Q [] h = tt
+all-concat Q (r ∷ rs) h = all-append Q r (concat rs) (h .0) (all-concat Q rs (h .1))
+
+-- an option as a list
+pub given-all : {B : Type 0} (Q : B → Type 0) (o : Option B) → Given Q o → All Q (given o)
+unfolding given Given All
+given-all Q none h = tt
+given-all Q (some x) h = (h, tt)
+
+pub all-given : {B : Type 0} (Q : B → Type 0) (o : Option B) → All Q (given o) → Given Q o
+unfolding given Given All
+all-given Q none h = tt
+all-given Q (some x) h = h .0
+
+-- an entry has what all have
+pub entry-has : {A : Type 0} (Q : A → Type 0) (as′ : List A) (i : ℕ) (a : A) → All Q as′ → entryAfter i as′ ≡ some a → Q a
+unfolding entryAfter All
+entry-has Q [] i a h e = absurd (let z : _≡_ {A = ℕ} 0 1 = cc in omega arith)
+entry-has Q (x ∷ xs) zero a h e = let p : x ≡ a = cc in rw (← p) (h .0)
+entry-has Q (x ∷ xs) (suc i) a h e = entry-has Q xs i a (h .1) e
+
+-- its position is below the length
+pub entry-below : {A : Type 0} (as′ : List A) (i : ℕ) (a : A) → entryAfter i as′ ≡ some a → i < length as′
+unfolding entryAfter
+entry-below [] i a e = absurd (let z : _≡_ {A = ℕ} 0 1 = cc in omega arith)
+entry-below (x ∷ xs) zero a e = omega arith
+entry-below (x ∷ xs) (suc i) a e = omega (arith, entry-below xs i a e)
+
+-- of what a function makes of each entry
+pub map-all : {A B : Type 0} (Q : B → Type 0) (f : A → B) (xs : List A) → All Q (map f xs) → All (λ x. Q (f x)) xs
+unfolding All
+map-all Q f [] h = tt
+map-all Q f (x ∷ xs) h = (h .0, map-all Q f xs (h .1))
+
+-- of all lists as one, and so of every list
+pub concat-all : {B : Type 0} (Q : B → Type 0) (rs : List (List B)) → All Q (concat rs) → All (All Q) rs
+unfolding concat All
+concat-all Q [] h = tt
+concat-all Q (r ∷ rs) h = (all-left Q r (concat rs) h, concat-all Q rs (all-right Q r (concat rs) h))
