@@ -1,0 +1,282 @@
+// The line texts: bytes, lines and their fields, keywords, names and decimals.
+ghost use mathlib.Core.Path.{_≡_};
+ghost use Prim.Native.Nat.{ℕ, _+_, _*_, min};
+ghost use lib.ListN.{getD, take, drop};
+ghost use Rattle.rules.specs.Lists.{same, mapOption};
+ghost use Rattle.rules.specs.Lines as rules;
+ghost use Rattle.rules.specs.Reader as reader;
+ghost use Rattle.text.specs.Bytes.{stopAt};
+ghost use Rattle.text.specs.Lines.{lineEnd, Fields};
+ghost use Rattle.text.specs.Words.{find, wordsOf};
+ghost use Rattle.text.specs.Numbers.{valueOf, isName};
+ghost use Rattle.text.specs.Order.{orderOf};
+
+pub mod places; // places.rt: places in both texts
+
+// Most bytes a text, and the address of the statement's first byte.
+pub const MOST_BYTES: u32 = 65536;
+
+// Most bytes a name.
+pub const MOST_NAME_BYTES: usize = 64;
+
+// Most expression cells a statement.
+pub const MOST_CELLS: u64 = 512;
+
+// The fields of a line that are kept: a record has at most nine.
+const KEPT_FIELDS: usize = 10;
+
+// The byte at i, and 0 past the end.
+pub fn byte(t: &[u8], i: usize) -> u8
+    ensures { λ r. ⌜ r ≡ getD (now (t .entry)) i 0 ⌝ }
+{
+    if i < t.len() { t[i] } else { 0 }
+}
+
+// The n bytes at a, or as many of them as there are.
+pub fn part(t: &[u8], a: usize, n: usize) -> &[u8]
+    ensures { λ r. ⌜ now r ≡ take n (drop a (now (t .entry))) ⌝ }
+{
+    let len = t.len();
+    if len <= a {
+        return &t[len..];
+    }
+    if n <= len - a {
+        let e = a + n;
+        return &t[a..e];
+    }
+    &t[a..]
+}
+
+// Where, from a position on, the first byte that is x or y stands, or the end of the text.
+fn stop_at(t: &[u8], at: usize, x: u8, y: u8) -> usize
+    ensures { λ r. ⌜ r ≡ stopAt x y (now (t .entry)) at ⌝ }
+{
+    let mut i = at;
+    while i < t.len() {
+        let b = t[i];
+        if b == x {
+            return i;
+        }
+        if b == y {
+            return i;
+        }
+        i += 1;
+    }
+    i
+}
+
+// The position behind the line at a position.
+pub fn line_end(t: &[u8], at: usize) -> usize
+    ensures { λ r. ⌜ r ≡ lineEnd (now (t .entry)) at ⌝ }
+{
+    let e = stop_at(t, at, b'\n', b'\n');
+    if e < t.len() {
+        return e + 1;
+    }
+    e
+}
+
+// The lesser of two numbers.
+fn least(a: usize, b: usize) -> usize
+    ensures { λ r. ⌜ r ≡ min a b ⌝ }
+{
+    if a <= b { a } else { b }
+}
+
+// The first ten fields of a line, where each starts and how many bytes it has, and the position behind the line. What the
+// arrays hold from count on means nothing.
+pub struct Line {
+    pub starts: [usize; 12],
+    pub lens: [usize; 12],
+    pub count: usize,
+    pub next: usize,
+}
+
+// The fields of the line at a position. A line that no LF closes has two empty fields more.
+pub fn fields(t: &[u8], at: usize) -> Line
+    ensures { λ r. ⌜ Fields (now (t .entry)) at r ⌝ }
+{
+    let mut starts = [0usize; 12];
+    let mut lens = [0usize; 12];
+    let mut n: usize = 0;
+    let mut p = at;
+    while n < KEPT_FIELDS {
+        let e = stop_at(t, p, b'\n', b'\t');
+        starts[n] = p;
+        lens[n] = e - p;
+        n += 1;
+        if t.len() <= e {
+            starts[n] = e;
+            lens[n] = 0;
+            starts[n + 1] = e;
+            lens[n + 1] = 0;
+            let count = least(KEPT_FIELDS, n + 2);
+            return Line {
+                starts: starts,
+                lens: lens,
+                count: count,
+                next: e,
+            };
+        }
+        if t[e] == b'\n' {
+            return Line {
+                starts: starts,
+                lens: lens,
+                count: n,
+                next: e + 1,
+            };
+        }
+        p = e + 1;
+    }
+    let next = line_end(t, p);
+    Line {
+        starts: starts,
+        lens: lens,
+        count: n,
+        next: next,
+    }
+}
+
+// Whether two byte strings are the same.
+pub fn equal(x: &[u8], y: &[u8]) -> bool
+    ensures { λ r. ⌜ r ≡ same (now (x .entry)) (now (y .entry)) ⌝ }
+{
+    if x.len() != y.len() {
+        return false;
+    }
+    let mut i: usize = 0;
+    while i < x.len() {
+        if x[i] != y[i] {
+            return false;
+        }
+        i += 1;
+    }
+    true
+}
+
+// The order of two byte strings, a proper prefix first.
+pub enum Order {
+    Before,
+    Same,
+    After,
+}
+
+pub fn compare(x: &[u8], y: &[u8]) -> Order
+    ensures { λ r. ⌜ r ≡ orderOf (now (x .entry)) (now (y .entry)) ⌝ }
+{
+    let mut i: usize = 0;
+    while i < x.len() {
+        if y.len() <= i {
+            return Order::After;
+        }
+        let a = x[i];
+        let b = y[i];
+        if a < b {
+            return Order::Before;
+        }
+        if b < a {
+            return Order::After;
+        }
+        i += 1;
+    }
+    if i < y.len() {
+        return Order::Before;
+    }
+    Order::Same
+}
+
+// Which of some words, each closed by a blank, the n bytes at a are: its number, or how many words there are.
+pub fn which(words: &[u8], t: &[u8], a: usize, n: usize) -> usize
+    ensures { λ r. ⌜ r ≡ find (wordsOf (now (words .entry))) (take n (drop a (now (t .entry)))) ⌝ }
+{
+    let x = part(t, a, n);
+    let mut k: usize = 0;
+    let mut i: usize = 0;
+    while i < words.len() {
+        let e = stop_at(words, i, b' ', b' ');
+        if equal(&words[i..e], x) {
+            return k;
+        }
+        i = e + 1;
+        k += 1;
+    }
+    k
+}
+
+// Whether the n bytes at a are a word.
+pub fn holds(t: &[u8], a: usize, n: usize, word: &[u8]) -> bool
+    ensures { λ r. ⌜ r ≡ same (take n (drop a (now (t .entry)))) (now (word .entry)) ⌝ }
+{
+    equal(part(t, a, n), word)
+}
+
+// Whether a name may have n bytes.
+pub fn is_name(n: usize) -> bool
+    ensures { λ r. ⌜ r ≡ isName n ⌝ }
+{
+    1 <= n && n <= MOST_NAME_BYTES
+}
+
+// A number, or none.
+pub enum Number {
+    Value(u64),
+    Wrong,
+}
+
+// One digit more, `most` at most.
+fn push_digit(v: u64, d: u64, most: u64) -> u64
+    ensures { λ r. ⌜ r ≡ min most (v * 10 + d) ⌝ }
+{
+    if most / 10 < v {
+        return most;
+    }
+    let p = v * 10;
+    if most - p < d {
+        return most;
+    }
+    p + d
+}
+
+fn digits(x: &[u8], most: u64) -> Number
+    ensures { λ r. ⌜ valueOf r ≡ mapOption (min most) (rules.digits 0 (now (x .entry))) ⌝ }
+{
+    let mut v: u64 = 0;
+    let mut i: usize = 0;
+    while i < x.len() {
+        let b = x[i];
+        if b < b'0' {
+            return Number::Wrong;
+        }
+        if b'9' < b {
+            return Number::Wrong;
+        }
+        let d = b - b'0';
+        v = push_digit(v, d as u64, most);
+        i += 1;
+    }
+    Number::Value(v)
+}
+
+// The decimal that the n bytes at a are, of any length: `most` stands for all above it.
+pub fn decimal(t: &[u8], a: usize, n: usize, most: u64) -> Number
+    ensures { λ r. ⌜ valueOf r ≡ mapOption (min most) (rules.decimal (take n (drop a (now (t .entry))))) ⌝ }
+{
+    let x = part(t, a, n);
+    if x.len() == 0 {
+        return Number::Wrong;
+    }
+    if x[0] == b'0' {
+        if x.len() == 1 {
+            return Number::Value(0);
+        }
+        return Number::Wrong;
+    }
+    digits(x, most)
+}
+
+// The count or position that the n bytes at a are: 513 stands for all above 512.
+pub fn count(t: &[u8], a: usize, n: usize) -> Number
+    ensures { λ r. ⌜ ((o : ℕ) → valueOf r ≡ reader.count (record { bytes = take n (drop a (now (t .entry))); start = o })) ⌝ }
+{
+    decimal(t, a, n, MOST_CELLS + 1)
+}

@@ -1,0 +1,97 @@
+// Places in both texts: an address and a length. The catalog's bytes have the addresses from 0 on, the statement's those from
+// 65,536 on.
+ghost use mathlib.Core.Path.{_≡_};
+ghost use Rattle.rules.specs.Lists.{same};
+ghost use Rattle.rules.specs.Places.{bytesAt};
+ghost use Rattle.text.specs.Order.{orderOf};
+ghost use Rattle.text.specs.Places as places;
+use super::MOST_BYTES;
+use super::Order;
+use super::compare;
+use super::equal;
+use super::part;
+
+// Whether the n bytes at an address lie inside their text.
+pub fn inside(catalog: &[u8], statement: &[u8], a: u32, n: u32) -> bool
+    ensures { λ r. ⌜ r ≡ places.inside (now (catalog .entry)) (now (statement .entry)) a n ⌝ }
+{
+    let e = a as usize + n as usize;
+    if a < MOST_BYTES {
+        return e <= catalog.len();
+    }
+    e - MOST_BYTES as usize <= statement.len()
+}
+
+// Whether the n bytes at an address, or as many of them as there are, are x.
+pub fn holds_at(catalog: &[u8], statement: &[u8], a: u32, n: u32, x: &[u8]) -> bool
+    ensures { λ r. ⌜ r ≡ same (bytesAt (now (catalog .entry)) (now (statement .entry)) a n) (now (x .entry)) ⌝ }
+{
+    if a < MOST_BYTES {
+        return equal(part(catalog, a as usize, n as usize), x);
+    }
+    let b = a - MOST_BYTES;
+    equal(part(statement, b as usize, n as usize), x)
+}
+
+// Whether two places lie inside their texts and hold the same bytes.
+pub fn same_text(catalog: &[u8], statement: &[u8], a: u32, n: u32, b: u32, m: u32) -> bool
+    ensures { λ r. ⌜ r ≡ places.sameText (now (catalog .entry)) (now (statement .entry)) a n b m ⌝ }
+{
+    if !inside(catalog, statement, a, n) {
+        return false;
+    }
+    if !inside(catalog, statement, b, m) {
+        return false;
+    }
+    if b < MOST_BYTES {
+        return holds_at(
+            catalog,
+            statement,
+            a,
+            n,
+            part(catalog, b as usize, m as usize),
+        );
+    }
+    let d = b - MOST_BYTES;
+    holds_at(
+        catalog,
+        statement,
+        a,
+        n,
+        part(statement, d as usize, m as usize),
+    )
+}
+
+// The order of the n bytes at an address, or as many of them as there are, and x.
+fn order_with(catalog: &[u8], statement: &[u8], a: u32, n: u32, x: &[u8]) -> Order
+    ensures { λ r. ⌜ r ≡ orderOf (bytesAt (now (catalog .entry)) (now (statement .entry)) a n) (now (x .entry)) ⌝ }
+{
+    if a < MOST_BYTES {
+        return compare(part(catalog, a as usize, n as usize), x);
+    }
+    let b = a - MOST_BYTES;
+    compare(part(statement, b as usize, n as usize), x)
+}
+
+// The order of the bytes at two places.
+pub fn order_texts(catalog: &[u8], statement: &[u8], a: u32, n: u32, b: u32, m: u32) -> Order
+    ensures { λ r. ⌜ r ≡ orderOf (bytesAt (now (catalog .entry)) (now (statement .entry)) a n) (bytesAt (now (catalog .entry)) (now (statement .entry)) b m) ⌝ }
+{
+    if b < MOST_BYTES {
+        return order_with(
+            catalog,
+            statement,
+            a,
+            n,
+            part(catalog, b as usize, m as usize),
+        );
+    }
+    let d = b - MOST_BYTES;
+    order_with(
+        catalog,
+        statement,
+        a,
+        n,
+        part(statement, d as usize, m as usize),
+    )
+}
