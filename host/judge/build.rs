@@ -1,0 +1,9 @@
+//! Lets the tests know whether the Rust planner's sources are at hand.
+
+fn main() {
+    println!("cargo::rustc-check-cfg=cfg(planner)");
+    println!("cargo::rerun-if-changed=build.rs");
+    if std::env::var_os("DEP_TOYDB_PLANNER_AVAILABLE").is_some() {
+        println!("cargo::rustc-cfg=planner");
+    }
+}

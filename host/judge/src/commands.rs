@@ -1,0 +1,282 @@
+//! What each command does. A command answers whether all went well.
+
+use std::fs;
+use std::path::{Path, PathBuf};
+use std::process::{Command, Stdio};
+
+use judge::compare::{Tally, Verdict, compare};
+use judge::folder;
+use judge::generate::{Case, case, limits, pairs};
+use judge::list::{self, Answered};
+use judge::predict::predict;
+use judge::sample::sample;
+use judge::shrink::shrink;
+
+use crate::arguments::Arguments;
+
+const USAGE: &str = "commands:
+  compare [--seed S] [--first N] [--count N]             predictions with the Rust planner
+  cases FOLDER [--seed S] [--first N] [--count N] [--bytes N]    writes cases of at most some bytes
+  limits FOLDER [--bytes N]                              writes the cases at the limits and with two faults
+  sample FOLDER [--seed S] [--each N]                    writes a sample of small cases of every kind
+  hold FOLDER                                            what was printed of a folder's cases with the Rust planner
+  program PATH [--seed S] [--first N] [--count N]        a planning program with the Rust planner
+  list FOLDER FILE                                       writes the fixed list from a folder's cases
+  replay FILE                                            the fixed list with the Rust planner";
+
+pub fn run(mut arguments: Vec<String>) -> Result<bool, String> {
+    if arguments.is_empty() {
+        return Err(USAGE.to_string());
+    }
+    let command = arguments.remove(0);
+    match command.as_str() {
+        "compare" => {
+            let arguments = Arguments::new(arguments, &["seed", "first", "count"])?;
+            let numbers = Numbers::of(&arguments, 100_000);
+            let [] = arguments.words([])?;
+            compare_predictions(numbers)
+        }
+        "cases" => {
+            let arguments = Arguments::new(arguments, &["seed", "first", "count", "bytes"])?;
+            let numbers = Numbers::of(&arguments, 1_000);
+            let bytes = arguments.option("bytes", 2_000) as usize;
+            let [folder] = arguments.words(["FOLDER"])?;
+            write_cases(&PathBuf::from(folder), numbers, bytes)
+        }
+        "limits" => {
+            let arguments = Arguments::new(arguments, &["bytes"])?;
+            let bytes = arguments.option("bytes", 10_000) as usize;
+            let [folder] = arguments.words(["FOLDER"])?;
+            write_limits(&PathBuf::from(folder), bytes)
+        }
+        "sample" => {
+            let arguments = Arguments::new(arguments, &["seed", "each"])?;
+            let (seed, each) = (arguments.option("seed", 1), arguments.option("each", 20));
+            let [folder] = arguments.words(["FOLDER"])?;
+            write_sample(&PathBuf::from(folder), seed, each as usize)
+        }
+        "hold" => {
+            let [folder] = Arguments::new(arguments, &[])?.words(["FOLDER"])?;
+            hold(&PathBuf::from(folder))
+        }
+        "program" => {
+            let arguments = Arguments::new(arguments, &["seed", "first", "count"])?;
+            let numbers = Numbers::of(&arguments, 1_000);
+            let [program] = arguments.words(["PATH"])?;
+            run_program(&PathBuf::from(program), numbers)
+        }
+        "list" => {
+            let [folder, file] = Arguments::new(arguments, &[])?.words(["FOLDER", "FILE"])?;
+            write_list(&PathBuf::from(folder), &PathBuf::from(file))
+        }
+        "replay" => {
+            let [file] = Arguments::new(arguments, &[])?.words(["FILE"])?;
+            replay(&PathBuf::from(file))
+        }
+        _ => Err(format!("no command {command}\n{USAGE}")),
+    }
+}
+
+/// A run of case numbers under a seed.
+#[derive(Clone, Copy)]
+struct Numbers {
+    seed: u64,
+    first: u64,
+    count: u64,
+}
+
+impl Numbers {
+    fn of(arguments: &Arguments, count: u64) -> Self {
+        Numbers {
+            seed: arguments.option("seed", 1),
+            first: arguments.option("first", 0),
+            count: arguments.option("count", count),
+        }
+    }
+
+    fn cases(self) -> impl Iterator<Item = (u64, Case)> {
+        (self.first..self.first.saturating_add(self.count))
+            .map(move |number| (number, case(self.seed, number)))
+    }
+}
+
+/// Says whether the Rust planner is there, then the tally; true where nothing differs.
+fn report(tally: &Tally) -> bool {
+    println!("{tally}");
+    if !oracle::AVAILABLE {
+        println!("the Rust planner's sources are not at hand: nothing was compared with it");
+    }
+    tally.differ == 0
+}
+
+fn show(name: &str, case: &Case, message: &str) {
+    println!("{name} differs: {message}");
+    for (text, bytes) in [("catalog", &case.catalog), ("statement", &case.statement)] {
+        println!(" {text}:");
+        String::from_utf8_lossy(bytes).lines().for_each(|line| println!("   {}", line.replace('\t', " ")));
+    }
+}
+
+/// How many of the cases that differ are shown.
+const SHOWN: usize = 10;
+
+fn compare_predictions(numbers: Numbers) -> Result<bool, String> {
+    let verdict = |case: &Case| compare(case, &predict(&case.catalog, &case.statement).listing);
+    let mut tally = Tally::default();
+    for (number, case) in numbers.cases() {
+        let found = verdict(&case);
+        tally.add(&found);
+        if matches!(found, Verdict::Differ(_)) && tally.differ <= SHOWN {
+            let smallest = shrink(&case, |case| matches!(verdict(case), Verdict::Differ(_)));
+            if let Verdict::Differ(message) = verdict(&smallest) {
+                show(&format!("case {number}, made small,"), &smallest, &message);
+            }
+        }
+    }
+    Ok(report(&tally))
+}
+
+fn make_folder(folder: &Path) -> Result<(), String> {
+    fs::create_dir_all(folder).map_err(|error| format!("{}: {error}", folder.display()))?;
+    let mut entries = fs::read_dir(folder).map_err(|error| format!("{}: {error}", folder.display()))?;
+    match entries.next() {
+        Some(_) => Err(format!("{}: this folder is not empty", folder.display())),
+        None => Ok(()),
+    }
+}
+
+fn write_cases(folder: &Path, numbers: Numbers, bytes: usize) -> Result<bool, String> {
+    make_folder(folder)?;
+    let mut written = 0;
+    for (number, case) in numbers.cases() {
+        if case.catalog.len() + case.statement.len() <= bytes {
+            let expected = predict(&case.catalog, &case.statement).listing;
+            folder::write(folder, number, &case, &expected)?;
+            written += 1;
+        }
+    }
+    println!("{written} cases written, {} too long", numbers.count - written);
+    Ok(true)
+}
+
+fn write_limits(folder: &Path, bytes: usize) -> Result<bool, String> {
+    make_folder(folder)?;
+    let mut written = 0;
+    for (number, known) in limits::all().into_iter().chain(pairs::all()).enumerate() {
+        if known.case.catalog.len() + known.case.statement.len() <= bytes {
+            let expected = predict(&known.case.catalog, &known.case.statement).listing;
+            folder::write(folder, number as u64, &known.case, &expected)?;
+            written += 1;
+        }
+    }
+    println!("{written} cases written");
+    Ok(true)
+}
+
+fn write_sample(folder: &Path, seed: u64, each: usize) -> Result<bool, String> {
+    make_folder(folder)?;
+    let sample = sample(seed, each);
+    for sampled in &sample {
+        folder::write(folder, sampled.number, &sampled.case, &sampled.prediction.listing)?;
+    }
+    println!("{} cases written", sample.len());
+    Ok(true)
+}
+
+/// Compares what was printed of a case with the prediction, byte by byte, and with the Rust planner.
+fn judge(case: &Case, printed: &[u8]) -> Verdict {
+    let expected = predict(&case.catalog, &case.statement).listing;
+    match compare(case, printed) {
+        Verdict::Differ(message) => Verdict::Differ(message),
+        _ if expected != printed => Verdict::Differ(format!(
+            "printed {}\n   predicted {}",
+            printed.escape_ascii(),
+            expected.escape_ascii()
+        )),
+        verdict => verdict,
+    }
+}
+
+/// Judges printed answers and shows those that differ.
+fn judge_all<'a>(printed: impl Iterator<Item = (String, &'a Case, &'a [u8])>) -> Result<bool, String> {
+    let mut tally = Tally::default();
+    for (name, case, printed) in printed {
+        let verdict = judge(case, printed);
+        tally.add(&verdict);
+        if let Verdict::Differ(message) = verdict
+            && tally.differ <= SHOWN
+        {
+            show(&name, case, &message);
+        }
+    }
+    Ok(report(&tally))
+}
+
+fn hold(folder: &Path) -> Result<bool, String> {
+    let cases = folder::read(folder)?;
+    let missing = cases.iter().filter(|filed| filed.listing.is_none()).count();
+    let held = judge_all(cases.iter().filter_map(|filed| {
+        Some((format!("case {}", filed.number), &filed.case, filed.listing.as_deref()?))
+    }))?;
+    if missing > 0 {
+        println!("{missing} cases have no listing");
+    }
+    Ok(held && missing == 0)
+}
+
+fn run_program(program: &Path, numbers: Numbers) -> Result<bool, String> {
+    let program = fs::canonicalize(program).map_err(|error| format!("{}: {error}", program.display()))?;
+    let folder = std::env::temp_dir().join(format!("judge-{}", std::process::id()));
+    fs::create_dir_all(&folder).map_err(|error| format!("{}: {error}", folder.display()))?;
+    let printed: Result<Vec<_>, String> = numbers
+        .cases()
+        .map(|(number, case)| match run_on(&program, &folder, &case) {
+            Ok(listing) => Ok((number, case, listing)),
+            Err(error) => Err(format!("{} on case {number}: {error}", program.display())),
+        })
+        .collect();
+    fs::remove_dir_all(&folder).map_err(|error| format!("{}: {error}", folder.display()))?;
+    let printed = printed?;
+    judge_all(
+        printed.iter().map(|(number, case, listing)| (format!("case {number}"), case, listing.as_slice())),
+    )
+}
+
+/// What a planning program prints: it reads `catalog.txt` where it runs, and the statement on standard input.
+fn run_on(program: &Path, folder: &Path, case: &Case) -> std::io::Result<Vec<u8>> {
+    let statement = folder.join("statement.txt");
+    fs::write(folder.join("catalog.txt"), &case.catalog)?;
+    fs::write(&statement, &case.statement)?;
+    let output = Command::new(program)
+        .current_dir(folder)
+        .stdin(Stdio::from(fs::File::open(&statement)?))
+        .stderr(Stdio::inherit())
+        .output()?;
+    Ok(output.stdout)
+}
+
+fn write_list(folder: &Path, file: &Path) -> Result<bool, String> {
+    let mut answers = Vec::new();
+    for filed in folder::read(folder)? {
+        let listing = filed.listing.ok_or(format!("case {} has no listing", filed.number))?;
+        if let Verdict::Differ(message) = judge(&filed.case, &listing) {
+            show(&format!("case {}", filed.number), &filed.case, &message);
+            return Ok(false);
+        }
+        answers.push(Answered { case: filed.case, listing });
+    }
+    fs::write(file, list::write(&answers)).map_err(|error| format!("{}: {error}", file.display()))?;
+    println!("{} cases written", answers.len());
+    Ok(true)
+}
+
+fn replay(file: &Path) -> Result<bool, String> {
+    let bytes = fs::read(file).map_err(|error| format!("{}: {error}", file.display()))?;
+    let answers = list::read(&bytes)?;
+    judge_all(
+        answers
+            .iter()
+            .enumerate()
+            .map(|(i, answer)| (format!("record {}", i + 1), &answer.case, answer.listing.as_slice())),
+    )
+}

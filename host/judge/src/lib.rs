@@ -1,0 +1,11 @@
+//! Tries the planner and its rules against the Rust planner: generated cases, predictions, and comparison.
+
+pub mod compare;
+pub mod folder;
+pub mod generate;
+pub mod list;
+pub mod listing;
+pub mod predict;
+pub mod random;
+pub mod sample;
+pub mod shrink;

@@ -1,0 +1,53 @@
+//! The Rust planner's answer to a pair of texts.
+//!
+//! The planner's sources are compiled as they are (see build.rs). What they need and what is not supplied has a stand-in
+//! here: the error type and its macros, the encoding, engine and execution modules. Where the sources are not at hand,
+//! [`AVAILABLE`] is false and [`answer`] always gives [`Answer::Unavailable`].
+
+#[cfg(planner)]
+mod ask;
+#[cfg(planner)]
+mod encoding;
+#[cfg(planner)]
+mod error;
+#[cfg(planner)]
+mod sql;
+
+use texts::{Texts, Tree};
+
+#[cfg(planner)]
+pub(crate) use error::{errdata, errinput};
+
+/// Whether the planner's sources were at hand when this crate was built.
+pub const AVAILABLE: bool = cfg!(planner);
+
+/// What the Rust planner makes of a statement.
+#[derive(Clone, Debug, PartialEq)]
+pub enum Answer {
+    Planned(Tree),
+    /// Refused, with the number that document 01 has for the kind.
+    Refused {
+        number: u8,
+        message: String,
+    },
+    /// The planner panicked.
+    Trapped(String),
+    /// The planner asked for something that is not supplied (a regular expression).
+    NotSupplied,
+    /// The texts are not UTF-8, which the planner's strings are.
+    NotUtf8,
+    /// The planner's sources are not at hand.
+    Unavailable,
+}
+
+/// Has the Rust planner plan the statement.
+#[cfg(planner)]
+pub fn answer(texts: &Texts) -> Answer {
+    ask::answer(texts)
+}
+
+/// Has the Rust planner plan the statement.
+#[cfg(not(planner))]
+pub fn answer(_: &Texts) -> Answer {
+    Answer::Unavailable
+}
