@@ -1,0 +1,5 @@
+pub mod Signed
+mod Fitted
+pub mod Capped
+mod SignSize
+mod Operations
