@@ -32,9 +32,17 @@ pub ensured : {A : Type 0} (m : Answer A) (Q : A → Type 0) → Ensures m Q →
 ensured (ok b) Q h a e = let q : b ≡ a = cc in rw (← q) h
 ensured (refused r) Q h a e = absurd (let z : _≡_ {A = ℕ} 0 1 = cc in omega arith)
 
-pub anything : {A : Type 0} (m : Answer A) → Ensures m (λ a. Unit {0})
+-- nothing is asked
+abbrev pub Any : {A : Type 0} → A → Type 0
+Any a = Unit {0}
+
+pub anything : {A : Type 0} (m : Answer A) → Ensures m Any
 anything (ok a) = tt
 anything (refused r) = tt
+
+-- a step of whose value nothing is wanted
+pub past : {A B : Type 0} (m : Answer A) (f : A → Answer B) (Q : B → Type 0) → ((a : A) → Ensures (f a) Q) → Ensures (m >>= f) Q
+past m f Q k = then m f Any Q (anything m) λ a u. k a
 
 pub both : {A : Type 0} (m : Answer A) (P Q : A → Type 0) → Ensures m P → Ensures m Q → Ensures m (λ a. P a × Q a)
 both (ok a) P Q p q = (p, q)
@@ -43,6 +51,10 @@ both (refused r) P Q p q = tt
 pub weaken : {A : Type 0} (m : Answer A) (P Q : A → Type 0) → ((a : A) → P a → Q a) → Ensures m P → Ensures m Q
 weaken (ok a) P Q k h = k a h
 weaken (refused r) P Q k h = tt
+
+-- a step, and that it gives its value
+pub known : {A B : Type 0} (m : Answer A) (f : A → Answer B) (Q : B → Type 0) → ((a : A) → m ≡ ok a → Ensures (f a) Q) → Ensures (m >>= f) Q
+known m f Q k = then m f (λ a. m ≡ ok a) Q (ensures m (λ a. m ≡ ok a) (λ a e. e)) k
 
 -- LISTS
 unfoldable pub All : {B : Type 0} → (B → Type 0) → List B → Type 0
@@ -78,9 +90,22 @@ unfolding All
 all-map Q f P k [] h = tt
 all-map Q f P k (x ∷ xs) h = (k x (h .0), all-map Q f P k xs (h .1))
 
--- what `each` gives: as many, each with what the function promises
+pub all-every : {B : Type 0} (Q : B → Type 0) → ((b : B) → Q b) → (xs : List B) → All Q xs
+unfolding All
+all-every Q k [] = tt
+all-every Q k (x ∷ xs) = (k x, all-every Q k xs)
+
+-- what `each` gives of entries with P: as many, each with what the function promises
+pub each-from : {A B : Type 0} (f : A → Answer B) (P : A → Type 0) (Q : B → Type 0) → ((a : A) → P a → Ensures (f a) Q)
+    → (as′ : List A) → All P as′ → Ensures (each f as′) (λ bs. All Q bs × (length bs ≡ length as′))
+unfolding each All
+each-from f P Q k [] h = (tt, refl)
+each-from f P Q k (a ∷ as′) h = then (f a) _ Q _ (k a (h .0)) λ b hb. then (each f as′) _ _ _ (each-from f P Q k as′ (h .1)) λ bs g. ((hb, g .0), ap suc (g .1))
+
+-- and of any entries
 pub each-ensures : {A B : Type 0} (f : A → Answer B) (Q : B → Type 0) → ((a : A) → Ensures (f a) Q)
     → (as′ : List A) → Ensures (each f as′) (λ bs. All Q bs × (length bs ≡ length as′))
-unfolding each All
-each-ensures f Q k [] = (tt, refl)
-each-ensures f Q k (a ∷ as′) = then (f a) _ Q _ (k a) λ b hb. then (each f as′) _ _ _ (each-ensures f Q k as′) λ bs h. ((hb, h .0), ap suc (h .1))
+each-ensures f Q k as′ = each-from f Any Q (λ a u. k a) as′ (all-every Any (λ a. tt) as′)
+
+pub each-length : {A B : Type 0} (f : A → Answer B) (as′ : List A) → Ensures (each f as′) (λ bs. length bs ≡ length as′)
+each-length f as′ = weaken (each f as′) _ _ (λ bs h. h .1) (each-ensures f Any (λ a. anything (f a)) as′)

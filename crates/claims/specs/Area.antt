@@ -2,13 +2,10 @@
 pub mod ReadArea
 pub mod ReadingLaws
 pub mod Readable
-pub mod ReadablePlan
 pub mod AreaSpeaks
 pub mod NodeTree
 pub mod AreaExit
 pub mod Proper
-pub mod ProperFrom
-pub mod ProperSelect
 pub mod ProperPlan
 pub mod Accepted
 pub mod PlanReadable

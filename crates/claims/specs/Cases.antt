@@ -10,6 +10,9 @@ pub either-way : {A : Type 0} (Q : A → Type 0) (b : Bool) (x y : A) → Q x �
 either-way Q true x y p q = p
 either-way Q false x y p q = q
 
+pub tested : {A : Type 0} (b : Bool) (x y : Answer A) (Q : A → Type 0) → Ensures x Q → Ensures y Q → Ensures (elim b [ true ↦ x | false ↦ y ]) Q
+tested b x y Q = either-way (λ m. Ensures m Q) b x y
+
 -- an answer that is refused where a test passes
 pub unless : {A : Type 0} (b : Bool) (n : Reason) (l : ℕ) (m : Answer A) (Q : A → Type 0) → Ensures m Q → Ensures (elim b [ true ↦ refuse n l | false ↦ m ]) Q
 unless true n l m Q h = refusing n l Q

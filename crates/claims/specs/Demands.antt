@@ -15,7 +15,7 @@ use Rattle.rules.specs.Ast as Ast
 use Rattle.rules.specs.Equality.{equal}
 use Rattle.rules.specs.ReadCatalog.{readCatalog}
 use Rattle.rules.specs.ReadStatement.{readStatement}
-use Rattle.rules.specs.Plan.{Built, Plan, mapPlan, unshared}
+use Rattle.rules.specs.Plan.{Built, Expression, Plan, mapPlan, unshared}
 use Rattle.rules.specs.BuildSelect.{buildSelect}
 use Rattle.rules.specs.BuildStatement.{buildStatement}
 use Rattle.rules.specs.Cells.{planCells, planExpressions, numberPlan}
@@ -23,9 +23,10 @@ use Rattle.rules.specs.Sizes.{selectSize}
 use Rattle.rules.specs.Count.{countSelect, starred, boundSelect}
 use Rattle.rules.specs.Area.{planNumbers}
 use Rattle.rules.specs.Entry.{planOf, entry, plan}
-use Rattle.claims.specs.Answers.{Ensures, then, ensured, anything, weaken, both, All}
+use Rattle.claims.specs.Answers.{Ensures, ensured, weaken, both, All}
 use Rattle.claims.specs.Widths.Bounded.{PlanBounded}
-use Rattle.claims.specs.Widths.Statements.{widths}
+use Rattle.claims.specs.Widths.Unshared.{plan-unshared}
+use Rattle.claims.specs.Widths.Statements.{plan-bounded}
 use Rattle.claims.specs.Cells.Unfold.{tree, unfolded}
 use Rattle.claims.specs.Cells.UnfoldPlan.{unfolds}
 use Rattle.claims.specs.Cells.Numbers.{NumberOf}
@@ -40,19 +41,19 @@ use Rattle.claims.specs.Numbers32.Plan.{numbers-fit}
 use Rattle.claims.specs.Area.AreaDemand.{Speaks, area-demand, area-length}
 use Rattle.claims.specs.Values.Equality.{bare, equal-bare}
 
--- DEMAND 1
--- In every accepted plan each column number is below the width of the rows that its expression reads.
-pub column-numbers : (c q : Bytes) → Ensures (planOf c q) PlanBounded
-unfolding planOf
-column-numbers c q =
-    then (readCatalog c) _ _ _ (anything (readCatalog c)) λ ts u.
-    then (readStatement q) _ _ _ (anything (readStatement q)) λ s v.
-    widths ts s
+-- The plan that the shared cells and the numbers in its nodes stand for.
+abbrev pub unfoldedPlan : Plan Built → Plan Expression
+unfoldedPlan p = mapPlan (tree (unfolded [] (planCells p))) (numberPlan p)
 
 -- DEMAND 2
--- The shared cells, unfolded at the numbers in the plan, are the Rust's tree.
-pub rust-tree : (p : Plan Built) → mapPlan (tree (unfolded [] (planCells p))) (numberPlan p) ≡ unshared p
+-- It is the Rust's tree, for every statement.
+pub rust-tree : (p : Plan Built) → unfoldedPlan p ≡ unshared p
 rust-tree p = unfolds p
+
+-- DEMAND 1
+-- In every accepted plan each column number is below the width of the rows that its expression reads.
+pub column-numbers : (c q : Bytes) → Ensures (planOf c q) (λ p. PlanBounded (unfoldedPlan p))
+column-numbers c q = weaken (planOf c q) PlanBounded _ (λ p h. rw (rust-tree p) (plan-unshared p h)) (plan-bounded c q)
 
 -- DEMAND 3
 -- What holds of an accepted SELECT's plan: its cells are as many as the count of statement and catalog says, which is the

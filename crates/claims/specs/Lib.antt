@@ -5,6 +5,7 @@ pub mod Widths
 pub mod Cells
 pub mod Count
 pub mod Reading
+pub mod Building
 pub mod Words
 pub mod Area
 pub mod Room

@@ -5,8 +5,16 @@ use mathlib.Core.Path.{_≡_}
 use mathlib.Core.List.{List, [], _∷_, map}
 use mathlib.Core.Option.{Option, none, some}
 use lib.ListN.{length}
-use Rattle.rules.specs.Lists.{given, concat, entryAfter}
-use Rattle.claims.specs.Answers.{All, Given, all-append, all-left, all-right}
+use Rattle.rules.specs.Lists.{mapOption, given, concat, entryAfter}
+use Rattle.claims.specs.Answers.{Any, All, Given, all-append, all-left, all-right, all-every, all-map}
+
+pub all-none : {B : Type 0} (Q : B → Type 0) → All Q []
+unfolding All
+all-none Q = tt
+
+pub all-one : {B : Type 0} (Q : B → Type 0) (b : B) → Q b → All Q (b ∷ [])
+unfolding All
+all-one Q b h = (h, tt)
 
 -- two properties at once
 pub all-both : {B : Type 0} (P Q : B → Type 0) (xs : List B) → All P xs → All Q xs → All (λ b. P b × Q b) xs
@@ -45,6 +53,10 @@ entry-below [] i a e = absurd (let z : _≡_ {A = ℕ} 0 1 = cc in omega arith)
 entry-below (x ∷ xs) zero a e = omega arith
 entry-below (x ∷ xs) (suc i) a e = omega (arith, entry-below xs i a e)
 
+-- of what a function makes of any entry
+pub all-mapped : {A B : Type 0} (Q : B → Type 0) (f : A → B) → ((a : A) → Q (f a)) → (xs : List A) → All Q (map f xs)
+all-mapped Q f k xs = all-map Q f Any (λ a u. k a) xs (all-every Any (λ a. tt) xs)
+
 -- of what a function makes of each entry
 pub map-all : {A B : Type 0} (Q : B → Type 0) (f : A → B) (xs : List A) → All Q (map f xs) → All (λ x. Q (f x)) xs
 unfolding All
@@ -56,3 +68,28 @@ pub concat-all : {B : Type 0} (Q : B → Type 0) (rs : List (List B)) → All Q 
 unfolding concat All
 concat-all Q [] h = tt
 concat-all Q (r ∷ rs) h = (all-left Q r (concat rs) h, concat-all Q rs (all-right Q r (concat rs) h))
+
+-- OPTIONS
+pub given-some : {A : Type 0} (Q : A → Type 0) (o : Option A) → Given Q o → (a : A) → o ≡ some a → Q a
+unfolding Given
+given-some Q none h a e = absurd (let z : _≡_ {A = ℕ} 0 1 = cc in omega arith)
+given-some Q (some b) h a e = let q : b ≡ a = cc in rw (← q) h
+
+pub given-every : {A : Type 0} (Q : A → Type 0) → ((a : A) → Q a) → (o : Option A) → Given Q o
+unfolding Given
+given-every Q k none = tt
+given-every Q k (some a) = k a
+
+pub given-weaken : {A : Type 0} (P Q : A → Type 0) → ((a : A) → P a → Q a) → (o : Option A) → Given P o → Given Q o
+unfolding Given
+given-weaken P Q k none h = tt
+given-weaken P Q k (some a) h = k a h
+
+pub given-map : {A B : Type 0} (f : A → B) (P : A → Type 0) (Q : B → Type 0) → ((a : A) → P a → Q (f a)) → (o : Option A) → Given P o → Given Q (mapOption f o)
+unfolding Given mapOption
+given-map f P Q k none h = tt
+given-map f P Q k (some a) h = k a h
+
+-- the same, of any option
+pub given-mapped : {A B : Type 0} (f : A → B) (Q : B → Type 0) → ((a : A) → Q (f a)) → (o : Option A) → Given Q (mapOption f o)
+given-mapped f Q k o = given-map f Any Q (λ a u. k a) o (given-every Any (λ a. tt) o)

@@ -1,9 +1,14 @@
--- What reading guarantees: the limits, and that capping a count changes nothing.
+-- What reading guarantees: the limits, that capping a count changes nothing, and that values and names have what the fields of every line give.
 pub mod Rules
 pub mod Cells
 pub mod Limits
-pub mod Catalog
 pub mod Capped
+pub mod Has
+pub mod Fields
 pub mod Literals
-pub mod Fits
-pub mod Expressions
+pub mod Sound
+pub mod Lines
+pub mod Records
+pub mod Expression
+pub mod Statement
+pub mod Catalog

@@ -3,11 +3,10 @@ pub mod Below
 pub mod Tabulate
 pub mod Swapped
 pub mod Scopes
-pub mod FromClause
 pub mod Labels
 pub mod Bounded
 pub mod FromStages
 pub mod HiddenStages
 pub mod SelectStages
 pub mod Statements
-pub mod Positions
+pub mod Unshared

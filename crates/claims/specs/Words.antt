@@ -3,17 +3,6 @@ pub mod Places
 pub mod Lists
 pub mod Parts
 pub mod Lines
-pub mod Fields
-pub mod Reader
-pub mod Expression
-pub mod Statement
-pub mod Catalog
 pub mod Placed
-pub mod OperatorTexts
-pub mod Build
-pub mod From
-pub mod Aggregate
-pub mod Select
-pub mod Plan
 pub mod PlacedPlan
 pub mod Ends

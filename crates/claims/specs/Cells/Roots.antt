@@ -8,6 +8,7 @@ use Rattle.rules.specs.Lists.{given, concat}
 use Rattle.rules.specs.Plan.{Built, Node, Plan}
 use Rattle.rules.specs.Plan as P
 use Rattle.rules.specs.Cells.{count, countAll, roots, expressions, cellCount, numberGiven, numberRows, numberFirst, numberSecond, numberNode, planExpressions, numberPlan}
+use Rattle.claims.specs.Answers.{All}
 
 roots-append : (xs ys : List Built) (i : ℕ) → roots i (xs ++ ys) ≡ roots i xs ++ roots (i + countAll xs) ys
 unfolding roots countAll
@@ -61,3 +62,14 @@ roots-plan (P.insert i t m n) = roots-node n 0
 roots-plan (P.update i t n xs) = rw (roots-append (expressions n) (map (λ x. x .1) xs) 0, roots-node n 0, roots-second xs (countAll (expressions n)), zero-add)
 roots-plan (P.create n k cs) = refl
 roots-plan (P.drop n y) = refl
+
+-- numbering leaves the other parts as they are
+pub first-kept : {B : Type 0} (Q : B → Type 0) (xs : List (Built × B)) (i : ℕ) → All (λ x. Q (x .1)) xs → All (λ x. Q (x .1)) (numberFirst i xs)
+unfolding numberFirst All
+first-kept Q [] i h = tt
+first-kept Q (x ∷ xs) i h = (h .0, first-kept Q xs (i + count (x .0)) (h .1))
+
+pub second-kept : {B : Type 0} (Q : B → Type 0) (xs : List (B × Built)) (i : ℕ) → All (λ x. Q (x .0)) xs → All (λ x. Q (x .0)) (numberSecond i xs)
+unfolding numberSecond All
+second-kept Q [] i h = tt
+second-kept Q (x ∷ xs) i h = (h .0, second-kept Q xs (i + count (x .1)) (h .1))

@@ -21,7 +21,7 @@ use Rattle.rules.specs.Items.{expanded}
 use Rattle.rules.specs.BuildSelect.{filtered, laterOf, functionsOf, buildProjection, buildHaving, keyBuilt, buildOrder, buildSelect}
 use Rattle.rules.specs.Sizes.{total, clauseSize, optionSize, fromSize, itemsSize, keysSize, selectSize}
 use Rattle.rules.specs.Count.{cost, optionCost, predicateScope, scopeOf, joinCost, fromScope, argumentCost, groupCost, itemCost, countIn, countSelect, starred, boundSelect}
-use Rattle.claims.specs.Answers.{Ensures, then, anything, both, weaken}
+use Rattle.claims.specs.Answers.{Ensures, then, anything, both, weaken, past}
 use Rattle.claims.specs.Cases.{either-way, unless}
 use Rattle.claims.specs.Count.Totals.{total-append, total-map, total-most, all-most, each-accepted}
 use Rattle.claims.specs.Count.Costs.{cost-most, optionCost-most}
@@ -111,7 +111,7 @@ unfolding buildSelect FromKnown Counted countSelect boundSelect starred starredO
 select-bound c q =
     then (buildFromClause c (q .from)) _ _ _ (from-known c q) λ f hf.
     then (expanded q (f .0)) _ _ _ (items-known c q f hf) λ is′ hi.
-    then (buildOption (f .1) (clauseExpr (q .filter))) _ _ _ (anything (buildOption (f .1) (clauseExpr (q .filter)))) λ w hw.
+    past (buildOption (f .1) (clauseExpr (q .filter))) _ _ λ w.
     then (buildGroups (filtered (f .0) w) (q .group) (functionsOf is′ (laterOf q)) (f .1)) _ _ _ (groups-count (filtered (f .0) w) (q .group) _ (f .1)) λ a ha.
     then (buildProjection (a .0) is′ (laterOf q) (a .1)) _ _ _ (both (buildProjection (a .0) is′ (laterOf q) (a .1)) _ _
     (projection-count (a .0) is′ (laterOf q) (a .1)) (projection-bound q _ (a .0) is′ (laterOf q) (a .1) (f .1) (hi .0))) λ p hp.

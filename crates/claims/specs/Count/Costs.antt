@@ -1,64 +1,44 @@
 -- What an expression costs: the cells of an accepted one, and the most that it can be.
-use Prim.Native.Nat.{ℕ, _+_, _*_, _≤_}
+use Prim.Native.Nat.{ℕ, _*_, _≤_}
 use native.Mathlib.Omega.{arith}
 use mathlib.Core.Path.{_≡_, refl}
-use mathlib.Core.Bool.{Bool, true, false}
 use mathlib.Core.Option.{Option, none, some}
-use Rattle.rules.specs.Refusals.{Answer, unsupportedStar, unknownFunction, invalidIs}
-use Rattle.rules.specs.Lists.{same, given}
-use Rattle.rules.specs.Lines.{bytes}
-use Rattle.rules.specs.Schema.{Value}
+use Rattle.rules.specs.Lists.{given}
 use Rattle.rules.specs.Ast.{Expr, star, column, literal, call, unary, binary, is, Exprs, nil, cons, size, sizeAll, Binary, plain, ge, le, ne}
-use Rattle.rules.specs.Ast as Ast
-use Rattle.rules.specs.Plan.{Built}
-use Rattle.rules.specs.Plan as P
-use Rattle.rules.specs.Scope.{Scope, lookup, matched}
-use Rattle.rules.specs.BuildExpression.{build, buildSqrt, buildOption, found, isOf, isSqrt, isValue, orMatched, pickMatched, sqrtOf}
+use Rattle.rules.specs.Scope.{Scope, matched}
+use Rattle.rules.specs.BuildExpression.{build, buildOption}
 use Rattle.rules.specs.Cells.{added, count}
 use Rattle.rules.specs.Sizes.{total, optionSize}
 use Rattle.rules.specs.Count.{pickCost, cost, costFirst, optionCost}
-use Rattle.claims.specs.Answers.{Ensures, then, refusing, anything, weaken}
+use Rattle.claims.specs.Answers.{Ensures, then}
+use Rattle.claims.specs.Building.Built.{Steps, build-by}
 
-cost-matched : (o : Option ℕ) (r : Answer Built) (k : ℕ) → Ensures r (λ b. count b ≡ k) → Ensures (pickMatched o r) (λ b. count b ≡ pickCost o k)
-unfolding pickMatched pickCost count
-cost-matched (some i) r k h = refl
-cost-matched none r k h = h
+-- a match is one cell
+pub matched-cost : (s : Scope) (e : Expr) (i : ℕ) → matched s e ≡ some i → 1 ≡ cost s e
+unfolding cost pickCost
+matched-cost s (star l) i u = rw u
+matched-cost s (column l t n) i u = rw u
+matched-cost s (literal l v) i u = rw u
+matched-cost s (call l n as′) i u = rw u
+matched-cost s (unary l o a) i u = rw u
+matched-cost s (binary l o a b) i u = rw u
+matched-cost s (is l a v) i u = rw u
 
--- an accepted function is `sqrt`
-pub when-sqrt : (t : Bool) (l : ℕ) (r : Answer Built) (Q : Built → Type 0) → (t ≡ true → Ensures r Q) → Ensures (isSqrt t l r) Q
-unfolding isSqrt
-when-sqrt true l r Q k = k refl
-when-sqrt false l r Q k = refusing unknownFunction l Q
+cost-steps : (s : Scope) → Steps s (λ e x. count x ≡ cost s e)
+unfolding cost costFirst pickCost count
+cost-steps s = record {
+  matches = λ e i u. matched-cost s e i u;
+  columns = λ l q n i u f. rw u;
+  literals = λ l v u. rw u;
+  roots = λ l n a x u e g. rw u (omega arith);
+  unaries = λ l o a x u g. rw u (omega arith);
+  binaries = λ l o a b x y u f g. rw u (omega arith);
+  tests = λ l a v x u e g. rw u (omega arith);
+}
 
--- of one argument
-pub when-one : (as′ : Exprs) (l : ℕ) (r : Answer Built) (Q : Built → Type 0) → (as′ ≡ nil → Ensures r (λ b. Q (P.unary Ast.sqrt b))) → Ensures (sqrtOf l as′ r) Q
-unfolding sqrtOf
-when-one nil l r Q k = then r _ _ Q (k refl) λ b p. p
-when-one (cons a as′) l r Q k = refusing unknownFunction l Q
-
-cost-isOf : (t : Bool) (l : ℕ) (v : Value) (x : Built) → Ensures (isOf t l v x) (λ b. count b ≡ count x + 1)
-unfolding isOf count
-cost-isOf true l v x = refl
-cost-isOf false l v x = refusing invalidIs l _
-
-mutual
-  unfolding build orMatched cost count
-
-  -- an accepted expression has the cells that its cost says
-  pub cost-build : (s : Scope) (e : Expr) → Ensures (build s e) (λ b. count b ≡ cost s e)
-  cost-build s (star l) = cost-matched (matched s (star l)) _ 1 (refusing unsupportedStar l _)
-  cost-build s (column l t n) = cost-matched (matched s (column l t n)) _ 1 (then (found l (lookup s t n)) _ _ _ (anything (found l (lookup s t n))) λ i u. refl)
-  cost-build s (literal l v) = cost-matched (matched s (literal l v)) _ 1 refl
-  cost-build s (call l n as′) = cost-matched (matched s (call l n as′)) _ _ (when-sqrt (same (n .bytes) (bytes "sqrt")) l (buildSqrt s l as′) _ λ e. cost-first s l as′)
-  cost-build s (unary l o a) = cost-matched (matched s (unary l o a)) _ _ (then (build s a) _ _ _ (cost-build s a) λ x p. omega arith)
-  cost-build s (binary l o a b) = cost-matched (matched s (binary l o a b)) _ _
-      (then (build s a) _ _ _ (cost-build s a) λ x p. then (build s b) _ _ _ (cost-build s b) λ y q. omega arith)
-  cost-build s (is l a v) = cost-matched (matched s (is l a v)) _ _
-      (then (build s a) _ _ _ (cost-build s a) λ x p. rw (← p) (cost-isOf (isValue v) l v x))
-
-  cost-first : (s : Scope) (l : ℕ) (as′ : Exprs) → Ensures (buildSqrt s l as′) (λ b. count b ≡ costFirst s as′ + 1)
-  cost-first s l nil = refusing unknownFunction l _
-  cost-first s l (cons a as′) = when-one as′ l (build s a) _ λ e. weaken (build s a) _ _ (λ b p. omega arith) (cost-build s a)
+-- an accepted expression has the cells that its cost says
+pub cost-build : (s : Scope) (e : Expr) → Ensures (build s e) (λ b. count b ≡ cost s e)
+cost-build s e = build-by (cost-steps s) e
 
 -- the same of an expression that may be missing
 pub cost-option : (s : Scope) (e : Option Expr) → Ensures (buildOption s e) (λ x. total count (given x) ≡ optionCost s e)

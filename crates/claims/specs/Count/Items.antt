@@ -19,7 +19,7 @@ use Rattle.rules.specs.Items.{starLine, isLone, starredColumn, expandStars, exp
 use Rattle.rules.specs.BuildSelect.{itemBuilt, hiddenBuilt, buildProjection}
 use Rattle.rules.specs.Sizes.{total, itemsSize}
 use Rattle.rules.specs.Count.{cost, itemCost, itemStarred}
-use Rattle.claims.specs.Answers.{Ensures, then, anything, All, all-right}
+use Rattle.claims.specs.Answers.{Ensures, then, All, all-right, past, all-every}
 use Rattle.claims.specs.Count.Totals.{total-append, all-most, each-accepted}
 use Rattle.claims.specs.Count.Costs.{pick-one}
 use Rattle.claims.specs.Count.Arguments.{argumentsCost, arguments-most, argument-bound}
@@ -86,11 +86,6 @@ module _ (f : Expr → ℕ) (one : (l : ℕ) (a : Label) → f (starredColumn l 
       go false h = unfold itemsSize in (omega (arith, all-most (λ (i : Item). f (i .expr)) (λ (i : Item). argumentsCost s (i .expr)) (λ (i : Item). size (i .expr)) (q .items) h))
 
 -- THE PROJECTION
-every : {A : Type 0} (Q : A → Type 0) → ((a : A) → Q a) → (as′ : List A) → All Q as′
-unfolding All
-every Q k [] = tt
-every Q k (a ∷ as′) = (k a, every Q k as′)
-
 item-bound : (g s : Scope) (i : Item) → Ensures (itemBuilt g i) (λ x. cost g (i .expr) + argumentsCost s (i .expr) ≤ 3 * size (i .expr))
 unfolding itemBuilt
 item-bound g s i = then (build g (i .expr)) _ _ _ (argument-bound g s (i .expr)) λ b p. p
@@ -110,8 +105,8 @@ projection-bound q ls n is′ later g s e = go (isLone is′)
 
     go : (b : Bool) → Ensures (elim b [ true ↦ ok (n, g) | false ↦ (each (itemBuilt g) is′ >>= λ xs. hiddenWithin (length is′) (d .columns) >>= λ u. ok (P.project n (xs ++ map hiddenBuilt (d .columns)), d .scope)) ])
         (λ (r : Node Built × Scope). (elim b as (λ x. ℕ) [ true ↦ 0 | false ↦ total (λ (i : Item). cost g (i .expr)) is′ + length (d .columns) ]) + itemsArguments s is′ ≤ 3 * itemsSize (q .items) + starredOver q (length ls) + total size later)
-    go true = omega (arith, bound (λ e. 0) (λ l a. omega arith) (every _ (λ i. omega (arith, arguments-most s (i .expr))) is′))
+    go true = omega (arith, bound (λ e. 0) (λ l a. omega arith) (all-every _ (λ i. omega (arith, arguments-most s (i .expr))) is′))
     go false =
         then (each (itemBuilt g) is′) _ _ _ (each-accepted (itemBuilt g) _ (item-bound g s) is′) λ xs h.
-        then (hiddenWithin (length is′) (d .columns)) _ _ _ (anything (hiddenWithin (length is′) (d .columns))) λ u v.
+        past (hiddenWithin (length is′) (d .columns)) _ _ λ u.
         omega (arith, bound (cost g) (λ l a. omega (arith, starred-cost g l a)) h, hidden-most g is′ later)

@@ -6,16 +6,16 @@ use mathlib.Core.Bool.{Bool, true, false, _&&_}
 use mathlib.Core.List.{List, [], _∷_, _++_, map}
 use mathlib.Core.Option.{Option, none, some}
 use lib.ListN.{length}
-use Rattle.rules.specs.Refusals.{ok, _>>=_, Reason, unknownFunction, argumentCount, nestedAggregate, havingWithoutAggregate, invalidOffset, invalidLimit}
+use Rattle.rules.specs.Refusals.{ok, _>>=_, Reason, havingWithoutAggregate, invalidOffset, invalidLimit}
 use Rattle.rules.specs.Limits.{mostColumns}
-use Rattle.rules.specs.Lists.{given, isEmpty, named, mapOption}
+use Rattle.rules.specs.Lists.{given, isEmpty, mapOption}
 use Rattle.rules.specs.Schema.{Catalog}
-use Rattle.rules.specs.Ast.{Expr, star, column, literal, call, unary, binary, is, Exprs, nil, cons, Item, Key, Clause, Select}
-use Rattle.rules.specs.Plan.{Built, Node, Aggregate, avg, count, max, min, sum, labels}
+use Rattle.rules.specs.Ast.{Expr, star, Item, Key, Clause, Select}
+use Rattle.rules.specs.Plan.{Built, Node, count, labels}
 use Rattle.rules.specs.Plan as P
 use Rattle.rules.specs.Scope.{Scope, empty, spawn, matched, remapHidden}
 use Rattle.rules.specs.BuildExpression.{build, each, buildOption, clauseExpr, constant}
-use Rattle.rules.specs.BuildAggregate.{aggregates, contains, argument, aggregateOf, buildFunction, retain, groupsWithin, buildAggregate, buildGroups}
+use Rattle.rules.specs.BuildAggregate.{aggregates, buildFunction, retain, groupsWithin, buildAggregate, buildGroups}
 use Rattle.rules.specs.BuildFrom.{buildFromClause}
 use Rattle.rules.specs.Items.{isLone, expandedItems, expanded, projected, hiddenWithin}
 use Rattle.rules.specs.BuildSelect.{filtered, laterOf, functionsOf, itemBuilt, hiddenBuilt, buildProjection, buildHaving, keyBuilt, buildOrder, natural, buildRows, buildRemap, buildSelect}
@@ -23,10 +23,11 @@ use Rattle.rules.specs.Cells.{expressions, cellCount, planExpressions, planCell
 use Rattle.rules.specs.Cells as Cells
 use Rattle.rules.specs.Sizes.{total}
 use Rattle.rules.specs.Count.{cost, costFirst, optionCost, joinCost, fromScope, groupScope, argumentCost, groupCost, itemScope, itemCost, countIn, countSelect}
-use Rattle.claims.specs.Answers.{Ensures, then, refusing, anything, both}
-use Rattle.claims.specs.Cases.{unless, provided}
+use Rattle.claims.specs.Answers.{Ensures, then, both, past}
+use Rattle.claims.specs.Cases.{unless}
 use Rattle.claims.specs.Count.Totals.{total-append, total-map, each-total}
 use Rattle.claims.specs.Count.Sums.{cellCount-total, planCells-length}
+use Rattle.claims.specs.Building.Built.{function-by}
 use Rattle.claims.specs.Count.Costs.{cost-build, cost-option, pick-one}
 use Rattle.claims.specs.Count.From.{Counted, fromClause-count}
 use Rattle.claims.specs.Widths.Labels.{from-labels}
@@ -38,36 +39,9 @@ filtered-count n none = omega arith
 filtered-count n (some x) = simp (cellCount-total, total-append)
 
 -- GROUPS AND AGGREGATES
-argument-count : (s : Scope) (g : Aggregate) (e : Expr) → Ensures (argument s g e) (λ b. Cells.count b ≡ cost s e)
-unfolding argument Cells.count cost
-argument-count s count (star l) = sym (pick-one (matched s (star l)))
-argument-count s count (column l t n) = cost-build s (column l t n)
-argument-count s count (literal l v) = cost-build s (literal l v)
-argument-count s count (call l n as′) = cost-build s (call l n as′)
-argument-count s count (unary l o a) = cost-build s (unary l o a)
-argument-count s count (binary l o a b) = cost-build s (binary l o a b)
-argument-count s count (is l a v) = cost-build s (is l a v)
-argument-count s avg e = cost-build s e
-argument-count s max e = cost-build s e
-argument-count s min e = cost-build s e
-argument-count s sum e = cost-build s e
-
-aggregate-count : (s : Scope) (l : ℕ) (g : Aggregate) (as′ : Exprs) → Ensures (aggregateOf s l g as′) (λ f. Cells.count (f .1) ≡ costFirst s as′)
-unfolding aggregateOf cost
-aggregate-count s l g nil = refusing argumentCount l _
-aggregate-count s l g (cons a (cons b bs)) = refusing argumentCount l _
-aggregate-count s l g (cons a nil) = unless (contains a) nestedAggregate l _ _
-    (then (argument s g a) _ _ _ (argument-count s g a) λ x p. p)
-
 function-count : (s : Scope) (e : Expr) → Ensures (buildFunction s e) (λ f. Cells.count (f .1) ≡ argumentCost s e)
-unfolding buildFunction argumentCost
-function-count s (star l) = refusing unknownFunction l _
-function-count s (column l t n) = refusing unknownFunction l _
-function-count s (literal l v) = refusing unknownFunction l _
-function-count s (call l n as′) = provided (named aggregates (n .bytes)) unknownFunction l _ _ λ g h. aggregate-count s l g as′
-function-count s (unary l o a) = refusing unknownFunction l _
-function-count s (binary l o a b) = refusing unknownFunction l _
-function-count s (is l a v) = refusing unknownFunction l _
+unfolding Cells.count cost argumentCost costFirst
+function-count s = function-by s (λ e x. Cells.count x ≡ cost s e) (λ l. sym (pick-one (matched s (star l)))) (cost-build s) (λ e x. Cells.count x ≡ argumentCost s e) λ l n a x g. g
 
 -- the groups and aggregates give their scope, and the cells of each different one
 pub groups-count : (n : Node Built) (gs fs : List Expr) (s : Scope) → Ensures (buildGroups n gs fs s) (Counted (groupScope s gs fs) (cellCount n + groupCost s gs fs))
@@ -86,7 +60,7 @@ groups-count n gs fs s = go (isEmpty gs && isEmpty fs)
     go false =
         then (each (build s) (g .0)) _ _ _ (each-total (build s) Cells.count (cost s) (cost-build s) (g .0)) λ xs hx.
         then (each (buildFunction s) (f .0)) _ _ _ (each-total (buildFunction s) (λ y. Cells.count (y .1)) (argumentCost s) (function-count s) (f .0)) λ ys hy.
-        then (groupsWithin (g .0 ++ f .0)) _ _ _ (anything (groupsWithin (g .0 ++ f .0))) λ u hu.
+        past (groupsWithin (g .0 ++ f .0)) _ _ λ u.
         (refl, simp (cellCount-total, total-append, total-map) (omega arith))
 
 -- ITEMS
@@ -115,7 +89,7 @@ projection-count n is′ later s = go (isLone is′)
     go true = (refl, omega arith)
     go false =
         then (each (itemBuilt s) is′) _ _ _ (each-total (itemBuilt s) (λ x. Cells.count (x .0)) (λ (i : Item). cost s (i .expr)) (item-count s) is′) λ xs hx.
-        then (hiddenWithin (length is′) cs) _ _ _ (anything (hiddenWithin (length is′) cs)) λ u hu.
+        past (hiddenWithin (length is′) cs) _ _ λ u.
         (refl, simp (cellCount-total, total-map, total-append, hidden-count) (omega arith))
 
 -- HAVING, ORDER, OFFSET, LIMIT
@@ -140,8 +114,8 @@ rows-count : (r : Reason) (f : ℕ → Node Built → Node Built) → ((k : ℕ)
 unfolding buildRows
 rows-count r f k n none = refl
 rows-count r f k n (some c) =
-    then (constant (c .expr)) _ _ _ (anything (constant (c .expr))) λ v u.
-    then (natural r (c .line) v) _ _ _ (anything (natural r (c .line) v)) λ m u. k m n
+    past (constant (c .expr)) _ _ λ v.
+    past (natural r (c .line) v) _ _ λ m. k m n
 
 offset-count : (k : ℕ) (n : Node Built) → cellCount (P.offset n k) ≡ cellCount n
 unfolding cellCount expressions

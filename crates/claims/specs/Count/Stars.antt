@@ -1,27 +1,25 @@
 -- The items after star expansion: at most 256, with a column for each column that each star stands for.
-use Prim.Native.Nat.{ℕ, zero, suc, _+_, _≤_}
+use Prim.Native.Nat.{ℕ, _+_, _≤_}
 use native.Mathlib.Omega.{arith}
 use mathlib.Core.Path.{_≡_, refl}
 use mathlib.Core.Bool.{Bool, true, false}
 use mathlib.Core.List.{List, [], _∷_, _++_, map}
 use mathlib.Core.Option.{Option, none, some}
 use lib.ListN.{length, length-append, length-map}
-use Rattle.rules.specs.Refusals.{ok, refuse, limitPassed}
 use Rattle.rules.specs.Limits.{mostColumns}
-use Rattle.rules.specs.Lists.{entryAfter}
 use Rattle.rules.specs.Ast.{Item, Select}
 use Rattle.rules.specs.Plan.{Built, Node, Label, columns, labels}
 use Rattle.rules.specs.Items.{starLine, plainStar, starredColumn, expandStars, expands, expandedItems, starsHaveColumns, itemsWithin, expanded}
 use Rattle.rules.specs.Sizes.{total}
 use Rattle.rules.specs.Count.{itemStarred}
 use Rattle.claims.specs.Count.Within.{items-within}
-use Rattle.claims.specs.Answers.{Ensures, then, refusing, anything}
+use Rattle.claims.specs.Answers.{Ensures, then, past}
 
 -- the items over a node go by its labels, and are at most 256
 pub expanded-items : (q : Select) (n : Node Built) → Ensures (expanded q n) (λ is′. (is′ ≡ expandedItems q (labels n)) × (length is′ ≤ mostColumns))
 unfolding expanded
 expanded-items q n =
-    then (starsHaveColumns (plainStar (q .items)) (columns n)) _ _ _ (anything (starsHaveColumns (plainStar (q .items)) (columns n))) λ u hu.
+    past (starsHaveColumns (plainStar (q .items)) (columns n)) _ _ λ u.
     then (itemsWithin (expandedItems q (labels n))) _ _ _ (items-within (expandedItems q (labels n))) λ v hv. (refl, hv)
 
 -- the count's starred columns, over w columns

@@ -18,7 +18,7 @@ use Rattle.rules.specs.BuildStatement.{buildDelete, columnMap, buildInsert, orD
 use Rattle.rules.specs.Cells.{count, expressions, planExpressions, planCells}
 use Rattle.rules.specs.Sizes.{total, optionSize, clauseSize, rowsSize, setsSize, statementSize}
 use Rattle.rules.specs.Count.{cost, boundSelect}
-use Rattle.claims.specs.Answers.{Ensures, then, refusing, anything, both, weaken}
+use Rattle.claims.specs.Answers.{Ensures, then, refusing, both, weaken, past}
 use Rattle.claims.specs.Count.Totals.{total-append, total-map, total-most, each-total}
 use Rattle.claims.specs.Count.Sums.{planCells-length}
 use Rattle.claims.specs.Count.Costs.{cost-build, cost-option, cost-most, optionCost-most}
@@ -43,7 +43,7 @@ select-cells c q = weaken (buildSelect c q) _ _ (λ p h. omega (arith, h .0, h .
 delete-cells : (c : Catalog) (d : Delete) → Ensures (buildDelete c d) (λ p. length (planCells p) ≤ mostCellsOf (Ast.delete d))
 unfolding buildDelete mostCellsOf statementSize clauseSize planExpressions expressions
 delete-cells c d =
-    then (mustGetTable c (d .line) (d .table .bytes)) _ _ _ (anything (mustGetTable c (d .line) (d .table .bytes))) λ t u.
+    past (mustGetTable c (d .line) (d .table .bytes)) _ _ λ t.
     then (buildOption (fromTable (t .1 .name) (t .1)) (clauseExpr (d .filter))) _ _ _ (cost-option (fromTable (t .1 .name) (t .1)) (clauseExpr (d .filter))) λ w h.
     rw planCells-length (omega (arith, h, optionCost-most (fromTable (t .1 .name) (t .1)) (clauseExpr (d .filter))))
 
@@ -56,8 +56,8 @@ total-concat f (r ∷ rs) = omega (arith, total-append f r (concat rs), total-co
 insert-cells : (c : Catalog) (d : Insert) → Ensures (buildInsert c d) (λ p. length (planCells p) ≤ mostCellsOf (Ast.insert d))
 unfolding buildInsert mostCellsOf statementSize rowsSize planExpressions expressions
 insert-cells c d =
-    then (mustGetTable c (d .line) (d .table .bytes)) _ _ _ (anything (mustGetTable c (d .line) (d .table .bytes))) λ t u.
-    then (columnMap (t .1 .columns) (d .columns)) _ _ _ (anything (columnMap (t .1 .columns) (d .columns))) λ m v.
+    past (mustGetTable c (d .line) (d .table .bytes)) _ _ λ t.
+    past (columnMap (t .1 .columns) (d .columns)) _ _ λ m.
     then (each (each (build empty)) (d .rows)) _ _ _ (each-total (each (build empty)) (total count) (total (cost empty)) (each-total (build empty) count (cost empty) (cost-build empty)) (d .rows)) λ rs h.
     rw (planCells-length, total-concat) (omega (arith, h, total-most (total (cost empty)) (total size) (total-most (cost empty) size (cost-most empty)) (d .rows)))
 
@@ -79,7 +79,7 @@ value-count s cs l i none = default-count (defaultAt cs i)
 set-count : (s : Scope) (cs : List Column) (x : Set) → Ensures (setBuilt s cs x) (λ y. count (y .1) ≡ valueCost s (x .value))
 unfolding setBuilt
 set-count s cs x =
-    then (found (x .line) (lookup s none (x .name))) _ _ _ (anything (found (x .line) (lookup s none (x .name)))) λ i u.
+    past (found (x .line) (lookup s none (x .name))) _ _ λ i.
     then (setValue s cs (x .line) i (x .value)) _ _ _ (value-count s cs (x .line) i (x .value)) λ e h. h
 
 value-most : (s : Scope) (e : Option Expr) → valueCost s e ≤ 3 * optionSize e + 1
@@ -95,7 +95,7 @@ sets-most s (x ∷ xs) = omega (arith, value-most s (x .value), sets-most s xs)
 update-cells : (c : Catalog) (d : Update) → Ensures (buildUpdate c d) (λ p. length (planCells p) ≤ mostCellsOf (Ast.update d))
 unfolding buildUpdate mostCellsOf statementSize clauseSize planExpressions expressions
 update-cells c d =
-    then (mustGetTable c (d .line) (d .table .bytes)) _ _ _ (anything (mustGetTable c (d .line) (d .table .bytes))) λ t u.
+    past (mustGetTable c (d .line) (d .table .bytes)) _ _ λ t.
     let s = fromTable (t .1 .name) (t .1) in
     then (buildOption s (clauseExpr (d .filter))) _ _ _ (cost-option s (clauseExpr (d .filter))) λ w h.
     then (each (setBuilt s (t .1 .columns)) (d .sets)) _ _ _ (each-total (setBuilt s (t .1 .columns)) (λ y. count (y .1)) (λ (x : Set). valueCost s (x .value)) (set-count s (t .1 .columns)) (d .sets)) λ xs k.
@@ -104,8 +104,8 @@ update-cells c d =
 create-cells : (d : Create) → Ensures (buildCreate d) (λ p. length (planCells p) ≤ mostCellsOf (Ast.create d))
 unfolding buildCreate planExpressions total
 create-cells d =
-    then (primaryKey (d .line) (keyColumns 0 (d .columns))) _ _ _ (anything (primaryKey (d .line) (keyColumns 0 (d .columns)))) λ k u.
-    then (each madeColumn (d .columns)) _ _ _ (anything (each madeColumn (d .columns))) λ cs v. rw planCells-length (omega arith)
+    past (primaryKey (d .line) (keyColumns 0 (d .columns))) _ _ λ k.
+    past (each madeColumn (d .columns)) _ _ λ cs. rw planCells-length (omega arith)
 
 -- the cells of every accepted statement are within that
 pub statement-cells : (c : Catalog) (s : Statement) → Ensures (buildStatement c s) (λ p. length (planCells p) ≤ mostCellsOf s)

@@ -1,5 +1,4 @@
 -- The cells of a node and of a plan, as a sum over their expressions.
-use Prim.Native.Nat.{_+_}
 use native.Mathlib.Omega.{arith}
 use mathlib.Core.Path.{_≡_, refl, _∙_}
 use mathlib.Core.List.{List, [], _∷_}

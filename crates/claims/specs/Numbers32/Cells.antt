@@ -6,7 +6,7 @@ use mathlib.Core.List.{List, [], _∷_, map}
 use mathlib.Core.Option.{Option, none, some}
 use lib.IntN.{ℤ, pos, negsuc}
 use lib.Signed.{mag}
-use Rattle.rules.specs.Lists.{given, concat}
+use Rattle.rules.specs.Lists.{concat}
 use Rattle.rules.specs.Lines.{Word}
 use Rattle.rules.specs.Schema.{Value, null, bool, int, float, text}
 use Rattle.rules.specs.Ast.{Unary, not, fact, ident, neg, sqrt, Plain, and, or, eq, gt, lt, add, div, pow, mul, rem, sub, like, Binary, plain, ge, le, ne}
@@ -16,14 +16,14 @@ use Rattle.rules.specs.Plan as P
 use Rattle.rules.specs.Cells.{Cell, added, count, root, operator, cells, countAll, cellsAll}
 use Rattle.rules.specs.Cells as Cells
 use Rattle.rules.specs.Area.{halves, bits, flag, span, optionSpan, valueNumbers, isNumbers, cellNumbers}
-use Rattle.claims.specs.Answers.{All, all-append, all-left, all-right, all-map}
+use Rattle.claims.specs.Answers.{All, Given, all-append, all-map}
 use Rattle.claims.specs.Lists.{all-concat}
 use Rattle.claims.specs.Cells.Length.{count-positive}
-use Rattle.claims.specs.Words.Lists.{itself, valueWords, builtWords}
+use Rattle.claims.specs.Words.Lists.{valueWords}
 use Rattle.claims.specs.Values.Values.{Fits}
 use Rattle.claims.specs.Widths.Below.{Below}
-use Rattle.claims.specs.Area.Proper.{ProperTree}
-use Rattle.claims.specs.Words.Ends.{Ends}
+use Rattle.claims.specs.Building.Has.{TreeHas}
+use Rattle.claims.specs.Words.Ends.{Ends, EndsValue}
 
 -- a number of 32 bits
 abbrev pub Small : ℕ → Type 0
@@ -49,19 +49,19 @@ pub span-small : (w : Word) → Ends w → All Small (span w)
 unfolding span Ends All
 span-small w h = (omega arith, (omega arith, tt))
 
-pub optionSpan-small : (a : Option Word) → All Ends (given a) → All Small (optionSpan a)
-unfolding optionSpan given All
+pub optionSpan-small : (a : Option Word) → Given Ends a → All Small (optionSpan a)
+unfolding optionSpan Given All
 optionSpan-small none h = (omega arith, (omega arith, tt))
-optionSpan-small (some w) h = span-small w (h .0)
+optionSpan-small (some w) h = span-small w h
 
 -- VALUES
-pub value-small : (v : Value) → Fits v → All Ends (valueWords itself v) → All Small (valueNumbers v)
+pub value-small : (v : Value) → EndsValue v → All Small (valueNumbers v)
 unfolding Fits valueWords valueNumbers All
-value-small null h g = (omega arith, (omega arith, (omega arith, (omega arith, tt))))
-value-small (bool b) h g = (omega arith, (flag-small b, (omega arith, (omega arith, tt))))
-value-small (int n) h g = (omega arith, all-append Small (halves (bits n)) _ (halves-small (bits n) (bits-below n h)) (omega arith, tt))
-value-small (float b) h g = (omega arith, all-append Small (halves b) _ (halves-small b h) (omega arith, tt))
-value-small (text w) h g = (omega arith, all-append Small (span w) _ (span-small w (g .0)) (omega arith, tt))
+value-small null h = (omega arith, (omega arith, (omega arith, (omega arith, tt))))
+value-small (bool b) h = (omega arith, (flag-small b, (omega arith, (omega arith, tt))))
+value-small (int n) h = (omega arith, all-append Small (halves (bits n)) _ (halves-small (bits n) (bits-below n (h .0))) (omega arith, tt))
+value-small (float b) h = (omega arith, all-append Small (halves b) _ (halves-small b (h .0)) (omega arith, tt))
+value-small (text w) h = (omega arith, all-append Small (span w) _ (span-small w (h .1 .0)) (omega arith, tt))
 
 is-small : (a : ℕ) (v : Value) → Small a → Fits v → All Small (isNumbers a v)
 unfolding isNumbers Fits All
@@ -114,9 +114,9 @@ operator-small ge n x y l h g = (binary-cell gt x y h g, (binary-cell eq x y h g
 operator-small le n x y l h g = (binary-cell lt x y h g, (binary-cell eq x y h g, (binary-cell or n (n + 1) (omega arith) (omega arith), tt)))
 operator-small ne n x y l h g = (binary-cell eq x y h g, unary-cell not n (omega arith))
 
--- an expression whose constants fit, whose words end in the texts, and whose column numbers are of 32 bits
+-- an expression whose constants fit and end in the texts, and whose column numbers are of 32 bits
 abbrev pub SmallTree : Built → Type 0
-SmallTree x = ProperTree x × All Ends (builtWords itself x) × Below (2 ^ 32) x
+SmallTree x = TreeHas EndsValue x × Below (2 ^ 32) x
 
 pub pred-small : (k : ℕ) → 0 < k → k ≤ 2 ^ 32 → Small (pred k)
 pred-small k h l = omega arith
@@ -126,17 +126,17 @@ unfolding root
 root-small x n h = pred-small (n + count x) (omega (arith, count-positive x)) h
 
 cells-small : (x : Built) (n : ℕ) → n + count x ≤ 2 ^ 32 → SmallTree x → All SmallCell (cells n x)
-unfolding cells count ProperTree builtWords Below cellNumbers All
-cells-small (P.constant v) n l h = (value-small v (h .0) (h .1), tt)
-cells-small (P.column i) n l h = ((omega arith, (h .2, (omega arith, (omega arith, tt)))), tt)
+unfolding cells count TreeHas Below cellNumbers All
+cells-small (P.constant v) n l h = (value-small v (h .0), tt)
+cells-small (P.column i) n l h = ((omega arith, (h .1, (omega arith, (omega arith, tt)))), tt)
 cells-small (P.unary o a) n l h = all-append SmallCell (cells n a) _ (cells-small a n (omega arith) h) (unary-cell o (root n a) (root-small a n (omega arith)))
 cells-small (P.binary o a b) n l h =
-    all-append SmallCell (cells n a) _ (cells-small a n (omega arith) (h .0 .0, all-left Ends (builtWords itself a) _ (h .1), h .2 .0))
-    (all-append SmallCell (cells (n + count a) b) _ (cells-small b (n + count a) (omega arith) (h .0 .1, all-right Ends (builtWords itself a) _ (h .1), h .2 .1))
+    all-append SmallCell (cells n a) _ (cells-small a n (omega arith) (h .0 .0, h .1 .0))
+    (all-append SmallCell (cells (n + count a) b) _ (cells-small b (n + count a) (omega arith) (h .0 .1, h .1 .1))
     (operator-small o _ _ _ (omega arith) (root-small a n (omega arith)) (root-small b (n + count a) (omega arith))))
 cells-small (P.is a v) n l h =
-    all-append SmallCell (cells n a) _ (cells-small a n (omega arith) (h .0 .0, all-left Ends (builtWords itself a) _ (h .1), h .2))
-    (is-small (root n a) v (root-small a n (omega arith)) (h .0 .2), tt)
+    all-append SmallCell (cells n a) _ (cells-small a n (omega arith) (h .0 .0, h .1))
+    (is-small (root n a) v (root-small a n (omega arith)) (h .0 .2 .0), tt)
 
 cellsAll-small : (xs : List Built) (n : ℕ) → n + countAll xs ≤ 2 ^ 32 → All SmallTree xs → All SmallCell (cellsAll n xs)
 unfolding cellsAll countAll All
@@ -144,5 +144,5 @@ cellsAll-small [] n l h = tt
 cellsAll-small (x ∷ xs) n l h = all-append SmallCell (cells n x) _ (cells-small x n (omega arith) (h .0)) (cellsAll-small xs (n + count x) (omega arith) (h .1))
 
 -- the numbers of all cells
-pub numbers-small : (xs : List Built) → countAll xs ≤ 2 ^ 32 → All SmallTree xs → All Small (concat (map cellNumbers (cellsAll 0 xs)))
-numbers-small xs l h = all-concat Small _ (all-map (All Small) cellNumbers SmallCell (λ c g. g) (cellsAll 0 xs) (cellsAll-small xs 0 (omega arith) h))
+pub all-cells-small : (xs : List Built) → countAll xs ≤ 2 ^ 32 → All SmallTree xs → All Small (concat (map cellNumbers (cellsAll 0 xs)))
+all-cells-small xs l h = all-concat Small _ (all-map (All Small) cellNumbers SmallCell (λ c g. g) (cellsAll 0 xs) (cellsAll-small xs 0 (omega arith) h))

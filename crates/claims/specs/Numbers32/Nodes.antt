@@ -1,4 +1,4 @@
--- The numbers of a plan's node records are of 32 bits, where its expressions' numbers are few and its node is proper.
+-- The numbers of a plan's node records are of 32 bits, where its expressions' numbers are few and its values and names fit.
 use Prim.Native.Nat.{ℕ, _+_, pred, _^_, _≤_, _<_}
 use native.Mathlib.Omega.{arith}
 use mathlib.Core.Bool.{Bool}
@@ -6,21 +6,20 @@ use mathlib.Core.List.{List, [], _∷_, _++_, map}
 use mathlib.Core.Option.{Option, none, some}
 use lib.ListN.{length, length-append, length-map}
 use Rattle.rules.specs.Limits.{mostTables, leastArea}
-use Rattle.rules.specs.Lists.{given, concat}
+use Rattle.rules.specs.Lists.{concat}
 use Rattle.rules.specs.Lines.{Word}
 use Rattle.rules.specs.Schema.{Catalog}
 use Rattle.rules.specs.Plan.{Built, Aggregate, avg, count, max, min, sum, Node, targetCount}
 use Rattle.rules.specs.Plan as P
 use Rattle.rules.specs.Cells.{countAll, roots, expressions, cellCount, numberGiven, numberFirst, numberSecond, numberNode}
-use Rattle.rules.specs.Cells as Cells
 use Rattle.rules.specs.Nodes.{NodeRecord, scan, values, join, filter, aggregate, project, order, offset, limit, remap, nodes, last, records}
 use Rattle.rules.specs.Area.{optionSpan, optionNumber, aggregateCode, rowNumbers, functionNumbers, itemNumbers, keyNumbers, sized, recordNumbers}
 use Rattle.claims.specs.Answers.{All, Given, all-append, all-left, all-right, all-weaken}
 use Rattle.claims.specs.Lists.{all-both, all-given, entry-below, map-all, concat-all}
-use Rattle.claims.specs.Words.Lists.{words-all}
-use Rattle.claims.specs.Words.Parts.{nodeAliases}
-use Rattle.claims.specs.Area.Proper.{ProperNode}
-use Rattle.claims.specs.Words.Ends.{Ends}
+use Rattle.claims.specs.Cells.Roots.{first-kept}
+use Rattle.claims.specs.Values.Values.{Fits}
+use Rattle.claims.specs.Building.Has.{NodeHas}
+use Rattle.claims.specs.Words.Ends.{Ends, EndsValue}
 use Rattle.claims.specs.Numbers32.Cells.{Small, halves-small, flag-small, optionSpan-small}
 
 -- a number of the area's least length
@@ -32,12 +31,12 @@ few-small ns h = all-weaken Few Small (λ n l. omega arith) ns h
 
 -- what makes a record's numbers small, but for its lengths
 unfoldable pub SmallRecord : NodeRecord → Type 0
-SmallRecord (scan k t a x) = Small k × All Ends (given a) × Given Few x
+SmallRecord (scan k t a x) = Small k × Given Ends a × Given Few x
 SmallRecord (values rs) = All (All Few) rs
 SmallRecord (join a b x o) = Small a × Small b × Given Few x
 SmallRecord (filter n x) = Small n × Few x
 SmallRecord (aggregate n gs fs) = Small n × All Few gs × All (λ f. Few (f .1)) fs
-SmallRecord (project n xs) = Small n × All (λ x. Few (x .0) × All Ends (given (x .1))) xs
+SmallRecord (project n xs) = Small n × All (λ x. Few (x .0) × Given Ends (x .1)) xs
 SmallRecord (order n xs) = Small n × All (λ x. Few (x .0)) xs
 SmallRecord (offset n k) = Small n × (k < 2 ^ 64)
 SmallRecord (limit n k) = Small n × (k < 2 ^ 64)
@@ -67,7 +66,7 @@ unfolding functionNumbers All
 functions-small [] h = tt
 functions-small (f ∷ fs) h = (aggregate-small (f .0), (omega (arith, h .0), functions-small fs (h .1)))
 
-items-small : (xs : List (ℕ × Option Word)) → All (λ x. Few (x .0) × All Ends (given (x .1))) xs → All Small (itemNumbers xs)
+items-small : (xs : List (ℕ × Option Word)) → All (λ x. Few (x .0) × Given Ends (x .1)) xs → All Small (itemNumbers xs)
 unfolding itemNumbers All
 items-small [] h = tt
 items-small (x ∷ xs) h = (omega (arith, h .0 .0), all-append Small (optionSpan (x .1)) _ (optionSpan-small (x .1) (h .0 .1)) (items-small xs (h .1)))
@@ -110,17 +109,6 @@ nodes-small (r ∷ rs) l h =
     all-append Small (recordNumbers r) _ (record-small r (omega arith) (h .0)) (nodes-small rs (omega arith) (h .1))
 
 -- NODES
--- numbering leaves the other parts as they are
-first-kept : {B : Type 0} (Q : B → Type 0) (xs : List (Built × B)) (i : ℕ) → All (λ x. Q (x .1)) xs → All (λ x. Q (x .1)) (numberFirst i xs)
-unfolding numberFirst All
-first-kept Q [] i h = tt
-first-kept Q (x ∷ xs) i h = (h .0, first-kept Q xs (i + Cells.count (x .0)) (h .1))
-
-pub second-kept : {B : Type 0} (Q : B → Type 0) (xs : List (B × Built)) (i : ℕ) → All (λ x. Q (x .0)) xs → All (λ x. Q (x .0)) (numberSecond i xs)
-unfolding numberSecond All
-second-kept Q [] i h = tt
-second-kept Q (x ∷ xs) i h = (h .0, second-kept Q xs (i + Cells.count (x .1)) (h .1))
-
 last-small : (m : Node ℕ) (k : ℕ) → Small (k + nodes m) → Small (last k m)
 unfolding last
 last-small m k = go (k + nodes m)
@@ -139,36 +127,36 @@ both-sources : (m r : Node ℕ) (k : ℕ) (x : Option ℕ) (o : Bool) → Small 
 unfolding records SmallRecord
 both-sources m r k x o l h g e = all-append SmallRecord (records k m) _ h (behind r (k + nodes m) _ g (last-small m k (omega arith), last-small r (k + nodes m) (omega arith), e))
 
--- the records of a proper node with few expression numbers
+-- the records of a node with few expression numbers
 module _ (ts : Catalog) (limited : length ts ≤ mostTables) where
-  pub records-small : (n : Node Built) (i k : ℕ) → Small (k + nodes (numberNode i n)) → All Few (expressions (numberNode i n)) → ProperNode ts n → All Ends (nodeAliases n)
+  pub records-small : (n : Node Built) (i k : ℕ) → Small (k + nodes (numberNode i n)) → All Few (expressions (numberNode i n)) → NodeHas EndsValue Ends ts n
       → All SmallRecord (records k (numberNode i n))
-  unfolding records numberNode nodes expressions ProperNode nodeAliases SmallRecord All
-  records-small (P.scan j t a x) i k l e h g = ((omega (arith, entry-below ts j t (h .0)), g, all-given Few _ e), tt)
-  records-small (P.values rs) i k l e h g = (concat-all Few _ e, tt)
-  records-small (P.join a b x o) i k l e h g =
+  unfolding records numberNode nodes expressions NodeHas Fits SmallRecord All
+  records-small (P.scan j t a x) i k l e h = ((omega (arith, entry-below ts j t (h .0)), h .2, all-given Few _ e), tt)
+  records-small (P.values rs) i k l e h = (concat-all Few _ e, tt)
+  records-small (P.join a b x o) i k l e h =
       let e₁ = all-right Few (expressions (numberNode i a)) _ e in
       both-sources (numberNode i a) (numberNode (i + cellCount a) b) k (numberGiven (i + cellCount a + cellCount b) x) o l
-      (records-small a i k (omega arith) (all-left Few (expressions (numberNode i a)) _ e) (h .0) (all-left Ends (nodeAliases a) _ g))
-      (records-small b (i + cellCount a) (k + nodes (numberNode i a)) (omega arith) (all-left Few (expressions (numberNode (i + cellCount a) b)) _ e₁) (h .1) (all-right Ends (nodeAliases a) _ g))
+      (records-small a i k (omega arith) (all-left Few (expressions (numberNode i a)) _ e) (h .0))
+      (records-small b (i + cellCount a) (k + nodes (numberNode i a)) (omega arith) (all-left Few (expressions (numberNode (i + cellCount a) b)) _ e₁) (h .1))
       (all-given Few _ (all-right Few (expressions (numberNode (i + cellCount a) b)) _ e₁))
-  records-small (P.filter n x) i k l e h g =
-      behind (numberNode i n) k _ (records-small n i k (omega arith) (all-left Few (expressions (numberNode i n)) _ e) (h .0) g) (last-small (numberNode i n) k (omega arith), all-right Few (expressions (numberNode i n)) _ e .0)
-  records-small (P.aggregate n gs fs) i k l e h g =
+  records-small (P.filter n x) i k l e h =
+      behind (numberNode i n) k _ (records-small n i k (omega arith) (all-left Few (expressions (numberNode i n)) _ e) (h .0)) (last-small (numberNode i n) k (omega arith), all-right Few (expressions (numberNode i n)) _ e .0)
+  records-small (P.aggregate n gs fs) i k l e h =
       let e₁ = all-right Few (expressions (numberNode i n)) _ e in
       let groups = roots (i + cellCount n) gs in
-      behind (numberNode i n) k _ (records-small n i k (omega arith) (all-left Few (expressions (numberNode i n)) _ e) (h .0) g)
+      behind (numberNode i n) k _ (records-small n i k (omega arith) (all-left Few (expressions (numberNode i n)) _ e) (h .0))
       (last-small (numberNode i n) k (omega arith), all-left Few groups _ e₁, map-all Few (λ (f : Aggregate × ℕ). f .1) (numberSecond (i + cellCount n + countAll gs) fs) (all-right Few groups _ e₁))
-  records-small (P.project n xs) i k l e h g =
+  records-small (P.project n xs) i k l e h =
       let items = numberFirst (i + cellCount n) xs in
-      behind (numberNode i n) k _ (records-small n i k (omega arith) (all-left Few (expressions (numberNode i n)) _ e) (h .0) (all-left Ends (nodeAliases n) _ g)) (
+      behind (numberNode i n) k _ (records-small n i k (omega arith) (all-left Few (expressions (numberNode i n)) _ e) (h .0)) (
         last-small (numberNode i n) k (omega arith),
         all-both _ _ items (map-all Few (λ (x : ℕ × Option Word). x .0) items (all-right Few (expressions (numberNode i n)) _ e))
-            (first-kept (λ a. All Ends (given a)) xs (i + cellCount n) (words-all Ends (λ x. given (x .1)) xs (all-right Ends (nodeAliases n) _ g))),
+            (first-kept (Given Ends) xs (i + cellCount n) (all-weaken _ _ (λ x g. g .1) xs (h .1))),
       )
-  records-small (P.order n xs) i k l e h g =
-      behind (numberNode i n) k _ (records-small n i k (omega arith) (all-left Few (expressions (numberNode i n)) _ e) (h .0) g)
+  records-small (P.order n xs) i k l e h =
+      behind (numberNode i n) k _ (records-small n i k (omega arith) (all-left Few (expressions (numberNode i n)) _ e) (h .0))
       (last-small (numberNode i n) k (omega arith), map-all Few (λ (x : ℕ × Bool). x .0) (numberFirst (i + cellCount n) xs) (all-right Few (expressions (numberNode i n)) _ e))
-  records-small (P.offset n j) i k l e h g = behind (numberNode i n) k _ (records-small n i k (omega arith) e (h .0) g) (last-small (numberNode i n) k (omega arith), omega (arith, h .1))
-  records-small (P.limit n j) i k l e h g = behind (numberNode i n) k _ (records-small n i k (omega arith) e (h .0) g) (last-small (numberNode i n) k (omega arith), omega (arith, h .1))
-  records-small (P.remap n xs) i k l e h g = behind (numberNode i n) k _ (records-small n i k (omega arith) e (h .0) g) (last-small (numberNode i n) k (omega arith), h .1)
+  records-small (P.offset n j) i k l e h = behind (numberNode i n) k _ (records-small n i k (omega arith) e (h .0)) (last-small (numberNode i n) k (omega arith), omega (arith, h .1 .0))
+  records-small (P.limit n j) i k l e h = behind (numberNode i n) k _ (records-small n i k (omega arith) e (h .0)) (last-small (numberNode i n) k (omega arith), omega (arith, h .1 .0))
+  records-small (P.remap n xs) i k l e h = behind (numberNode i n) k _ (records-small n i k (omega arith) e (h .0)) (last-small (numberNode i n) k (omega arith), h .1)

@@ -1,27 +1,26 @@
 -- A statement's own numbers are of 32 bits.
-use Prim.Native.Nat.{ℕ, _≤_, _<_}
+use Prim.Native.Nat.{ℕ, _≤_}
 use native.Mathlib.Omega.{arith}
-use mathlib.Core.List.{List, [], _∷_, map}
+use mathlib.Core.List.{List, [], _∷_}
 use mathlib.Core.Option.{Option, none, some}
 use lib.ListN.{length}
 use Rattle.rules.specs.Limits.{mostTables, leastArea}
-use Rattle.rules.specs.Lists.{given, concat}
 use Rattle.rules.specs.Schema.{Value, Datatype, boolean, integer, floating, string, Catalog}
 use Rattle.rules.specs.Plan.{Built, Made, Plan}
 use Rattle.rules.specs.Plan as P
 use Rattle.rules.specs.Cells.{expressions, planExpressions, cellCount, numberSecond, numberNode, numberPlan}
 use Rattle.rules.specs.Area.{span, optionSpan, pairs, mapNumbers, typeCode, defaultNumbers, madeNumbers, ownNumbers}
-use Rattle.claims.specs.Answers.{All, Given, all-append, all-left, all-right, all-weaken}
-use Rattle.claims.specs.Lists.{all-both, entry-has, entry-below, map-all}
+use Rattle.claims.specs.Answers.{All, Given, all-append, all-right, all-weaken, all-map}
+use Rattle.claims.specs.Lists.{all-both, all-concat, entry-has, entry-below, map-all}
+use Rattle.claims.specs.Cells.Roots.{second-kept}
 use Rattle.claims.specs.Reading.Catalog.{LimitedTable}
-use Rattle.claims.specs.Words.Lists.{itself, wordsOf, valueWords, madeWords, planWordsBy, planWords}
 use Rattle.claims.specs.Widths.Bounded.{PlanBounded}
 use Rattle.claims.specs.Room.Nodes.{second-size, mapRoom, ownRoom}
-use Rattle.claims.specs.Values.Values.{Fits}
-use Rattle.claims.specs.Area.Proper.{ProperPlan}
-use Rattle.claims.specs.Words.Ends.{Ends}
+use Rattle.claims.specs.Building.Has.{MadeHas, PlanHas}
+use Rattle.claims.specs.Building.Positions.{Mapped}
+use Rattle.claims.specs.Words.Ends.{Ends, EndsValue}
 use Rattle.claims.specs.Numbers32.Cells.{Small, flag-small, span-small, optionSpan-small, value-small}
-use Rattle.claims.specs.Numbers32.Nodes.{Few, second-kept}
+use Rattle.claims.specs.Numbers32.Nodes.{Few}
 
 -- CREATE
 type-small : (t : Datatype) → Small (typeCode t)
@@ -31,14 +30,14 @@ type-small integer = omega arith
 type-small floating = omega arith
 type-small string = omega arith
 
-default-small : (d : Option Value) → Given Fits d → All Ends (wordsOf (valueWords itself) (given d)) → All Small (defaultNumbers d)
-unfolding defaultNumbers Given given wordsOf All
-default-small none h g = (omega arith, (omega arith, (omega arith, (omega arith, tt))))
-default-small (some v) h g = value-small v h (all-left Ends (valueWords itself v) [] g)
+default-small : (d : Option Value) → Given EndsValue d → All Small (defaultNumbers d)
+unfolding defaultNumbers Given All
+default-small none h = (omega arith, (omega arith, (omega arith, (omega arith, tt))))
+default-small (some v) h = value-small v h
 
-made-small : (c : Made) → Given Fits (c .default) → All Ends (madeWords itself c) → All Small (madeNumbers c)
-unfolding madeNumbers madeWords All
-made-small c h g = all-append Small (span (c .name)) _ (span-small (c .name) (g .0)) (
+made-small : (c : Made) → MadeHas EndsValue Ends c → All Small (madeNumbers c)
+unfolding madeNumbers All
+made-small c h = all-append Small (span (c .name)) _ (span-small (c .name) (h .1)) (
   type-small (c .type),
   (
     flag-small (c .nullable),
@@ -46,16 +45,11 @@ made-small c h g = all-append Small (span (c .name)) _ (span-small (c .name) (g 
       flag-small (c .unique),
       (
         flag-small (c .index),
-        all-append Small (optionSpan (c .reference)) _ (optionSpan-small (c .reference) (all-left Ends (given (c .reference)) _ (g .1))) (default-small (c .default) h (all-right Ends (given (c .reference)) _ (g .1))),
+        all-append Small (optionSpan (c .reference)) _ (optionSpan-small (c .reference) (h .2)) (default-small (c .default) (h .0)),
       ),
     ),
   ),
 )
-
-mades-small : (cs : List Made) → All (λ (c : Made). Given Fits (c .default)) cs → All Ends (wordsOf (madeWords itself) cs) → All Small (concat (map madeNumbers cs))
-unfolding concat wordsOf All
-mades-small [] h g = tt
-mades-small (c ∷ cs) h g = all-append Small (madeNumbers c) _ (made-small c (h .0) (all-left Ends (madeWords itself c) _ g)) (mades-small cs (h .1) (all-right Ends (madeWords itself c) _ g))
 
 -- INSERT AND UPDATE
 pairs-small : (xs : List (ℕ × ℕ)) → All (λ x. Small (x .0) × Small (x .1)) xs → All Small (pairs xs)
@@ -63,19 +57,19 @@ unfolding pairs All
 pairs-small [] h = tt
 pairs-small (x ∷ xs) h = (h .0 .0, (h .0 .1, pairs-small xs (h .1)))
 
-map-small : (w : ℕ) → w ≤ 64 → (m : Option (List (ℕ × ℕ))) → mapRoom m ≤ leastArea → Given (λ m. All (λ e. (e .0 < w) × (e .1 < length m)) m) m → All Small (mapNumbers m)
+map-small : (w : ℕ) → w ≤ 64 → (m : Option (List (ℕ × ℕ))) → mapRoom m ≤ leastArea → Given (Mapped w) m → All Small (mapNumbers m)
 unfolding mapNumbers mapRoom Given All
 map-small w k none l h = (omega arith, tt)
 map-small w k (some m) l h = (omega arith, pairs-small m (all-weaken _ _ (λ e g. (omega arith, omega arith)) m h))
 
 module _ (ts : Catalog) (few : length ts ≤ mostTables) (limited : All LimitedTable ts) where
-  -- the own numbers of a proper plan that fits in the area
-  pub own-small : (p : Plan Built) → ownRoom p ≤ leastArea → ProperPlan ts p → PlanBounded p → All Ends (planWords p) → All Few (planExpressions (numberPlan p)) → All Small (ownNumbers (numberPlan p))
-  unfolding ownNumbers numberPlan ownRoom ProperPlan planWordsBy planExpressions All
-  own-small (P.select n) l h b w e = tt
-  own-small (P.delete i t n) l h b w e = (omega (arith, entry-below ts i t (h .0)), (omega (arith, entry-has LimitedTable ts i t limited (h .0)), tt))
-  own-small (P.insert i t m n) l h b w e = (omega (arith, entry-below ts i t (h .0)), map-small (length (t .columns)) (entry-has LimitedTable ts i t limited (h .0) .1) m (omega arith) (h .2))
-  own-small (P.update i t n xs) l h b w e =
+  -- the own numbers of a plan that fits in the area
+  pub own-small : (p : Plan Built) → ownRoom p ≤ leastArea → PlanHas EndsValue Ends ts p → PlanBounded p → All Few (planExpressions (numberPlan p)) → All Small (ownNumbers (numberPlan p))
+  unfolding ownNumbers numberPlan ownRoom PlanHas planExpressions All
+  own-small (P.select n) l h b e = tt
+  own-small (P.delete i t n) l h b e = (omega (arith, entry-below ts i t (h .0)), (omega (arith, entry-has LimitedTable ts i t limited (h .0)), tt))
+  own-small (P.insert i t m n) l h b e = (omega (arith, entry-below ts i t (h .0)), map-small (length (t .columns)) (entry-has LimitedTable ts i t limited (h .0) .1) m (omega arith) (h .2))
+  own-small (P.update i t n xs) l h b e =
       let k = entry-has LimitedTable ts i t limited (h .0) in
       let ys = numberSecond (cellCount n) xs in (
         omega (arith, entry-below ts i t (h .0)),
@@ -89,5 +83,5 @@ module _ (ts : Catalog) (few : length ts ≤ mostTables) (limited : All LimitedT
           ),
         ),
       )
-  own-small (P.create n k cs) l h b w e = all-append Small (span n) _ (span-small n (w .0)) (omega (arith, h .0), (omega arith, mades-small cs (h .1) (w .1)))
-  own-small (P.drop n y) l h b w e = all-append Small (span n) _ (span-small n (w .0)) (flag-small y, tt)
+  own-small (P.create n k cs) l h b e = all-append Small (span n) _ (span-small n (h .2)) (omega (arith, h .0), (omega arith, all-concat Small _ (all-map (All Small) madeNumbers _ made-small cs (h .1))))
+  own-small (P.drop n y) l h b e = all-append Small (span n) _ (span-small n h) (flag-small y, tt)

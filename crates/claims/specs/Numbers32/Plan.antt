@@ -8,7 +8,6 @@ use Rattle.rules.specs.Limits.{mostBytes, mostTables, leastArea}
 use Rattle.rules.specs.Lists.{Bytes}
 use Rattle.rules.specs.Schema.{Catalog}
 use Rattle.rules.specs.ReadCatalog.{readCatalog}
-use Rattle.rules.specs.ReadStatement.{readStatement}
 use Rattle.rules.specs.Plan.{Built, Node, Plan}
 use Rattle.rules.specs.Plan as P
 use Rattle.rules.specs.Cells.{expressions, planExpressions, planCells, numberNode, numberPlan}
@@ -23,17 +22,13 @@ use Rattle.claims.specs.Cells.Blocks.{Inside, roots-inside}
 use Rattle.claims.specs.Reading.Catalog.{LimitedTable, catalog-limited}
 use Rattle.claims.specs.Widths.Bounded.{PlanBounded}
 use Rattle.claims.specs.Room.Nodes.{nodeRoom, number-room, planNodeRoom, plan-room}
-use Rattle.claims.specs.Words.Lists.{itself, planWords}
-use Rattle.claims.specs.Words.Parts.{planAliases, plan-aliases, plan-expressions}
-use Rattle.claims.specs.Words.Build.{past}
-use Rattle.claims.specs.Widths.Statements.{widths}
+use Rattle.claims.specs.Widths.Statements.{plan-bounded}
+use Rattle.claims.specs.Building.Has.{PlanHas}
 use Rattle.claims.specs.Room.Statements.{room}
 use Rattle.claims.specs.Area.Accepted.{catalog-read}
-use Rattle.claims.specs.Area.Proper.{ProperPlan}
-use Rattle.claims.specs.Area.ProperPlan.{plan-proper}
-use Rattle.claims.specs.Area.PlanReadable.{plan-trees}
-use Rattle.claims.specs.Words.Ends.{Ends, words-end}
-use Rattle.claims.specs.Numbers32.Cells.{Small, SmallTree, numbers-small}
+use Rattle.claims.specs.Words.Parts.{plan-trees}
+use Rattle.claims.specs.Words.Ends.{Ends, EndsValue, plan-ends}
+use Rattle.claims.specs.Numbers32.Cells.{Small, SmallTree, all-cells-small}
 use Rattle.claims.specs.Numbers32.Nodes.{Few, SmallRecord, nodes-small, records-small}
 use Rattle.claims.specs.Numbers32.Widths.{plan-narrow}
 use Rattle.claims.specs.Numbers32.Own.{own-small}
@@ -95,41 +90,35 @@ header-small p l =
     (omega arith, (code-small p, (omega (arith, plan-room p), (omega (arith, plan-room p, records-most p), (omega (arith, start-is p, parts-length p), (omega (arith, start-is p, parts-length p), tt))))))
 
 -- NODES
-records-proper : (ts : Catalog) → length ts ≤ mostTables → (p : Plan Built) → planNodeRoom p ≤ leastArea → ProperPlan ts p → All Ends (planAliases p) → All Few (planExpressions (numberPlan p))
+records-fit : (ts : Catalog) → length ts ≤ mostTables → (p : Plan Built) → planNodeRoom p ≤ leastArea → PlanHas EndsValue Ends ts p → All Few (planExpressions (numberPlan p))
     → All SmallRecord (planRecords (numberPlan p))
-unfolding planRecords nodeRecords nodeOf numberPlan planNodeRoom ProperPlan planAliases planExpressions All
-records-proper ts k (P.select n) l h a e = records-small ts k n 0 0 (omega (arith, numbered-room n)) e h a
-records-proper ts k (P.delete i t n) l h a e = records-small ts k n 0 0 (omega (arith, numbered-room n)) e (h .1) a
-records-proper ts k (P.insert i t m n) l h a e = records-small ts k n 0 0 (omega (arith, numbered-room n)) e (h .1) a
-records-proper ts k (P.update i t n xs) l h a e = records-small ts k n 0 0 (omega (arith, numbered-room n)) (all-left Few (expressions (numberNode 0 n)) _ e) (h .1) a
-records-proper ts k (P.create n j cs) l h a e = tt
-records-proper ts k (P.drop n y) l h a e = tt
+unfolding planRecords nodeRecords nodeOf numberPlan planNodeRoom PlanHas planExpressions All
+records-fit ts k (P.select n) l h e = records-small ts k n 0 0 (omega (arith, numbered-room n)) e h
+records-fit ts k (P.delete i t n) l h e = records-small ts k n 0 0 (omega (arith, numbered-room n)) e (h .1)
+records-fit ts k (P.insert i t m n) l h e = records-small ts k n 0 0 (omega (arith, numbered-room n)) e (h .1)
+records-fit ts k (P.update i t n xs) l h e = records-small ts k n 0 0 (omega (arith, numbered-room n)) (all-left Few (expressions (numberNode 0 n)) _ e) (h .1)
+records-fit ts k (P.create n j cs) l h e = tt
+records-fit ts k (P.drop n y) l h e = tt
 
 -- THE WHOLE
-numbers-proper : (ts : Catalog) → length ts ≤ mostTables → All LimitedTable ts → (p : Plan Built) → length (planNumbers p) ≤ leastArea → ProperPlan ts p → PlanBounded p → All Ends (planWords p)
+numbers-small : (ts : Catalog) → length ts ≤ mostTables → All LimitedTable ts → (p : Plan Built) → length (planNumbers p) ≤ leastArea → PlanHas EndsValue Ends ts p → PlanBounded p
     → All Small (planNumbers p)
 unfolding planNumbers cellPart nodePart planCells
-numbers-proper ts k limited p l h b w =
+numbers-small ts k limited p l h b =
     let r = plan-room p in
     let e : All Few (planExpressions (numberPlan p)) = all-weaken _ Few (λ i g. omega arith) (planExpressions (numberPlan p)) (inside-all (length (planCells p)) (planExpressions (numberPlan p)) (roots-inside p)) in
-    let trees : All SmallTree (planExpressions p) = all-weaken _ SmallTree (λ x g. (g .0, g .1 .0, g .1 .1)) (planExpressions p)
-    (all-both _ _ (planExpressions p) (plan-trees ts p h) (all-both _ _ (planExpressions p) (plan-expressions itself Ends p w) (plan-narrow ts limited p (omega arith) h b))) in
+    let trees : All SmallTree (planExpressions p) = all-both _ _ (planExpressions p) (plan-trees _ _ ts p h) (plan-narrow ts limited p (omega arith) h b) in
     all-append Small (header p) _ (header-small p l)
-    (all-append Small (cellPart p) _ (numbers-small (planExpressions p) (omega (arith, cellsAll-length (planExpressions p) 0)) trees)
-    (all-append Small (nodePart p) _ (nodes-small (planRecords (numberPlan p)) (omega (arith, parts-length p)) (records-proper ts k p (omega arith) h (plan-aliases itself Ends p w) e))
-    (own-small ts k limited p (omega arith) h b w e)))
-
-plan-bounded : (c q : Bytes) → Ensures (planOf c q) PlanBounded
-unfolding planOf
-plan-bounded c q = past (readCatalog c) _ _ λ ts. past (readStatement q) _ _ λ s. widths ts s
+    (all-append Small (cellPart p) _ (all-cells-small (planExpressions p) (omega (arith, cellsAll-length (planExpressions p) 0)) trees)
+    (all-append Small (nodePart p) _ (nodes-small (planRecords (numberPlan p)) (omega (arith, parts-length p)) (records-fit ts k p (omega arith) h e))
+    (own-small ts k limited p (omega arith) h b e)))
 
 -- the numbers of every accepted plan are of 32 bits
 pub numbers-fit : (c q : Bytes) → length c ≤ mostBytes → length q ≤ mostBytes → Ensures (planOf c q) (λ p. All (λ n. n < 2 ^ 32) (planNumbers p))
 numbers-fit c q l m = ensures (planOf c q) _ λ p e.
     let ts = catalog-read c q p e in
     let limits = ensured (readCatalog c) _ (catalog-limited c) (ts .0) (ts .1) in
-    numbers-proper (ts .0) (limits .0) (limits .1) p
+    numbers-small (ts .0) (limits .0) (limits .1) p
     (ensured (planOf c q) _ (room c q) p e)
-    (ensured (planOf c q) _ (plan-proper c q (ts .0) (ts .1)) p e)
+    (ensured (planOf c q) _ (plan-ends c q l m (ts .0) (ts .1)) p e)
     (ensured (planOf c q) _ (plan-bounded c q) p e)
-    (ensured (planOf c q) _ (words-end c q l m) p e)

@@ -8,14 +8,13 @@ use Rattle.rules.specs.Plan.{Built, Node, Plan, firstRow, columns}
 use Rattle.rules.specs.Plan as P
 use Rattle.rules.specs.Cells.{expressions, planExpressions}
 use Rattle.claims.specs.Answers.{All, all-append, all-weaken, all-map}
-use Rattle.claims.specs.Lists.{all-concat, given-all, entry-has}
-use Rattle.claims.specs.Words.Lists.{all-none, all-one}
-use Rattle.claims.specs.Words.Fields.{given-weaken}
+use Rattle.claims.specs.Lists.{all-none, all-one, all-concat, given-all, given-weaken, entry-has}
 use Rattle.claims.specs.Reading.Catalog.{LimitedTable}
 use Rattle.claims.specs.Widths.Below.{Below}
 use Rattle.claims.specs.Widths.Bounded.{Bounded, PlanBounded}
 use Rattle.claims.specs.Room.Nodes.{rowsRoom, nodeRoom, planNodeRoom}
-use Rattle.claims.specs.Area.Proper.{ProperNode, ProperPlan}
+use Rattle.claims.specs.Building.Has.{NodeHas, PlanHas}
+use Rattle.claims.specs.Words.Ends.{Ends, EndsValue}
 
 -- below a greater number
 below-more : (v w : ℕ) → v ≤ w → (x : Built) → Below v x → Below w x
@@ -33,8 +32,8 @@ firstRow-most (r ∷ rs) = omega arith
 
 module _ (ts : Catalog) (limited : All LimitedTable ts) where
   -- a node is at most eleven times as wide as it has numbers: a scan has 6 and at most 64 columns
-  columns-most : (n : Node Built) → ProperNode ts n → columns n ≤ 11 * nodeRoom n
-  unfolding columns nodeRoom ProperNode
+  columns-most : (n : Node Built) → NodeHas EndsValue Ends ts n → columns n ≤ 11 * nodeRoom n
+  unfolding columns nodeRoom NodeHas
   columns-most (P.scan i t a x) h = omega (arith, entry-has LimitedTable ts i t limited (h .0) .1)
   columns-most (P.values rs) h = omega (arith, firstRow-most rs)
   columns-most (P.join a b x o) h = omega (arith, columns-most a (h .0), columns-most b (h .1))
@@ -50,11 +49,11 @@ module _ (ts : Catalog) (limited : All LimitedTable ts) where
   abbrev Narrow : Built → Type 0
   Narrow x = Below (2 ^ 32) x
 
-  narrow : (n : Node Built) → nodeRoom n ≤ leastArea → ProperNode ts n → (x : Built) → Below (columns n) x → Narrow x
+  narrow : (n : Node Built) → nodeRoom n ≤ leastArea → NodeHas EndsValue Ends ts n → (x : Built) → Below (columns n) x → Narrow x
   narrow n l h = below-more (columns n) (2 ^ 32) (omega (arith, columns-most n h))
 
-  node-narrow : (n : Node Built) → nodeRoom n ≤ leastArea → ProperNode ts n → Bounded n → All Narrow (expressions n)
-  unfolding expressions nodeRoom ProperNode Bounded columns
+  node-narrow : (n : Node Built) → nodeRoom n ≤ leastArea → NodeHas EndsValue Ends ts n → Bounded n → All Narrow (expressions n)
+  unfolding expressions nodeRoom NodeHas Bounded columns
   node-narrow (P.scan i t a x) l h b = given-all Narrow x (given-weaken _ _ (narrow (P.scan i t a x) l h) x b)
   node-narrow (P.values rs) l h b = all-concat Narrow rs (all-weaken _ _ (λ r g. all-weaken _ _ (below-more 0 (2 ^ 32) (omega arith)) r g) rs b)
   node-narrow (P.join n m x o) l h b =
@@ -74,9 +73,9 @@ module _ (ts : Catalog) (limited : All LimitedTable ts) where
   node-narrow (P.limit n k) l h b = node-narrow n (omega arith) (h .0) b
   node-narrow (P.remap n xs) l h b = node-narrow n (omega arith) (h .0) (b .0)
 
-  -- of a proper plan that fits in the area
-  pub plan-narrow : (p : Plan Built) → planNodeRoom p ≤ leastArea → ProperPlan ts p → PlanBounded p → All (Below (2 ^ 32)) (planExpressions p)
-  unfolding planExpressions planNodeRoom ProperPlan
+  -- of a plan that fits in the area
+  pub plan-narrow : (p : Plan Built) → planNodeRoom p ≤ leastArea → PlanHas EndsValue Ends ts p → PlanBounded p → All (Below (2 ^ 32)) (planExpressions p)
+  unfolding planExpressions planNodeRoom PlanHas
   plan-narrow (P.select n) l h b = node-narrow n l h b
   plan-narrow (P.delete i t n) l h b = node-narrow n l (h .1) b
   plan-narrow (P.insert i t m n) l h b = node-narrow n l (h .1) b

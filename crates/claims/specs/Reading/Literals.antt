@@ -13,12 +13,12 @@ use borrow.Author.Tests.{eqb-true}
 use Rattle.rules.specs.Lists.{Bytes, mapOption}
 use Rattle.rules.specs.Lines.{Word, digit, decimal, within, negated, integer, hexDigit, hexDigits}
 use Rattle.rules.specs.Lines as Lines
-use Rattle.rules.specs.Schema.{bool, int, float}
+use Rattle.rules.specs.Schema.{Value, bool, int, float, text}
 use Rattle.rules.specs.Reader.{word, noField, flags, literals}
 use Rattle.claims.specs.Answers.{All, Given}
-use Rattle.claims.specs.Words.Lists.{nothing}
-use Rattle.claims.specs.Words.Fields.{Makes, given-map, given-mapped, makes-one}
-use Rattle.claims.specs.Values.Values.{Fits}
+use Rattle.claims.specs.Lists.{given-map, given-mapped}
+use Rattle.claims.specs.Reading.Fields.{Makes, makes-one}
+use Rattle.claims.specs.Values.Outcomes.{Kept}
 
 -- INTEGERS
 within-most : (b : ℕ) (o : Option ℕ) → Given (λ n. n ≤ b) (within b o)
@@ -85,26 +85,23 @@ float-fits b = go (eqb (length b) 16) refl
     go false e = tt
 
 -- LITERALS
--- any word
-abbrev pub Any : Word → Type 0
-Any w = Unit {0}
-
--- whatever the fields, a literal record's value fits
-pub literals-fit : All (λ e. Makes nothing Any (e .1) Fits) literals
-unfolding literals All Given Fits
-literals-fit = (
-  λ r h. given-mapped _ Fits (λ u. tt) (noField r),
-  (
-    makes-one nothing Any _ Fits (λ w h. given-mapped bool Fits (λ b. tt) (word flags w)),
+module _ (F : Word → Type 0) (Q : Value → Type 0) (kept : Kept Q) (texts : (w : Word) → F w → Q (text w)) where
+  -- a literal record's value has what operators keep, where its text does
+  pub literals-make : All (λ e. Makes F (e .1) Q) literals
+  unfolding literals All Given
+  literals-make = (
+    λ r h. given-mapped _ Q (λ u. kept .nulls) (noField r),
     (
-      makes-one nothing Any _ Fits (λ w h. given-map int _ Fits (λ z g. g) _ (integer-fits (w .bytes))),
+      makes-one F _ Q (λ w h. given-mapped bool Q (kept .truths) (word flags w)),
       (
-        makes-one nothing Any _ Fits (λ w h. given-map float _ Fits (λ n g. g) _ (float-fits (w .bytes))),
+        makes-one F _ Q (λ w h. given-map int _ Q (kept .within) _ (integer-fits (w .bytes))),
         (
-          makes-one nothing Any _ Fits (λ w h. tt),
-          tt,
+          makes-one F _ Q (λ w h. given-map float _ Q (kept .floats) _ (float-fits (w .bytes))),
+          (
+            makes-one F _ Q texts,
+            tt,
+          ),
         ),
       ),
     ),
-  ),
-)
+  )

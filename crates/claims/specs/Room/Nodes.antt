@@ -1,7 +1,7 @@
 -- How many numbers a plan takes in the area, by its nodes.
-use Prim.Native.Nat.{ℕ, zero, suc, _+_, _*_, _≤_, _<_}
+use Prim.Native.Nat.{ℕ, suc, _+_, _*_}
 use native.Mathlib.Omega.{arith}
-use mathlib.Core.Path.{_≡_, refl, sym, ap, _∙_}
+use mathlib.Core.Path.{_≡_, refl, ap, _∙_}
 use mathlib.Core.Bool.{Bool}
 use mathlib.Core.List.{List, [], _∷_, _++_, map}
 use mathlib.Core.Option.{Option, none, some}
@@ -11,9 +11,9 @@ use Rattle.rules.specs.Lines.{Word}
 use Rattle.rules.specs.Schema.{Value, null, bool, int, float, text}
 use Rattle.rules.specs.Plan.{Built, Aggregate, Node, Made, Plan}
 use Rattle.rules.specs.Plan as P
-use Rattle.rules.specs.Cells.{Cell, constant, column, unary, binary, is, roots, numberRows, numberFirst, numberSecond, numberGiven, numberNode, numberPlan, planCells, countAll, count, cellCount}
+use Rattle.rules.specs.Cells.{Cell, constant, column, unary, binary, is, roots, numberRows, numberFirst, numberSecond, numberNode, numberPlan, planCells, countAll, count, cellCount}
 use Rattle.rules.specs.Nodes.{NodeRecord, scan, values, join, filter, aggregate, project, order, offset, limit, remap, records, nodes, last, nodeOf, nodeRecords, planRecords}
-use Rattle.rules.specs.Area.{halves, bits, flag, span, optionSpan, valueNumbers, isNumbers, cellNumbers, rowNumbers, functionNumbers, itemNumbers, keyNumbers, sized, recordNumbers, pairs, mapNumbers, defaultNumbers, madeNumbers, ownNumbers, headerSize, cellPart, nodePart, header, planNumbers}
+use Rattle.rules.specs.Area.{halves, span, optionSpan, valueNumbers, isNumbers, cellNumbers, rowNumbers, functionNumbers, itemNumbers, keyNumbers, sized, recordNumbers, pairs, mapNumbers, defaultNumbers, madeNumbers, ownNumbers, headerSize, cellPart, nodePart, header, planNumbers}
 
 -- the numbers of given rows: a length and its cells for each
 unfoldable pub rowsRoom : {E : Type 0} → List (List E) → ℕ

@@ -1,31 +1,27 @@
 -- The numbers of every accepted plan fit in the area's least length.
-use Prim.Native.Nat.{ℕ, zero, suc, _+_, _*_, _≤_, _<_}
+use Prim.Native.Nat.{_+_, _≤_}
 use native.Mathlib.Omega.{arith}
-use mathlib.Core.Path.{_≡_, refl, sym, ap, _∙_}
-use mathlib.Core.Bool.{Bool, true, false}
-use mathlib.Core.List.{List, [], _∷_, _++_, map}
+use mathlib.Core.List.{List, [], _∷_}
 use mathlib.Core.Option.{Option, none, some}
-use lib.Dec.{eqb}
-use lib.ListN.{length, length-append}
-use Rattle.rules.specs.Refusals.{Answer, ok, refused, _>>=_, refuse, otherStatement, unknownInsertColumn, repeatedInsertColumn}
+use lib.ListN.{length}
+use Rattle.rules.specs.Refusals.{otherStatement}
 use Rattle.rules.specs.Limits.{mostCells, mostEntries, mostTableColumns, leastArea}
-use Rattle.rules.specs.Lists.{Bytes, any}
-use Rattle.rules.specs.Schema.{Catalog, Column, mustGetTable, columnAt}
-use Rattle.rules.specs.Ast.{Expr, Exprs, nil, cons, size, sizeAll, Named, Delete, Insert, Update, Create, Statement}
+use Rattle.rules.specs.Lists.{Bytes}
+use Rattle.rules.specs.Schema.{Catalog, Column, mustGetTable}
+use Rattle.rules.specs.Ast.{Expr, size, Named, Delete, Insert, Update, Create, Statement}
 use Rattle.rules.specs.Ast as Ast
 use Rattle.rules.specs.ReadCatalog.{readCatalog}
 use Rattle.rules.specs.ReadStatement.{readStatement}
 use Rattle.rules.specs.Sizes.{total, rowsSize, statementSize}
 use Rattle.rules.specs.Plan.{Built, Plan}
-use Rattle.rules.specs.Plan as P
 use Rattle.rules.specs.Scope.{empty, fromTable}
-use Rattle.rules.specs.Cells.{planCells}
 use Rattle.rules.specs.BuildExpression.{build, each, buildOption, clauseExpr}
-use Rattle.rules.specs.BuildStatement.{mapOne, mapFrom, columnMap, buildDelete, buildInsert, buildUpdate, setBuilt, keyColumns, primaryKey, madeColumn, buildCreate, buildStatement}
+use Rattle.rules.specs.BuildStatement.{mapFrom, columnMap, buildDelete, buildInsert, buildUpdate, setBuilt, keyColumns, primaryKey, madeColumn, buildCreate, buildStatement}
 use Rattle.rules.specs.Area.{planNumbers}
 use Rattle.rules.specs.Entry.{planOf}
-use Rattle.claims.specs.Answers.{Ensures, then, refusing, anything, both, weaken, Given, each-ensures}
-use Rattle.claims.specs.Reading.Limits.{Limited, LimitedSelect, LimitedInsert, statement-limited}
+use Rattle.claims.specs.Answers.{Ensures, then, refusing, both, weaken, All, Given, past, each-length}
+use Rattle.claims.specs.Building.Positions.{from-mapped}
+use Rattle.claims.specs.Reading.Limits.{Limited, LimitedInsert, statement-limited}
 use Rattle.claims.specs.Count.Statements.{mostCellsOf, statement-cells}
 use Rattle.claims.specs.Room.Nodes.{rowsRoom, nodeRoom, planNodeRoom, mapRoom, ownRoom, plan-room}
 use Rattle.claims.specs.Room.Select.{select-room}
@@ -52,29 +48,13 @@ rows-room : (rs : List (List Expr)) → Ensures (each (each (build empty)) rs) (
 unfolding each rowsRoom rowsSize total
 rows-room [] = omega arith
 rows-room (r ∷ rs) =
-    then (each (build empty) r) _ _ _ (each-ensures (build empty) (λ b. Unit {0}) (λ e. anything (build empty e)) r) λ b hb.
-    then (each (each (build empty)) rs) _ _ _ (rows-room rs) λ bs hbs. omega (arith, hb .1, length-size r)
-
-mapping-one : (l : ℕ) (o : Option ℕ) (v : ℕ) (m : List (ℕ × ℕ)) → Ensures (mapOne l o v m) (λ n. length n ≡ suc (length m))
-unfolding mapOne
-mapping-one l none v m = refusing unknownInsertColumn l _
-mapping-one l (some c) v m = go (any (λ (e : ℕ × ℕ). eqb (e .0) c) m)
-  where
-    go : (b : Bool) → Ensures {A = List (ℕ × ℕ)} (elim b [ true ↦ refuse repeatedInsertColumn l | false ↦ ok (m ++ ((c, v) ∷ [])) ]) (λ n. length n ≡ suc (length m))
-    go true = refusing repeatedInsertColumn l _
-    go false = simp length-append (omega arith)
-
-mapping : (cs : List Column) (ns : List Named) (v : ℕ) (m : List (ℕ × ℕ)) → Ensures (mapFrom cs ns v m) (λ n. length n ≡ length m + length ns)
-unfolding mapFrom
-mapping cs [] v m = omega arith
-mapping cs (n ∷ ns) v m =
-    then (mapOne (n .line) (columnAt 0 cs (n .name .bytes)) v m) _ _ _ (mapping-one (n .line) (columnAt 0 cs (n .name .bytes)) v m) λ k hk.
-    weaken (mapFrom cs ns (suc v) k) _ _ (λ j hj. omega arith) (mapping cs ns (suc v) k)
+    then (each (build empty) r) _ _ _ (each-length (build empty) r) λ b hb.
+    then (each (each (build empty)) rs) _ _ _ (rows-room rs) λ bs hbs. omega (arith, hb, length-size r)
 
 map-room : (cs : List Column) (ns : Option (List Named)) → Given (λ (n : List Named). length n ≤ 64) ns → Ensures (columnMap cs ns) (λ m. mapRoom m ≤ 129)
-unfolding columnMap mapRoom Given
+unfolding columnMap mapRoom Given All
 map-room cs none h = omega arith
-map-room cs (some ns) h = then (mapFrom cs ns 0 []) _ _ _ (mapping cs ns 0 []) λ m hm. omega arith
+map-room cs (some ns) h = then (mapFrom cs ns 0 []) _ _ _ (from-mapped cs ns [] tt) λ m hm. omega (arith, hm .0)
 
 -- NODES AND OWN NUMBERS of each statement
 Small : Plan Built → Type 0
@@ -83,14 +63,14 @@ Small p = planNodeRoom p + ownRoom p ≤ 5766
 delete-small : (c : Catalog) (d : Delete) → Ensures (buildDelete c d) Small
 unfolding buildDelete Small planNodeRoom ownRoom nodeRoom
 delete-small c d =
-    then (mustGetTable c (d .line) (d .table .bytes)) _ _ _ (anything (mustGetTable c (d .line) (d .table .bytes))) λ t u.
-    then (buildOption (fromTable (t .1 .name) (t .1)) (clauseExpr (d .filter))) _ _ _ (anything (buildOption (fromTable (t .1 .name) (t .1)) (clauseExpr (d .filter)))) λ w v.
+    past (mustGetTable c (d .line) (d .table .bytes)) _ _ λ t.
+    past (buildOption (fromTable (t .1 .name) (t .1)) (clauseExpr (d .filter))) _ _ λ w.
     omega arith
 
 insert-small : (c : Catalog) (d : Insert) → rowsSize (d .rows) ≤ mostCells → LimitedInsert d → Ensures (buildInsert c d) Small
 unfolding buildInsert Small planNodeRoom ownRoom nodeRoom
 insert-small c d k h =
-    then (mustGetTable c (d .line) (d .table .bytes)) _ _ _ (anything (mustGetTable c (d .line) (d .table .bytes))) λ t u.
+    past (mustGetTable c (d .line) (d .table .bytes)) _ _ λ t.
     then (columnMap (t .1 .columns) (d .columns)) _ _ _ (map-room (t .1 .columns) (d .columns) (h .columns)) λ m hm.
     then (each (each (build empty)) (d .rows)) _ _ _ (rows-room (d .rows)) λ rs hr.
     omega (arith, h .rows)
@@ -98,18 +78,18 @@ insert-small c d k h =
 update-small : (c : Catalog) (d : Update) → length (d .sets) ≤ mostEntries → Ensures (buildUpdate c d) Small
 unfolding buildUpdate Small planNodeRoom ownRoom nodeRoom
 update-small c d h =
-    then (mustGetTable c (d .line) (d .table .bytes)) _ _ _ (anything (mustGetTable c (d .line) (d .table .bytes))) λ t u.
+    past (mustGetTable c (d .line) (d .table .bytes)) _ _ λ t.
     let s = fromTable (t .1 .name) (t .1) in
-    then (buildOption s (clauseExpr (d .filter))) _ _ _ (anything (buildOption s (clauseExpr (d .filter)))) λ w v.
-    then (each (setBuilt s (t .1 .columns)) (d .sets)) _ _ _ (each-ensures (setBuilt s (t .1 .columns)) (λ x. Unit {0}) (λ x. anything (setBuilt s (t .1 .columns) x)) (d .sets)) λ xs hx.
-    omega (arith, hx .1)
+    past (buildOption s (clauseExpr (d .filter))) _ _ λ w.
+    then (each (setBuilt s (t .1 .columns)) (d .sets)) _ _ _ (each-length (setBuilt s (t .1 .columns)) (d .sets)) λ xs hx.
+    omega (arith, hx)
 
 create-small : (d : Create) → length (d .columns) ≤ mostTableColumns → Ensures (buildCreate d) Small
 unfolding buildCreate Small planNodeRoom ownRoom
 create-small d h =
-    then (primaryKey (d .line) (keyColumns 0 (d .columns))) _ _ _ (anything (primaryKey (d .line) (keyColumns 0 (d .columns)))) λ k u.
-    then (each madeColumn (d .columns)) _ _ _ (each-ensures madeColumn (λ x. Unit {0}) (λ x. anything (madeColumn x)) (d .columns)) λ cs hc.
-    omega (arith, hc .1)
+    past (primaryKey (d .line) (keyColumns 0 (d .columns))) _ _ λ k.
+    then (each madeColumn (d .columns)) _ _ _ (each-length madeColumn (d .columns)) λ cs hc.
+    omega (arith, hc)
 
 statement-small : (c : Catalog) (s : Statement) → statementSize s ≤ mostCells → Limited s → Ensures (buildStatement c s) Small
 unfolding buildStatement statementSize Small
@@ -141,6 +121,6 @@ statement-room c s k h = weaken (buildStatement c s) _ _ (λ p g. omega (arith, 
 pub room : (c q : Bytes) → Ensures (planOf c q) (λ p. length (planNumbers p) ≤ leastArea)
 unfolding planOf
 room c q =
-    then (readCatalog c) _ _ _ (anything (readCatalog c)) λ ts u.
+    past (readCatalog c) _ _ λ ts.
     then (readStatement q) _ _ _ (statement-limited q) λ s h.
     statement-room ts s (h .0) (h .1)

@@ -1,5 +1,5 @@
 -- What an operator gives, and why it may fail, for any property of values that holds of nulls, truths and what fits 64 bits.
-use Prim.Native.Nat.{_^_, _<_}
+use Prim.Native.Nat.{ℕ, _^_, _<_}
 use mathlib.Core.Path.{_≡_, refl}
 use mathlib.Core.Logic.{_⊎_, inl, inr}
 use mathlib.Core.Bool.{Bool, true, false}
@@ -8,7 +8,7 @@ use lib.IntN.{ℤ, pos, negsuc, negℤ, natAbs, _+ℤ_, _-ℤ_, _*ℤ_}
 use lib.Signed.{mag, quotZ, remZ}
 use lib.Ieee.{Float, binary64}
 use lib.Ieee as Ieee
-use lib.Ieee.Bits.{ofBits-fits}
+use lib.Ieee.Bits.{ofBits-fits, toBits-lt}
 use lib.Ieee.Fits.{neg-fits, add-fits, sub-fits, mul-fits, div-fits, rem-fits, ofInt-fits}
 use borrow.Author.Tests.{ltb-true}
 use Rattle.rules.specs.Refusals.{Reason, integerOverflow, divisionByZero, wrongOperand, notWorkedOut}
@@ -33,7 +33,7 @@ pub record Kept (Q : Value → Type 0) : Type 0 where
   pub truths : (a : Bool) → Q (bool a)
   pub within : (z : ℤ) → mag z < 2 ^ 63 → Q (int z)
   pub remainders : (m n : ℤ) → Q (int m) → Q (int (remZ m n))
-  pub bits : (x : Float) → T (Ieee.fits binary64 x) → Q (float (Ieee.toBits binary64 x))
+  pub floats : (b : ℕ) → b < 2 ^ 64 → Q (float b)
 
 -- what arithmetic asks of its operands: of the left one
 unfoldable Operands : (Value → Type 0) → Pair → Type 0
@@ -65,7 +65,7 @@ module _ (Q : Value → Type 0) (k : Kept Q) where
 
   floating-outcome : (x : Float) → T (Ieee.fits binary64 x) → Outcome Q (floating x)
   unfolding floating
-  floating-outcome x h = k .bits x h
+  floating-outcome x h = k .floats _ (toBits-lt binary64 x h)
 
   quotient-outcome : (m n : ℤ) → Outcome Q (quotient m n)
   unfolding quotient

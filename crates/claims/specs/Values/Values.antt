@@ -5,18 +5,12 @@ use mathlib.Core.Path.{_≡_, refl}
 use mathlib.Core.Bool.{Bool, _||_}
 use mathlib.Core.Bool.{not as not′}
 use lib.Signed.{mag, mag-rem}
-use lib.Ieee.{binary64}
-use lib.Ieee.Bits.{toBits-lt}
-use Rattle.rules.specs.Refusals.{refuse}
 use Rattle.rules.specs.Schema.{Value, null, bool, int, float, text}
 use Rattle.rules.specs.Ast.{Unary, not, or, eq, gt, lt, Binary, ge, le, ne}
-use Rattle.rules.specs.Ast.{Expr, star, column, literal, call, unary, binary, is, Exprs, nil, cons}
 use Rattle.rules.specs.Arithmetic.{Worked, gives, fails}
 use Rattle.rules.specs.Comparison.{Order, Compared, ordered, unknown, incomparable, compare, compared, isLess, isSame, isGreater}
-use Rattle.rules.specs.Operators.{logic, plainOf, binaryOf, notOf, unaryOf, isOf, isNan}
-use Rattle.rules.specs.Evaluate.{workedAt, evaluate, evaluateRoot}
-use Rattle.claims.specs.Answers.{Ensures, then, refusing}
-use Rattle.claims.specs.Values.Outcomes.{Outcome, Kept, unary-outcome, binary-outcome, root-outcome, nan-outcome}
+use Rattle.rules.specs.Operators.{logic, plainOf, binaryOf, notOf, unaryOf}
+use Rattle.claims.specs.Values.Outcomes.{Outcome, Kept, unary-outcome, binary-outcome}
 
 -- COMBINATIONS
 -- the first that fails ends the whole
@@ -61,14 +55,15 @@ Fits (int z) = mag z < 2 ^ 63
 Fits (float b) = b < 2 ^ 64
 Fits (text w) = Unit {0}
 
-fits-kept : Kept Fits
+-- every operator keeps to them
+pub fits-kept : Kept Fits
 unfolding Fits
 fits-kept = record {
   nulls = tt;
   truths = λ a. tt;
   within = λ z h. h;
   remainders = λ m n h. omega (arith, mag-rem m n);
-  bits = λ x h. toBits-lt binary64 x h;
+  floats = λ b h. h;
 }
 
 given : (Q : Value → Type 0) (x : Worked) → Outcome Q x → (v : Value) → x ≡ gives v → Q v
@@ -82,49 +77,3 @@ unary-fits o v h = given Fits (unaryOf o v) (unary-outcome Fits fits-kept o v h)
 -- and of two if the left one does
 pub binary-fits : (o : Binary) (u v : Value) → Fits u → (w : Value) → binaryOf o u v ≡ gives w → Fits w
 binary-fits o u v h = given Fits (binaryOf o u v) (binary-outcome Fits fits-kept o u v h)
-
--- every literal of an expression fits
-unfoldable mutual
-  pub LiteralsFit : Expr → Type 0
-  LiteralsFit (star l) = Unit {0}
-  LiteralsFit (column l t n) = Unit {0}
-  LiteralsFit (literal l v) = Fits v
-  LiteralsFit (call l n as′) = AllLiteralsFit as′
-  LiteralsFit (unary l o a) = LiteralsFit a
-  LiteralsFit (binary l o a b) = LiteralsFit a × LiteralsFit b
-  LiteralsFit (is l a v) = LiteralsFit a × Fits v
-
-  pub AllLiteralsFit : Exprs → Type 0
-  AllLiteralsFit nil = Unit {0}
-  AllLiteralsFit (cons a as′) = LiteralsFit a × AllLiteralsFit as′
-
-worked-ensures : (Q : Value → Type 0) (l : ℕ) (x : Worked) → Outcome Q x → Ensures (workedAt l x) Q
-unfolding workedAt refuse
-worked-ensures Q l (gives v) h = h
-worked-ensures Q l (fails r) h = tt
-
-is-fits : (l : ℕ) (v w : Value) → Ensures (workedAt l (isOf v w)) Fits
-unfolding isOf workedAt refuse Fits
-is-fits l null w = tt
-is-fits l (bool a) w = tt
-is-fits l (int n) w = tt
-is-fits l (float x) w = worked-ensures Fits l (isNan w) (nan-outcome Fits fits-kept w)
-is-fits l (text t) w = tt
-
--- a constant's value fits if the expression's literals do
-mutual
-  unfolding evaluate LiteralsFit
-
-  pub evaluate-fits : (e : Expr) → LiteralsFit e → Ensures (evaluate e) Fits
-  evaluate-fits (star l) h = refusing _ l Fits
-  evaluate-fits (column l t n) h = refusing _ l Fits
-  evaluate-fits (literal l v) h = h
-  evaluate-fits (call l n as′) h = root-fits l as′ h
-  evaluate-fits (unary l o a) h = then (evaluate a) _ Fits Fits (evaluate-fits a h) λ v hv. worked-ensures Fits l _ (unary-outcome Fits fits-kept o v hv)
-  evaluate-fits (binary l o a b) h = then (evaluate a) _ Fits Fits (evaluate-fits a (h .0)) λ v hv.
-      then (evaluate b) _ Fits Fits (evaluate-fits b (h .1)) λ w hw. worked-ensures Fits l _ (binary-outcome Fits fits-kept o v w hv)
-  evaluate-fits (is l a v) h = then (evaluate a) _ Fits Fits (evaluate-fits a (h .0)) λ w hw. is-fits l v w
-
-  root-fits : (l : ℕ) (as′ : Exprs) → AllLiteralsFit as′ → Ensures (evaluateRoot l as′) Fits
-  root-fits l nil h = refusing _ l Fits
-  root-fits l (cons a as′) h = then (evaluate a) _ Fits Fits (evaluate-fits a (h .0)) λ v hv. worked-ensures Fits l _ (root-outcome Fits fits-kept v)

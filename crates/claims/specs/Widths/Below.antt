@@ -1,24 +1,25 @@
 -- Every column number of a resolved expression is below the width of its scope.
 use Prim.Native.Nat.{ℕ, suc, _+_, _≤_, _<_}
 use native.Mathlib.Omega.{arith}
-use mathlib.Core.Bool.{Bool, true, false}
+use mathlib.Core.Bool.{Bool}
 use mathlib.Core.List.{List, [], _∷_}
 use mathlib.Core.Option.{Option, none, some}
 use lib.ListN.{length}
-use Rattle.rules.specs.Refusals.{Answer, unsupportedStar, unknownFunction, unknownColumn, notAggregated, unknownQualifier, constantOnly, invalidIs}
-use Rattle.rules.specs.Lists.{same, any, positions, isEmpty}
-use Rattle.rules.specs.Lines.{Word, bytes}
-use Rattle.rules.specs.Schema.{Value}
-use Rattle.rules.specs.Ast.{Expr, star, column, literal, call, unary, binary, is, Exprs, nil, cons}
+use Rattle.rules.specs.Lists.{any, positions, isEmpty}
+use Rattle.rules.specs.Lines.{Word}
+use Rattle.rules.specs.Ast.{Expr, column, unary, binary, is}
 use Rattle.rules.specs.Equality.{equal}
-use Rattle.rules.specs.Plan.{Built}
+use Rattle.rules.specs.Plan.{Tree, Built}
 use Rattle.rules.specs.Plan as P
 use Rattle.rules.specs.Scope.{Scope, width, sameName, isQualified, isNamed, Found, at, missing, notFound, theLast, theOnly, lookupNamed, lookup, aggregateAt, matched}
-use Rattle.rules.specs.BuildExpression.{found, pickMatched, orMatched, isValue, sqrtOf, isSqrt, isOf, build, buildSqrt}
-use Rattle.claims.specs.Answers.{Ensures, then, refusing, All, Given}
+use Rattle.rules.specs.BuildExpression.{found, build}
+use Rattle.claims.specs.Answers.{Ensures, refusing, All, Given}
+use Rattle.claims.specs.Cases.{either-way}
+use Rattle.claims.specs.Lists.{given-some}
+use Rattle.claims.specs.Building.Built.{Steps, build-by}
 
 -- every column number of an expression is below w
-unfoldable pub Below : ℕ → Built → Type 0
+unfoldable pub Below : {O : Type 0} → ℕ → Tree O → Type 0
 Below w (P.constant v) = Unit {0}
 Below w (P.column i) = i < w
 Below w (P.unary o a) = Below w a
@@ -42,20 +43,11 @@ Sound s = MatchesBelow (width s) (s .aggregates)
 positions-below : {A : Type 0} (t : A → Bool) (as′ : List A) (i w : ℕ) → i + length as′ ≤ w → All (λ j. j < w) (positions t i as′)
 unfolding All positions
 positions-below t [] i w h = tt
-positions-below t (a ∷ as′) i w h = go (t a) (positions-below t as′ (suc i) w (omega arith))
-  where
-    go : (b : Bool) → All (λ j. j < w) (positions t (suc i) as′)
-        → All (λ j. j < w) (elim b [ true ↦ i ∷ positions t (suc i) as′ | false ↦ positions t (suc i) as′ ])
-    go true r = (omega arith, r)
-    go false r = r
+positions-below t (a ∷ as′) i w h = let r = positions-below t as′ (suc i) w (omega arith) in either-way (All (λ j. j < w)) (t a) _ _ (omega arith, r) r
 
 notFound-below : (s : Scope) (w : ℕ) → FoundBelow w (notFound s)
 unfolding notFound FoundBelow
-notFound-below s w = go (isEmpty (s .aggregates))
-  where
-    go : (b : Bool) → FoundBelow w (elim b [ true ↦ missing unknownColumn | false ↦ missing notAggregated ])
-    go true = tt
-    go false = tt
+notFound-below s w = either-way (FoundBelow w) (isEmpty (s .aggregates)) _ _ tt tt
 
 theOnly-below : (s : Scope) (w : ℕ) (is′ : List ℕ) → All (λ j. j < w) is′ → FoundBelow w (theOnly s is′)
 unfolding theOnly FoundBelow All
@@ -72,20 +64,12 @@ theLast-below s w (i ∷ (j ∷ r)) h = theLast-below s w (j ∷ r) (h .1)
 lookupNamed-below : (s : Scope) (t : Option Word) (n : Word) → FoundBelow (width s) (lookupNamed s t n)
 unfolding lookupNamed FoundBelow width
 lookupNamed-below s none n = theOnly-below s (width s) _ (positions-below (isNamed n) (s .columns) 0 _ (omega arith))
-lookupNamed-below s (some t) n = go (any (sameName t) (s .tables))
-  where
-    go : (b : Bool) → FoundBelow (width s) (elim b [ false ↦ missing unknownQualifier | true ↦ theLast s (positions (isQualified t n) 0 (s .columns)) ])
-    go false = tt
-    go true = theLast-below s (width s) _ (positions-below (isQualified t n) (s .columns) 0 _ (omega arith))
+lookupNamed-below s (some t) n = either-way (FoundBelow (width s)) (any (sameName t) (s .tables)) _ _ (theLast-below s (width s) _ (positions-below (isQualified t n) (s .columns) 0 _ (omega arith))) tt
 
 -- a column that is found stands below the scope's width
 pub lookup-below : (s : Scope) (t : Option Word) (n : Word) → FoundBelow (width s) (lookup s t n)
 unfolding lookup FoundBelow
-lookup-below s t n = go (isEmpty (s .columns))
-  where
-    go : (b : Bool) → FoundBelow (width s) (elim b [ true ↦ missing constantOnly | false ↦ lookupNamed s t n ])
-    go true = tt
-    go false = lookupNamed-below s t n
+lookup-below s t n = either-way (FoundBelow (width s)) (isEmpty (s .columns)) _ _ tt (lookupNamed-below s t n)
 
 -- and so it is taken
 pub found-below : (w l : ℕ) (f : Found) → FoundBelow w f → Ensures (found l f) (λ i. i < w)
@@ -97,11 +81,7 @@ found-below w l (missing n) h = refusing n l _
 aggregateAt-below : (es : List (Expr × ℕ)) (k : Expr) (w : ℕ) → MatchesBelow w es → Given (λ i. i < w) (aggregateAt es k)
 unfolding MatchesBelow All aggregateAt Given
 aggregateAt-below [] k w h = tt
-aggregateAt-below (e ∷ es) k w h = go (equal (e .0) k) (aggregateAt-below es k w (h .1))
-  where
-    go : (b : Bool) → Given (λ i. i < w) (aggregateAt es k) → Given (λ i. i < w) (elim b [ true ↦ some (e .1) | false ↦ aggregateAt es k ])
-    go true r = h .0
-    go false r = r
+aggregateAt-below (e ∷ es) k w h = either-way (Given (λ i. i < w)) (equal (e .0) k) _ _ (h .0) (aggregateAt-below es k w (h .1))
 
 -- a match of a sound scope stands below its width
 pub matched-below : (s : Scope) (e : Expr) → Sound s → Given (λ i. i < width s) (matched s e)
@@ -109,44 +89,19 @@ unfolding Sound matched
 matched-below s e h = aggregateAt-below (s .aggregates) e (width s) h
 
 -- EXPRESSIONS
-below-picked : (w : ℕ) (o : Option ℕ) (r : Answer Built) → Given (λ i. i < w) o → Ensures r (Below w) → Ensures (pickMatched o r) (Below w)
-unfolding pickMatched Given Below
-below-picked w (some i) r h g = h
-below-picked w none r h g = g
-
-below-isSqrt : (w : ℕ) (b : Bool) (l : ℕ) (r : Answer Built) → Ensures r (Below w) → Ensures (isSqrt b l r) (Below w)
-unfolding isSqrt
-below-isSqrt w true l r h = h
-below-isSqrt w false l r h = refusing unknownFunction l _
-
-below-sqrtOf : (w : ℕ) (as′ : Exprs) (l : ℕ) (r : Answer Built) → Ensures r (Below w) → Ensures (sqrtOf l as′ r) (Below w)
-unfolding sqrtOf Below
-below-sqrtOf w nil l r h = then r _ _ _ h λ x p. p
-below-sqrtOf w (cons a as′) l r h = refusing unknownFunction l _
-
-below-isOf : (w : ℕ) (b : Bool) (l : ℕ) (v : Value) (x : Built) → Below w x → Ensures (isOf b l v x) (Below w)
-unfolding isOf Below
-below-isOf w true l v x h = h
-below-isOf w false l v x h = refusing invalidIs l _
-
 module _ (s : Scope) (sound : Sound s) where
-  below-matched : (e : Expr) (r : Answer Built) → Ensures r (Below (width s)) → Ensures (orMatched s e r) (Below (width s))
-  unfolding orMatched
-  below-matched e r h = below-picked (width s) (matched s e) r (matched-below s e sound) h
+  below-steps : Steps s (λ e x. Below (width s) x)
+  unfolding Below FoundBelow
+  below-steps = record {
+    matches = λ e i u. given-some _ (matched s e) (matched-below s e sound) i u;
+    columns = λ l q n i u f. rw f at (lookup-below s q n);
+    literals = λ l v u. tt;
+    roots = λ l n a x u e g. g;
+    unaries = λ l o a x u g. g;
+    binaries = λ l o a b x y u f g. (f, g);
+    tests = λ l a v x u e g. g;
+  }
 
-  mutual
-    unfolding build Below
-
-    -- a resolved expression is below its scope's width
-    pub build-below : (e : Expr) → Ensures (build s e) (Below (width s))
-    build-below (star l) = below-matched (star l) _ (refusing unsupportedStar l _)
-    build-below (column l t n) = below-matched (column l t n) _ (then (found l (lookup s t n)) _ _ _ (found-below (width s) l (lookup s t n) (lookup-below s t n)) λ i p. p)
-    build-below (literal l v) = below-matched (literal l v) _ tt
-    build-below (call l n as′) = below-matched (call l n as′) _ (below-isSqrt (width s) (same (n .bytes) (bytes "sqrt")) l (buildSqrt s l as′) (sqrt-below as′ l))
-    build-below (unary l o a) = below-matched (unary l o a) _ (then (build s a) _ _ _ (build-below a) λ x p. p)
-    build-below (binary l o a b) = below-matched (binary l o a b) _ (then (build s a) _ _ _ (build-below a) λ x p. then (build s b) _ _ _ (build-below b) λ y q. (p, q))
-    build-below (is l a v) = below-matched (is l a v) _ (then (build s a) _ _ _ (build-below a) λ x p. below-isOf (width s) (isValue v) l v x p)
-
-    sqrt-below : (as′ : Exprs) (l : ℕ) → Ensures (buildSqrt s l as′) (Below (width s))
-    sqrt-below nil l = refusing unknownFunction l _
-    sqrt-below (cons a as′) l = below-sqrtOf (width s) as′ l (build s a) (build-below a)
+  -- a resolved expression is below its scope's width
+  pub build-below : (e : Expr) → Ensures (build s e) (Below (width s))
+  build-below e = build-by below-steps e

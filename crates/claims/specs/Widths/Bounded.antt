@@ -4,7 +4,7 @@ use mathlib.Core.Path.{_≡_}
 use mathlib.Core.Option.{Option, none, some}
 use lib.ListN.{length}
 use Rattle.rules.specs.Ast.{Expr}
-use Rattle.rules.specs.Plan.{Built, Node, Plan, columns}
+use Rattle.rules.specs.Plan.{Tree, Built, Node, Plan, columns}
 use Rattle.rules.specs.Plan as P
 use Rattle.rules.specs.Scope.{Scope}
 use Rattle.rules.specs.BuildExpression.{build, buildOption}
@@ -13,7 +13,7 @@ use Rattle.claims.specs.Widths.Below.{Below, build-below}
 use Rattle.claims.specs.Widths.Scopes.{Wide, wide-width, wide-sound}
 
 -- every expression of a node is below the width of what it reads, and a remap has a target or none for each column
-unfoldable pub Bounded : Node Built → Type 0
+unfoldable pub Bounded : {O : Type 0} → Node (Tree O) → Type 0
 Bounded (P.scan i t a x) = Given (Below (length (t .columns))) x
 Bounded (P.values rs) = All (All (Below 0)) rs
 Bounded (P.join a b x o) = Bounded a × Bounded b × Given (Below (columns a + columns b)) x
@@ -26,7 +26,7 @@ Bounded (P.limit n k) = Bounded n
 Bounded (P.remap n ts) = Bounded n × (length ts ≡ columns n)
 
 -- a plan's node is bounded; an update's expressions are below the scan's width, and its positions below the table's
-abbrev pub PlanBounded : Plan Built → Type 0
+abbrev pub PlanBounded : {O : Type 0} → Plan (Tree O) → Type 0
 PlanBounded (P.select n) = Bounded n
 PlanBounded (P.delete i t n) = Bounded n
 PlanBounded (P.insert i t m n) = Bounded n

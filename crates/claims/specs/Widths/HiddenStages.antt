@@ -1,7 +1,7 @@
 -- The hidden columns that HAVING and ORDER call for are columns of the parent, and widen the projection by as many.
 use Prim.Native.Nat.{ℕ, _+_, _<_}
 use native.Mathlib.Omega.{arith}
-use mathlib.Core.Bool.{Bool, true, false}
+use mathlib.Core.Bool.{true}
 use mathlib.Core.List.{List, [], _∷_}
 use mathlib.Core.Option.{Option, none, some}
 use lib.ListN.{length, length-append}
@@ -9,25 +9,18 @@ use Rattle.rules.specs.Ast.{Expr, star, column, literal, call, unary, binary, i
 use Rattle.rules.specs.Scope.{Scope, Found, at, missing, lookup, matched, project}
 use Rattle.rules.specs.Items.{Hidden, addHidden, hiddenColumn, visitColumn, visitMatch, visit, Walk, onTrue, onFalse, walk, walkAny, hiddenOf, projected}
 use Rattle.claims.specs.Answers.{All, Given, all-append}
+use Rattle.claims.specs.Cases.{either-way}
 use Rattle.claims.specs.Widths.Below.{FoundBelow, lookup-below, matched-below}
 use Rattle.claims.specs.Widths.Scopes.{Wide, wide-width, wide-sound, wide-is, wide-passthrough, wide-project}
 
 -- WALKS
 on-true : (Q : Hidden → Type 0) (r : Walk) (f : Hidden → Walk) → Q (r .1) → ((h : Hidden) → Q h → Q (f h .1)) → Q (onTrue r f .1)
 unfolding onTrue
-on-true Q r f h k = go (r .0)
-  where
-    go : (b : Bool) → Q ((elim b as (λ x. Walk) [ true ↦ f (r .1) | false ↦ r ]) .1)
-    go true = k (r .1) h
-    go false = h
+on-true Q r f h k = either-way (λ (w : Walk). Q (w .1)) (r .0) _ _ (k (r .1) h) h
 
 on-false : (Q : Hidden → Type 0) (r : Walk) (f : Hidden → Walk) → Q (r .1) → ((h : Hidden) → Q h → Q (f h .1)) → Q (onFalse r f .1)
 unfolding onFalse
-on-false Q r f h k = go (r .0)
-  where
-    go : (b : Bool) → Q ((elim b as (λ x. Walk) [ true ↦ r | false ↦ f (r .1) ]) .1)
-    go true = h
-    go false = k (r .1) h
+on-false Q r f h k = either-way (λ (w : Walk). Q (w .1)) (r .0) _ _ h (k (r .1) h)
 
 -- what every visit keeps, the walks keep
 module _ (p : Scope) (Q : Hidden → Type 0) (keep : (e : Expr) (h : Hidden) → Q h → Q (visit p e h)) where

@@ -18,33 +18,24 @@ use Rattle.rules.specs.Ast.{Expr, From}
 use Rattle.rules.specs.Plan.{Built, Node, columns, firstRow, nameless, qualified, scanLabel, firstSource, remapLabel, columnLabel, labelsFrom, labels}
 use Rattle.rules.specs.Plan as P
 use Rattle.rules.specs.Scope.{Scope, empty, width, spawn, addColumn, fromTable, matched, addMatch, hide, addMatches, addPassthrough, shift, merge, passAll, remap}
-use Rattle.rules.specs.BuildExpression.{buildOption}
 use Rattle.rules.specs.BuildFrom.{rising, swapped, buildFromClause}
-use Rattle.claims.specs.Answers.{Ensures, ensures}
+use Rattle.claims.specs.Answers.{Ensures}
+use Rattle.claims.specs.Cases.{either-way}
 use Rattle.claims.specs.Widths.Tabulate.{tabulate, length-tabulate, tabulate-append, tabulate-same, getD-tabulate, labels-are}
 use Rattle.claims.specs.Widths.Swapped.{swapped-count, swapped-front, swapped-back, first-once}
 use Rattle.claims.specs.Widths.Scopes.{remap-swapped}
-use Rattle.claims.specs.Widths.FromClause.{from-has}
+use Rattle.claims.specs.Building.FromClause.{FromSteps, clause-by}
 
 -- SCOPES
 -- a match adds no label
 match-columns : (e : Expr) (i : ℕ) (s : Scope) → addMatch e i s .columns ≡ s .columns
 unfolding addMatch
-match-columns e i s = go (isSome (matched s e))
-  where
-    go : (b : Bool) → (elim b as (λ x. Scope) [ true ↦ s | false ↦ record { columns = s .columns; tables = s .tables; aggregates = s .aggregates ++ ((e, i) ∷ []); hidden = s .hidden } ]) .columns ≡ s .columns
-    go true = refl
-    go false = refl
+match-columns e i s = either-way (λ (c : Scope). c .columns ≡ s .columns) (isSome (matched s e)) _ _ refl refl
 
 matches-columns : (es : List (Expr × ℕ)) (from to : ℕ) (s : Scope) → addMatches es from to s .columns ≡ s .columns
 unfolding addMatches
 matches-columns [] from to s = refl
-matches-columns (e ∷ es) from to s = go (eqb (e .1) from) (matches-columns es from to (addMatch (e .0) to s) ∙ match-columns (e .0) to s) (matches-columns es from to s)
-  where
-    go : (b : Bool) → addMatches es from to (addMatch (e .0) to s) .columns ≡ s .columns → addMatches es from to s .columns ≡ s .columns
-        → (elim b as (λ x. Scope) [ true ↦ addMatches es from to (addMatch (e .0) to s) | false ↦ addMatches es from to s ]) .columns ≡ s .columns
-    go true p q = p
-    go false p q = q
+matches-columns (e ∷ es) from to s = either-way (λ (c : Scope). c .columns ≡ s .columns) (eqb (e .1) from) _ _ (matches-columns es from to (addMatch (e .0) to s) ∙ match-columns (e .0) to s) (matches-columns es from to s)
 
 hide-columns : (b : Bool) (i : ℕ) (s : Scope) → hide b i s .columns ≡ s .columns
 unfolding hide
@@ -128,15 +119,24 @@ start-labelled : (n : Node Built) (s : Scope) → Labelled n s → Labelled n (m
 unfolding empty
 start-labelled n s h = h ∙ sym (merge-columns empty s)
 
-join-labelled : (n m : Node Built) (s t : Scope) (p : Option Expr) (o : Bool) → Labelled n s → Labelled m t
-    → Ensures (buildOption (merge s t) p) (λ x. Labelled (P.join n m x o) (merge s t))
-join-labelled n m s t p o h g = ensures (buildOption (merge s t) p) _ λ x q. join-labels n m x o ∙ ap₂ _++_ h g ∙ sym (merge-columns s t)
+join-labelled : (n m : Node Built) (s t : Scope) (x : Option Built) (o : Bool) → Labelled n s → Labelled m t → Labelled (P.join n m x o) (merge s t)
+join-labelled n m s t x o h g = join-labels n m x o ∙ ap₂ _++_ h g ∙ sym (merge-columns s t)
 
 swap-labelled : (n : Node Built) (s : Scope) (a b : ℕ) → Labelled n s → columns n ≡ a + b → Labelled (P.remap n (swapped a b)) (remap s (swapped a b))
 unfolding spawn
 swap-labelled n s a b h e =
     rw (swap-labels, remap-swapped, rising-columns a 0 n s (passAll s (rising a b) (spawn s)) h (omega arith), rising-columns b a n s (spawn s) h (omega arith))
 
+label-steps : (c : Catalog) → FromSteps c (λ f r. Labelled (r .node) (r .scope))
+unfolding columns
+label-steps c = record {
+  tables = λ l n a t e. scan-labels (t .0) (t .1) a;
+  joins = λ j o w l f g p a b x h i d. join-labelled _ _ _ _ x o (start-labelled (a .node) (a .scope) h) i;
+  rights = λ l f g p a b x h i d. swap-labelled _ _ _ _ (join-labelled _ _ _ _ x true (start-labelled (b .node) (b .scope) i) h) (ap₂ _+_ (labelled-width (b .node) (b .scope) i) (labelled-width (a .node) (a .scope) h));
+}
+
 -- the labels of FROM's node are those of its scope
 pub from-labels : (c : Catalog) (fs : List From) → Ensures (buildFromClause c fs) (λ r. labels (r .0) ≡ r .1 .columns)
-from-labels c fs = from-has Labelled labelled-width scan-labels start-labelled join-labelled swap-labelled (unfold labels labelsFrom columns firstRow empty in refl) c fs
+unfolding buildFromClause
+from-labels c [] = unfold labels labelsFrom columns firstRow empty in refl
+from-labels c (f ∷ fs) = clause-by (label-steps c) (λ fs n s. Labelled n s) (λ f fs n s r h g w. join-labelled n (r .node) s (r .scope) none false h g) f fs λ r h w. start-labelled (r .node) (r .scope) h

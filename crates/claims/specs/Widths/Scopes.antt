@@ -6,19 +6,18 @@ use mathlib.Core.Path.{_≡_, refl}
 use mathlib.Core.Bool.{Bool, true, false, _||_}
 use mathlib.Core.List.{List, [], _∷_, _++_}
 use mathlib.Core.Option.{Option, none, some}
-use lib.Dec.{eqb, ltb}
+use lib.Dec.{eqb}
 use lib.ListN.{length, length-append, length-map}
-use Rattle.rules.specs.Refusals.{ok, refuse, limitPassed, duplicateTable}
-use Rattle.rules.specs.Limits.{mostColumns}
 use Rattle.rules.specs.Lists.{any, isEmpty, isSome}
 use Rattle.rules.specs.Lines.{Word}
 use Rattle.rules.specs.Schema.{Table}
 use Rattle.rules.specs.Ast.{Expr, Item}
 use Rattle.rules.specs.Plan.{Label}
-use Rattle.rules.specs.Scope.{Scope, empty, width, spawn, addColumn, fromTable, matched, addMatch, labelOf, addAggregate, hide, addMatches, addPassthrough, shares, shift, merge, itemLabel, projectOne, projectAll, project, passAll, remap}
+use Rattle.rules.specs.Scope.{Scope, empty, width, spawn, addColumn, fromTable, matched, addMatch, labelOf, addAggregate, hide, addMatches, addPassthrough, shift, merge, projectOne, projectAll, project, passAll, remap}
 use Rattle.rules.specs.BuildAggregate.{retain}
-use Rattle.rules.specs.BuildFrom.{Source, mergeInto, rising, swapped}
-use Rattle.claims.specs.Answers.{Ensures, refusing, All, all-append, all-weaken}
+use Rattle.rules.specs.BuildFrom.{rising, swapped}
+use Rattle.claims.specs.Answers.{All, all-append, all-weaken}
+use Rattle.claims.specs.Cases.{either-way}
 use Rattle.claims.specs.Widths.Below.{MatchesBelow, Sound}
 use Rattle.claims.specs.Widths.Swapped.{swapped-sources}
 
@@ -61,11 +60,7 @@ wide-column w l s h = (rw length-append (omega arith), matches-up (s .aggregates
 
 wide-match : (w : ℕ) (e : Expr) (i : ℕ) (s : Scope) → i < w → Wide w s → Wide w (addMatch e i s)
 unfolding Wide addMatch width MatchesBelow All
-wide-match w e i s l h = go (isSome (matched s e))
-  where
-    go : (b : Bool) → Wide w (elim b [ true ↦ s | false ↦ record { columns = s .columns; tables = s .tables; aggregates = s .aggregates ++ ((e, i) ∷ []); hidden = s .hidden } ])
-    go true = h
-    go false = (h .0, all-append _ (s .aggregates) ((e, i) ∷ []) (h .1) (l, tt))
+wide-match w e i s l h = either-way (Wide w) (isSome (matched s e)) _ _ h (h .0, all-append _ (s .aggregates) ((e, i) ∷ []) (h .1) (l, tt))
 
 -- a column that a match goes with
 wide-both : (w : ℕ) (e : Expr) (l : Label) (s : Scope) → Wide w s → Wide (w + 1) (addMatch e (width s) (addColumn l s))
@@ -78,12 +73,7 @@ wide-aggregate w p e s h = wide-both w e (labelOf p e) s h
 wide-matches : (es : List (Expr × ℕ)) (w from to : ℕ) (s : Scope) → to < w → Wide w s → Wide w (addMatches es from to s)
 unfolding addMatches
 wide-matches [] w from to s l h = h
-wide-matches (e ∷ es) w from to s l h = go (eqb (e .1) from) (wide-matches es w from to (addMatch (e .0) to s) l (wide-match w (e .0) to s l h)) (wide-matches es w from to s l h)
-  where
-    go : (b : Bool) → Wide w (addMatches es from to (addMatch (e .0) to s)) → Wide w (addMatches es from to s)
-        → Wide w (elim b [ true ↦ addMatches es from to (addMatch (e .0) to s) | false ↦ addMatches es from to s ])
-    go true p q = p
-    go false p q = q
+wide-matches (e ∷ es) w from to s l h = either-way (Wide w) (eqb (e .1) from) _ _ (wide-matches es w from to (addMatch (e .0) to s) l (wide-match w (e .0) to s l h)) (wide-matches es w from to s l h)
 
 wide-hide : (w : ℕ) (b : Bool) (i : ℕ) (s : Scope) → Wide w s → Wide w (hide b i s)
 unfolding Wide hide width
@@ -106,24 +96,10 @@ pub wide-merge : (v w : ℕ) (s t : Scope) → Wide v s → Wide w t → Wide (v
 unfolding merge Wide width
 wide-merge v w s t h g = rw (h .0) (wide-shift (t .aggregates) v w _ (g .1) (rw length-append (omega arith), matches-up (s .aggregates) v (v + w) (omega arith) (h .1)))
 
--- what holds of two scopes merged holds where merging is accepted
-pub merging : (s : Scope) (f : Source) (Q : Scope → Type 0) → Q (merge s (f .scope)) → Ensures (mergeInto s f) Q
-unfolding mergeInto
-merging s f Q h = go (shares (s .tables) (f .scope .tables)) (ltb mostColumns (width s + width (f .scope)))
-  where
-    go : (a b : Bool) → Ensures {A = Scope} (elim a [ true ↦ refuse duplicateTable (f .line) | false ↦ elim b [ true ↦ refuse limitPassed (f .line) | false ↦ ok (merge s (f .scope)) ] ]) Q
-    go true b = refusing duplicateTable (f .line) Q
-    go false true = refusing limitPassed (f .line) Q
-    go false false = h
-
 -- PROJECT
 wide-one : (w : ℕ) (p : Scope) (i : Item) (c : Scope) → Wide w c → Wide (w + 1) (projectOne p i c)
 unfolding projectOne
-wide-one w p i c h = go (isEmpty (p .aggregates))
-  where
-    go : (b : Bool) → Wide (w + 1) (elim b [ true ↦ addColumn (itemLabel p (i .expr) (i .alias)) c | false ↦ addMatch (i .expr) (width c) (addColumn (itemLabel p (i .expr) (i .alias)) c) ])
-    go true = wide-column w _ c h
-    go false = wide-both w _ _ c h
+wide-one w p i c h = either-way (Wide (w + 1)) (isEmpty (p .aggregates)) _ _ (wide-column w _ c h) (wide-both w _ _ c h)
 
 wide-all : (is′ : List Item) (w : ℕ) (p c : Scope) → Wide w c → Wide (w + length is′) (projectAll p is′ c)
 unfolding projectAll
@@ -140,15 +116,8 @@ wide-project is′ p = rw zero-add at (wide-all is′ 0 p (spawn p) (wide-spawn 
 pub wide-retain : (es : List Expr) (w : ℕ) (p c : Scope) → Wide w c → Wide (w + length (retain p es c .0)) (retain p es c .1)
 unfolding retain
 wide-retain [] w p c h = rw add-zero h
-wide-retain (e ∷ es) w p c h = go (isSome (matched c e)) (wide-retain es w p c h) (wide-retain es (w + 1) p (addAggregate p e c) (wide-aggregate w p e c h))
-  where
-    Kept : ℕ → List Expr × Scope → Type 0
-    Kept v r = Wide (v + length (r .0)) (r .1)
-
-    go : (b : Bool) → Kept w (retain p es c) → Kept (w + 1) (retain p es (addAggregate p e c))
-        → Kept w (elim b [ true ↦ retain p es c | false ↦ (e ∷ retain p es (addAggregate p e c) .0, retain p es (addAggregate p e c) .1) ])
-    go true x y = x
-    go false x y = wide-is _ _ _ (omega arith) y
+wide-retain (e ∷ es) w p c h = either-way (λ (r : List Expr × Scope). Wide (w + length (r .0)) (r .1)) (isSome (matched c e)) _ _
+    (wide-retain es w p c h) (wide-is _ _ _ (omega arith) (wide-retain es (w + 1) p (addAggregate p e c) (wide-aggregate w p e c h)))
 
 -- REMAP
 passAll-append : (s : Scope) (xs ys : List (Option ℕ)) (c : Scope) → passAll s (xs ++ ys) c ≡ passAll s ys (passAll s xs c)

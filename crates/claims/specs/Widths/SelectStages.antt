@@ -7,7 +7,7 @@ use mathlib.Core.List.{List, [], _∷_, _++_, map}
 use mathlib.Core.Option.{Option, none, some}
 use lib.Dec.{eqb}
 use lib.ListN.{length, length-append, length-map}
-use Rattle.rules.specs.Refusals.{Reason, ok, _>>=_, refuse, havingWithoutAggregate, invalidOffset, invalidLimit}
+use Rattle.rules.specs.Refusals.{Reason, havingWithoutAggregate, invalidOffset, invalidLimit}
 use Rattle.rules.specs.Lists.{any, isEmpty}
 use Rattle.rules.specs.Lines.{Word}
 use Rattle.rules.specs.Schema.{Catalog}
@@ -20,7 +20,8 @@ use Rattle.rules.specs.BuildAggregate.{buildGroups}
 use Rattle.rules.specs.BuildFrom.{buildFromClause}
 use Rattle.rules.specs.Items.{isLone, expanded, Hidden, projected, hiddenWithin}
 use Rattle.rules.specs.BuildSelect.{filtered, itemBuilt, hiddenBuilt, buildProjection, buildHaving, keyBuilt, buildOrder, natural, buildRows, buildRemap, buildSelect}
-use Rattle.claims.specs.Answers.{Ensures, then, refusing, anything, All, all-append, all-map, each-ensures}
+use Rattle.claims.specs.Answers.{Ensures, then, All, all-append, all-map, each-ensures, past}
+use Rattle.claims.specs.Cases.{tested, unless}
 use Rattle.claims.specs.Widths.Below.{Below}
 use Rattle.claims.specs.Widths.Scopes.{Wide, wide-width, wide-is}
 use Rattle.claims.specs.Widths.Bounded.{Bounded, PlanBounded, Stage, stage-wide, wide-build, wide-option}
@@ -42,30 +43,18 @@ project-stage n s k xs d h hx e hd = (
 
 pub projection-stage : (n : Node Built) (is′ : List Item) (later : List Expr) (s : Scope) → Stage n s → Ensures (buildProjection n is′ later s) (λ r. Stage (r .0) (r .1))
 unfolding buildProjection
-projection-stage n is′ later s h = go (isLone is′)
-  where
-    d : Hidden
-    d = projected s is′ later
-
-    go : (b : Bool) → Ensures {A = Node Built × Scope} (elim b [
-      | true ↦ ok (n, s)
-      | false ↦ (each (itemBuilt s) is′ >>= λ xs. hiddenWithin (length is′) (d .columns) >>= λ u. ok (P.project n (xs ++ map hiddenBuilt (d .columns)), d .scope))
-    ]) (λ r. Stage (r .0) (r .1))
-    go true = h
-    go false =
-        then (each (itemBuilt s) is′) _ _ _ (each-ensures (itemBuilt s) _ (λ i. item-below (columns n) s i (stage-wide n s h)) is′) λ xs hx.
-        then (hiddenWithin (length is′) (d .columns)) _ _ _ (anything (hiddenWithin (length is′) (d .columns))) λ u hu.
-        project-stage n s (length is′) xs d h (hx .0) (hx .1) (projected-stage (columns n) s is′ later (stage-wide n s h))
+projection-stage n is′ later s h =
+    let d = projected s is′ later in
+    tested (isLone is′) _ _ _ h
+    (then (each (itemBuilt s) is′) _ _ _ (each-ensures (itemBuilt s) _ (λ i. item-below (columns n) s i (stage-wide n s h)) is′) λ xs hx.
+    past (hiddenWithin (length is′) (d .columns)) _ _ λ u.
+    project-stage n s (length is′) xs d h (hx .0) (hx .1) (projected-stage (columns n) s is′ later (stage-wide n s h)))
 
 -- HAVING AND ORDER
 having-stage : (n : Node Built) (c : Option Clause) (s : Scope) → Stage n s → Ensures (buildHaving n c s) (λ m. Stage m s)
 unfolding buildHaving Stage Bounded columns
 having-stage n none s h = h
-having-stage n (some c) s h = go (isEmpty (s .aggregates))
-  where
-    go : (b : Bool) → Ensures {A = Node Built} (elim b [ true ↦ refuse havingWithoutAggregate (c .line) | false ↦ (build s (c .expr) >>= λ x. ok (P.filter n x)) ]) (λ m. Stage m s)
-    go true = refusing havingWithoutAggregate (c .line) _
-    go false = then (build s (c .expr)) _ _ _ (wide-build (columns n) s (c .expr) (h .1)) λ x p. ((h .0, p), h .1)
+having-stage n (some c) s h = unless (isEmpty (s .aggregates)) havingWithoutAggregate (c .line) _ _ (then (build s (c .expr)) _ _ _ (wide-build (columns n) s (c .expr) (h .1)) λ x p. ((h .0, p), h .1))
 
 key-below : (w : ℕ) (s : Scope) (k : Key) → Wide w s → Ensures (keyBuilt s k) (λ x. Below w (x .0))
 unfolding keyBuilt
@@ -82,8 +71,8 @@ rows-stage : (r : Reason) (f : ℕ → Node Built → Node Built) (s : Scope) �
 unfolding buildRows
 rows-stage r f s k n none h = h
 rows-stage r f s k n (some c) h =
-    then (constant (c .expr)) _ _ _ (anything (constant (c .expr))) λ v u.
-    then (natural r (c .line) v) _ _ _ (anything (natural r (c .line) v)) λ m u. k m n h
+    past (constant (c .expr)) _ _ λ v.
+    past (natural r (c .line) v) _ _ λ m. k m n h
 
 offset-stage : (s : Scope) (k : ℕ) (n : Node Built) → Stage n s → Stage (P.offset n k) s
 unfolding Stage Bounded columns
@@ -104,20 +93,25 @@ targets-length hs (suc n) i t = go (any (eqb i) hs) (targets-length hs n (suc i)
     go true p q = ap suc p
     go false p q = ap suc q
 
-remap-bounded : (n : Node Built) (s : Scope) → Stage n s → Bounded (buildRemap n s)
-unfolding buildRemap remapHidden Stage Bounded
-remap-bounded n s h = go (isEmpty (s .hidden))
+-- the last remap, or none
+pub remapped : (Q : Node Built → Type 0) (n : Node Built) (s : Scope) → Q n → Q (P.remap n (targetsFrom (s .hidden) (width s) 0 0)) → Q (buildRemap n s)
+unfolding buildRemap remapHidden
+remapped Q n s h g = go (isEmpty (s .hidden))
   where
-    go : (b : Bool) → Bounded (elim (elim b as (λ x. Option (List (Option ℕ))) [ true ↦ none | false ↦ some (targetsFrom (s .hidden) (width s) 0 0) ]) [ none ↦ n | some ts ↦ P.remap n ts ])
-    go true = h .0
-    go false = (h .0, targets-length (s .hidden) (width s) 0 0 ∙ wide-width (columns n) s (h .1))
+    go : (b : Bool) → Q (elim (elim b as (λ x. Option (List (Option ℕ))) [ true ↦ none | false ↦ some (targetsFrom (s .hidden) (width s) 0 0) ]) [ none ↦ n | some ts ↦ P.remap n ts ])
+    go true = h
+    go false = g
+
+remap-bounded : (n : Node Built) (s : Scope) → Stage n s → Bounded (buildRemap n s)
+unfolding Stage Bounded
+remap-bounded n s h = remapped Bounded n s (h .0) (h .0, targets-length (s .hidden) (width s) 0 0 ∙ wide-width (columns n) s (h .1))
 
 -- every column number of a SELECT's plan is below the width that its expression reads
 pub select-bounded : (c : Catalog) (q : Select) → Ensures (buildSelect c q) PlanBounded
 unfolding buildSelect
 select-bounded c q =
     then (buildFromClause c (q .from)) _ _ _ (from-stage c (q .from)) λ f hf.
-    then (expanded q (f .0)) _ _ _ (anything (expanded q (f .0))) λ is′ u.
+    past (expanded q (f .0)) _ _ λ is′.
     then (buildOption (f .1) (clauseExpr (q .filter))) _ _ _ (wide-option (columns (f .0)) (f .1) (clauseExpr (q .filter)) (stage-wide (f .0) (f .1) hf)) λ w hw.
     then (buildGroups (filtered (f .0) w) (q .group) _ (f .1)) _ _ _ (group-stage (filtered (f .0) w) (q .group) _ (f .1) (filter-stage (f .0) w (f .1) hf hw)) λ a ha.
     then (buildProjection (a .0) is′ _ (a .1)) _ _ _ (projection-stage (a .0) is′ _ (a .1) ha) λ p hp.

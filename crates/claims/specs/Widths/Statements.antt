@@ -4,6 +4,7 @@ use mathlib.Core.List.{List}
 use mathlib.Core.Option.{Option, none, some}
 use lib.ListN.{length}
 use Rattle.rules.specs.Refusals.{otherStatement, noDefault}
+use Rattle.rules.specs.Lists.{Bytes}
 use Rattle.rules.specs.Schema.{Value, Column, Catalog, mustGetTable, defaultAt}
 use Rattle.rules.specs.Ast.{Expr, Delete, Insert, Update, Create, Statement}
 use Rattle.rules.specs.Ast as Ast
@@ -11,7 +12,10 @@ use Rattle.rules.specs.Plan.{columns}
 use Rattle.rules.specs.Scope.{Scope, empty, lookup, fromTable}
 use Rattle.rules.specs.BuildExpression.{found, build, each, buildOption, clauseExpr}
 use Rattle.rules.specs.BuildStatement.{buildDelete, columnMap, buildInsert, orDefault, setValue, setBuilt, buildUpdate, keyColumns, primaryKey, madeColumn, buildCreate, buildStatement}
-use Rattle.claims.specs.Answers.{Ensures, then, refusing, weaken, anything, All, each-ensures}
+use Rattle.rules.specs.ReadCatalog.{readCatalog}
+use Rattle.rules.specs.ReadStatement.{readStatement}
+use Rattle.rules.specs.Entry.{planOf}
+use Rattle.claims.specs.Answers.{Ensures, then, past, refusing, weaken, All, each-ensures}
 use Rattle.claims.specs.Widths.Below.{Below, found-below, lookup-below}
 use Rattle.claims.specs.Widths.Scopes.{Wide, wide-width, wide-empty, wide-table}
 use Rattle.claims.specs.Widths.Bounded.{Bounded, PlanBounded, wide-build, wide-option}
@@ -21,7 +25,7 @@ use Rattle.claims.specs.Widths.SelectStages.{select-bounded}
 delete-bounded : (c : Catalog) (d : Delete) → Ensures (buildDelete c d) PlanBounded
 unfolding buildDelete Bounded
 delete-bounded c d =
-    then (mustGetTable c (d .line) (d .table .bytes)) _ _ _ (anything (mustGetTable c (d .line) (d .table .bytes))) λ t u.
+    past (mustGetTable c (d .line) (d .table .bytes)) _ _ λ t.
     then (buildOption (fromTable (t .1 .name) (t .1)) (clauseExpr (d .filter))) _ _ _ (wide-option _ _ (clauseExpr (d .filter)) (wide-table (t .1 .name) (t .1))) λ w hw. hw
 
 -- INSERT
@@ -31,8 +35,8 @@ row-bounded es = weaken (each (build empty) es) _ _ (λ xs h. h .0) (each-ensure
 insert-bounded : (c : Catalog) (d : Insert) → Ensures (buildInsert c d) PlanBounded
 unfolding buildInsert Bounded
 insert-bounded c d =
-    then (mustGetTable c (d .line) (d .table .bytes)) _ _ _ (anything (mustGetTable c (d .line) (d .table .bytes))) λ t u.
-    then (columnMap (t .1 .columns) (d .columns)) _ _ _ (anything (columnMap (t .1 .columns) (d .columns))) λ m u.
+    past (mustGetTable c (d .line) (d .table .bytes)) _ _ λ t.
+    past (columnMap (t .1 .columns) (d .columns)) _ _ λ m.
     then (each (each (build empty)) (d .rows)) _ _ _ (each-ensures (each (build empty)) (All (Below 0)) row-bounded (d .rows)) λ rs h. h .0
 
 -- UPDATE
@@ -55,7 +59,7 @@ set-below w s cs x h =
 update-bounded : (c : Catalog) (d : Update) → Ensures (buildUpdate c d) PlanBounded
 unfolding buildUpdate Bounded columns
 update-bounded c d =
-    then (mustGetTable c (d .line) (d .table .bytes)) _ _ _ (anything (mustGetTable c (d .line) (d .table .bytes))) λ t u.
+    past (mustGetTable c (d .line) (d .table .bytes)) _ _ λ t.
     let s : Scope = fromTable (t .1 .name) (t .1) in
     let h : Wide (length (t .1 .columns)) s = wide-table (t .1 .name) (t .1) in
     then (buildOption s (clauseExpr (d .filter))) _ _ _ (wide-option _ s (clauseExpr (d .filter)) h) λ w hw.
@@ -65,8 +69,8 @@ update-bounded c d =
 create-bounded : (d : Create) → Ensures (buildCreate d) PlanBounded
 unfolding buildCreate
 create-bounded d =
-    then (primaryKey (d .line) (keyColumns 0 (d .columns))) _ _ _ (anything (primaryKey (d .line) (keyColumns 0 (d .columns)))) λ k u.
-    then (each madeColumn (d .columns)) _ _ _ (anything (each madeColumn (d .columns))) λ cs u. tt
+    past (primaryKey (d .line) (keyColumns 0 (d .columns))) _ _ λ k.
+    past (each madeColumn (d .columns)) _ _ λ cs. tt
 
 -- every statement's plan is bounded
 pub widths : (c : Catalog) (s : Statement) → Ensures (buildStatement c s) PlanBounded
@@ -78,3 +82,8 @@ widths c (Ast.update d) = update-bounded c d
 widths c (Ast.create d) = create-bounded d
 widths c (Ast.drop d) = tt
 widths c (Ast.other l) = refusing otherStatement l _
+
+-- and so is the plan of two texts
+pub plan-bounded : (c q : Bytes) → Ensures (planOf c q) PlanBounded
+unfolding planOf
+plan-bounded c q = past (readCatalog c) _ _ λ ts. past (readStatement q) _ _ λ s. widths ts s

@@ -1,28 +1,24 @@
 -- Every word of an accepted plan, an empty text too, ends within the addresses of the two texts.
-use Prim.Native.Nat.{ℕ, suc, _+_, _≤_}
+use Prim.Native.Nat.{ℕ, _+_, _≤_}
 use native.Mathlib.Omega.{arith}
-use mathlib.Core.Path.{_≡_, refl}
-use mathlib.Core.Bool.{Bool, true, false}
-use mathlib.Core.List.{List, [], _∷_}
-use mathlib.Core.Option.{Option, none, some}
-use lib.Dec.{eqb}
-use lib.ListN.{length, length-drop}
+use mathlib.Core.Path.{_≡_}
+use lib.ListN.{length}
+use Rattle.rules.specs.Refusals.{ok}
 use Rattle.rules.specs.Limits.{mostBytes}
 use Rattle.rules.specs.Lists.{Bytes}
-use Rattle.rules.specs.Lines.{Word, onto, empty, fields, lineSize}
-use Rattle.rules.specs.Reader.{Place, start, baseAddress, lineHere, next, name}
-use Rattle.rules.specs.ReadExpression.{counted}
+use Rattle.rules.specs.Lines.{Word, empty}
+use Rattle.rules.specs.Schema.{Value, Catalog}
+use Rattle.rules.specs.Reader.{start, baseAddress}
 use Rattle.rules.specs.ReadCatalog.{readCatalog}
-use Rattle.rules.specs.ReadStatement.{tabled, readStatement}
 use Rattle.rules.specs.Entry.{planOf}
-use Rattle.claims.specs.Answers.{Ensures, then, All, Given, all-weaken}
-use Rattle.claims.specs.Words.Placed.{name-is}
-use Rattle.claims.specs.Words.Lists.{itself, planWords}
-use Rattle.claims.specs.Words.Fields.{Field}
-use Rattle.claims.specs.Words.Reader.{Sound}
-use Rattle.claims.specs.Words.Catalog.{catalog-words}
-use Rattle.claims.specs.Words.Statement.{statement-words}
-use Rattle.claims.specs.Words.Plan.{plan-worded}
+use Rattle.claims.specs.Answers.{Ensures, All}
+use Rattle.claims.specs.Values.Outcomes.{Kept}
+use Rattle.claims.specs.Values.Values.{Fits, fits-kept}
+use Rattle.claims.specs.Reading.Lines.{Running, running}
+use Rattle.claims.specs.Building.Has.{PlanHas}
+use Rattle.claims.specs.Building.Statements.{planned}
+use Rattle.claims.specs.Words.Lists.{itself, valueWords, WordedValue, planWords}
+use Rattle.claims.specs.Words.PlacedPlan.{planned-words}
 
 -- the end of the statement's addresses, which stand behind the catalog's
 abbrev pub endAddress : ℕ
@@ -32,73 +28,24 @@ endAddress = 131072
 unfoldable pub Ends : Word → Type 0
 Ends w = w .start + length (w .bytes) ≤ endAddress
 
--- FIELDS
--- the first field starts at o, and all end by there
-Fields : ℕ → List Word → Type 0
-Fields o [] = ⊥
-Fields o (w ∷ ws) = (w .start ≡ o) × Ends w × All Ends ws
+-- every field ends by there where what is left of its text does
+ending : Running (λ o xs. o + length xs ≤ endAddress) Ends
+unfolding Ends empty
+ending = record { rest = λ o x xs h. omega arith; empties = λ o xs h. omega arith; longer = λ o x xs w h e g. omega arith }
 
-fields-all : (o : ℕ) (ws : List Word) → Fields o ws → All Ends ws
-unfolding Fields All
-fields-all o [] h = absurd h
-fields-all o (w ∷ ws) h = (h .1, h .2)
+-- a value within 64 bits, whose word ends by there
+abbrev pub EndsValue : Value → Type 0
+EndsValue v = Fits v × WordedValue itself Ends v
 
-fields-onto : (o x : ℕ) (ws : List Word) → Fields (suc o) ws → Fields o (onto o x ws)
-unfolding Fields onto Ends
-fields-onto o x [] h = absurd h
-fields-onto o x (w ∷ ws) h = (refl, omega arith, h .2)
+ends-kept : Kept EndsValue
+unfolding Fits valueWords All
+ends-kept = record { nulls = (tt, tt); truths = λ a. (tt, tt); within = λ z h. (h, tt); remainders = λ m n h. (fits-kept .remainders m n (h .0), tt); floats = λ b h. (h, tt) }
 
-fields-end : (xs : Bytes) (o : ℕ) → o + length xs ≤ endAddress → Fields o (fields o xs)
-unfolding Fields fields empty Ends All
-fields-end [] o h = (refl, omega arith, (omega arith, (omega arith, tt)))
-fields-end (x ∷ xs) o h = go (eqb x 10) (eqb x 9) (fields-end xs (suc o) (omega arith))
-  where
-    go : (k l : Bool) → Fields (suc o) (fields (suc o) xs)
-        → Fields o (elim k [ true ↦ empty o ∷ [] | false ↦ elim l [ true ↦ empty o ∷ fields (suc o) xs | false ↦ onto o x (fields (suc o) xs) ] ])
-    go true l g = (refl, omega arith, tt)
-    go false true g = (refl, omega arith, fields-all (suc o) (fields (suc o) xs) g)
-    go false false g = fields-onto o x (fields (suc o) xs) g
+-- the values and names of an accepted plan
+pub plan-ends : (c q : Bytes) → length c ≤ mostBytes → length q ≤ mostBytes → (ts : Catalog) → readCatalog c ≡ ok ts → Ensures (planOf c q) (PlanHas EndsValue Ends ts)
+unfolding Fits valueWords All start baseAddress
+plan-ends c q l m = let s = running ending ends-kept (λ w h. (tt, (h, tt))) (λ w h i. h) in planned s s c q (omega arith) (omega arith)
 
--- PLACES
--- what is left of a text ends by there
-Left : Place → Type 0
-Left p = p .address + length (p .left) ≤ endAddress
-
-lineSize-most : (xs : Bytes) → lineSize xs ≤ length xs
-unfolding lineSize
-lineSize-most [] = omega arith
-lineSize-most (x ∷ xs) = go (eqb x 10) (lineSize-most xs)
-  where
-    go : (k : Bool) → lineSize xs ≤ length xs → (elim k [ true ↦ 1 | false ↦ suc (lineSize xs) ]) ≤ suc (length xs)
-    go true g = omega arith
-    go false g = omega arith
-
-next-left : (p : Place) → Left p → Left (next p)
-unfolding Left next
-next-left p h = simp length-drop (omega (arith, lineSize-most (p .left)))
-
--- a name is its field
-name-ends : (w : Word) → Ends w → Given Ends (name w)
-unfolding Given
-name-ends w h = go (name w) refl
-  where
-    go : (o : Option Word) → name w ≡ o → Given Ends o
-    go none e = tt
-    go (some v) e = let q : v ≡ w = name-is w v e .0 in rw q h
-
-words-sound : Sound itself Ends Left
-unfolding Field All Left lineHere counted tabled
-words-sound = record {
-  fields = λ p h. all-weaken Ends (Field itself Ends) (λ w g. (name-ends w g, (g, tt))) (lineHere p) (fields-all (p .address) _ (fields-end (p .left) (p .address) h));
-  next = next-left;
-  counted = λ p h. h;
-  tabled = λ p h. h;
-}
-
--- the words of an accepted plan
+-- its words
 pub words-end : (c q : Bytes) → length c ≤ mostBytes → length q ≤ mostBytes → Ensures (planOf c q) (λ p. All Ends (planWords p))
-unfolding planOf Left start baseAddress
-words-end c q l m =
-    then (readCatalog c) _ _ _ (catalog-words words-sound c (omega arith)) λ ts g.
-    then (readStatement q) _ _ _ (statement-words words-sound q (omega arith)) λ s h.
-    plan-worded itself Ends ts s g h
+words-end c q l m = planned-words EndsValue Ends itself (λ v h. h .1) c q (plan-ends c q l m)

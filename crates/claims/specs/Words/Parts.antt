@@ -1,107 +1,99 @@
--- What holds of a plan's words holds of its aliases and of the words of its expressions.
-use mathlib.Core.List.{List, [], _∷_, _++_, map}
-use mathlib.Core.Option.{Option}
-use Rattle.rules.specs.Lists.{given, concat}
+-- The expressions, aliases and words of a plan have what its values and names have.
+use mathlib.Core.List.{List}
+use Rattle.rules.specs.Lists.{given}
 use Rattle.rules.specs.Lines.{Word}
-use Rattle.rules.specs.Plan.{Built, Node, Made, Plan}
-use Rattle.rules.specs.Plan as Pl
+use Rattle.rules.specs.Schema.{Value, Catalog}
+use Rattle.rules.specs.Plan.{Built, Node, Plan}
+use Rattle.rules.specs.Plan as P
 use Rattle.rules.specs.Cells.{expressions, planExpressions}
 use Rattle.claims.specs.Answers.{All, all-append, all-left, all-right, all-weaken, all-map}
-use Rattle.claims.specs.Words.Lists.{wordsOf, all-words, words-all, all-none, all-one, builtWords, projectedWords, nodeWords, madeWords, planWordsBy}
+use Rattle.claims.specs.Lists.{all-none, all-one, all-concat, given-all, given-weaken}
+use Rattle.claims.specs.Building.Has.{TreeHas, NodeHas, PlanHas}
+use Rattle.claims.specs.Words.Lists.{wordsOf, all-words, words-all, nodeAliases, planAliases, valueWords, builtWords, madeWords, tableWords, planWordsBy}
 
--- the aliases of a node's scans and projected items
-unfoldable pub nodeAliases : Node Built → List Word
-nodeAliases (Pl.scan i a n x) = given n
-nodeAliases (Pl.values rs) = []
-nodeAliases (Pl.join a b x o) = nodeAliases a ++ nodeAliases b
-nodeAliases (Pl.filter n x) = nodeAliases n
-nodeAliases (Pl.aggregate n gs fs) = nodeAliases n
-nodeAliases (Pl.project n xs) = nodeAliases n ++ wordsOf (λ x. given (x .1)) xs
-nodeAliases (Pl.order n xs) = nodeAliases n
-nodeAliases (Pl.offset n k) = nodeAliases n
-nodeAliases (Pl.limit n k) = nodeAliases n
-nodeAliases (Pl.remap n ts) = nodeAliases n
-
--- those of a plan, and the references of created columns
-unfoldable pub planAliases : Plan Built → List Word
-planAliases (Pl.select n) = nodeAliases n
-planAliases (Pl.delete i a n) = nodeAliases n
-planAliases (Pl.insert i a m n) = nodeAliases n
-planAliases (Pl.update i a n xs) = nodeAliases n
-planAliases (Pl.create n k cs) = wordsOf (λ c. given (c .reference)) cs
-planAliases (Pl.drop n y) = []
-
-module _ (t : Word → List Word) (P : Word → Type 0) where
-  -- ALIASES
-  items-aliases : (xs : List (Built × Option Word)) → All P (wordsOf (projectedWords t) xs) → All P (wordsOf (λ x. given (x .1)) xs)
-  unfolding projectedWords
-  items-aliases xs h = all-words P _ xs (all-weaken _ _ (λ x g. all-right P (builtWords t (x .0)) _ g) xs (words-all P (projectedWords t) xs h))
-
-  node-aliases : (n : Node Built) → All P (nodeWords t n) → All P (nodeAliases n)
-  unfolding nodeWords nodeAliases
-  node-aliases (Pl.scan i a n x) h = all-left P (given n) _ h
-  node-aliases (Pl.values rs) h = all-none P
-  node-aliases (Pl.join a b x o) h = all-append P (nodeAliases a) _ (node-aliases a (all-left P (nodeWords t a) _ h)) (node-aliases b (all-left P (nodeWords t b) _ (all-right P (nodeWords t a) _ h)))
-  node-aliases (Pl.filter n x) h = node-aliases n (all-left P (nodeWords t n) _ h)
-  node-aliases (Pl.aggregate n gs fs) h = node-aliases n (all-left P (nodeWords t n) _ h)
-  node-aliases (Pl.project n xs) h = all-append P (nodeAliases n) _ (node-aliases n (all-left P (nodeWords t n) _ h)) (items-aliases xs (all-right P (nodeWords t n) _ h))
-  node-aliases (Pl.order n xs) h = node-aliases n (all-left P (nodeWords t n) _ h)
-  node-aliases (Pl.offset n k) h = node-aliases n h
-  node-aliases (Pl.limit n k) h = node-aliases n h
-  node-aliases (Pl.remap n ts) h = node-aliases n h
-
-  references : (cs : List Made) → All P (wordsOf (madeWords t) cs) → All P (wordsOf (λ c. given (c .reference)) cs)
-  unfolding madeWords
-  references cs h = all-words P _ cs (all-weaken _ _ (λ c g. all-left P (given (c .reference)) _ (all-right P (c .name ∷ []) _ g)) cs (words-all P (madeWords t) cs h))
-
-  -- from all words of a plan to its aliases
-  pub plan-aliases : (p : Plan Built) → All P (planWordsBy t p) → All P (planAliases p)
-  unfolding planWordsBy planAliases
-  plan-aliases (Pl.select n) h = node-aliases n h
-  plan-aliases (Pl.delete i a n) h = node-aliases n h
-  plan-aliases (Pl.insert i a m n) h = node-aliases n h
-  plan-aliases (Pl.update i a n xs) h = node-aliases n (all-left P (nodeWords t n) _ h)
-  plan-aliases (Pl.create n k cs) h = references cs (all-right P (n ∷ []) _ h)
-  plan-aliases (Pl.drop n y) h = all-none P
-
+module _ (Q : Value → Type 0) (N : Word → Type 0) (ts : Catalog) where
   -- EXPRESSIONS
-  abbrev Holds : Built → Type 0
-  Holds x = All P (builtWords t x)
+  abbrev Tree : Built → Type 0
+  Tree x = TreeHas Q x
 
-  all-concat : (rs : List (List Built)) → All (All Holds) rs → All Holds (concat rs)
-  unfolding concat All
-  all-concat [] h = tt
-  all-concat (r ∷ rs) h = all-append Holds r (concat rs) (h .0) (all-concat rs (h .1))
+  node-trees : (n : Node Built) → NodeHas Q N ts n → All Tree (expressions n)
+  unfolding NodeHas expressions
+  node-trees (P.scan i t a x) h = given-all Tree x (h .1)
+  node-trees (P.values rs) h = all-concat Tree rs h
+  node-trees (P.join a b x o) h = all-append Tree (expressions a) _ (node-trees a (h .0)) (all-append Tree (expressions b) _ (node-trees b (h .1)) (given-all Tree x (h .2)))
+  node-trees (P.filter n x) h = all-append Tree (expressions n) _ (node-trees n (h .0)) (all-one Tree x (h .1))
+  node-trees (P.aggregate n gs fs) h = all-append Tree (expressions n) _ (node-trees n (h .0)) (all-append Tree gs _ (h .1) (all-map Tree (λ f. f .1) _ (λ f g. g) fs (h .2)))
+  node-trees (P.project n xs) h = all-append Tree (expressions n) _ (node-trees n (h .0)) (all-map Tree (λ x. x .0) _ (λ x g. g .0) xs (h .1))
+  node-trees (P.order n xs) h = all-append Tree (expressions n) _ (node-trees n (h .0)) (all-map Tree (λ x. x .0) _ (λ x g. g) xs (h .1))
+  node-trees (P.offset n k) h = node-trees n (h .0)
+  node-trees (P.limit n k) h = node-trees n (h .0)
+  node-trees (P.remap n xs) h = node-trees n (h .0)
 
-  -- the first or the second of each entry
-  all-parts : {A : Type 0} (f : A → Built) (as′ : List A) → All P (wordsOf (λ a. builtWords t (f a)) as′) → All Holds (map f as′)
-  all-parts f as′ h = all-map Holds f (λ a. Holds (f a)) (λ a g. g) as′ (words-all P (λ a. builtWords t (f a)) as′ h)
+  -- the expressions of a plan
+  pub plan-trees : (p : Plan Built) → PlanHas Q N ts p → All (TreeHas Q) (planExpressions p)
+  unfolding PlanHas planExpressions
+  plan-trees (P.select n) h = node-trees n h
+  plan-trees (P.delete i t n) h = node-trees n (h .1)
+  plan-trees (P.insert i t m n) h = node-trees n (h .1)
+  plan-trees (P.update i t n xs) h = all-append Tree (expressions n) _ (node-trees n (h .1)) (all-map Tree (λ x. x .1) _ (λ x g. g) xs (h .2))
+  plan-trees (P.create n k cs) h = all-none Tree
+  plan-trees (P.drop n y) h = all-none Tree
 
-  items-expressions : (xs : List (Built × Option Word)) → All P (wordsOf (projectedWords t) xs) → All Holds (map (λ x. x .0) xs)
-  unfolding projectedWords
-  items-expressions xs h = all-map Holds (λ x. x .0) _ (λ x g. all-left P (builtWords t (x .0)) _ g) xs (words-all P (projectedWords t) xs h)
+  -- ALIASES
+  node-aliases : (n : Node Built) → NodeHas Q N ts n → All N (nodeAliases n)
+  unfolding NodeHas nodeAliases
+  node-aliases (P.scan i t a x) h = given-all N a (h .2)
+  node-aliases (P.values rs) h = all-none N
+  node-aliases (P.join a b x o) h = all-append N (nodeAliases a) _ (node-aliases a (h .0)) (node-aliases b (h .1))
+  node-aliases (P.filter n x) h = node-aliases n (h .0)
+  node-aliases (P.aggregate n gs fs) h = node-aliases n (h .0)
+  node-aliases (P.project n xs) h = all-append N (nodeAliases n) _ (node-aliases n (h .0)) (all-words N _ xs (all-weaken _ _ (λ x g. given-all N (x .1) (g .1)) xs (h .1)))
+  node-aliases (P.order n xs) h = node-aliases n (h .0)
+  node-aliases (P.offset n k) h = node-aliases n (h .0)
+  node-aliases (P.limit n k) h = node-aliases n (h .0)
+  node-aliases (P.remap n xs) h = node-aliases n (h .0)
 
-  node-expressions : (n : Node Built) → All P (nodeWords t n) → All Holds (expressions n)
-  unfolding nodeWords expressions
-  node-expressions (Pl.scan i a n x) h = words-all P (builtWords t) (given x) (all-right P (given n) _ h)
-  node-expressions (Pl.values rs) h = all-concat rs (all-weaken _ _ (words-all P (builtWords t)) rs (words-all P (wordsOf (builtWords t)) rs h))
-  node-expressions (Pl.join a b x o) h = all-append Holds (expressions a) _ (node-expressions a (all-left P (nodeWords t a) _ h))
-      (all-append Holds (expressions b) _ (node-expressions b (all-left P (nodeWords t b) _ (all-right P (nodeWords t a) _ h))) (words-all P (builtWords t) (given x) (all-right P (nodeWords t b) _ (all-right P (nodeWords t a) _ h))))
-  node-expressions (Pl.filter n x) h = all-append Holds (expressions n) _ (node-expressions n (all-left P (nodeWords t n) _ h)) (all-one Holds x (all-right P (nodeWords t n) _ h))
-  node-expressions (Pl.aggregate n gs fs) h = all-append Holds (expressions n) _ (node-expressions n (all-left P (nodeWords t n) _ h))
-      (all-append Holds gs _ (words-all P (builtWords t) gs (all-left P (wordsOf (builtWords t) gs) _ (all-right P (nodeWords t n) _ h))) (all-parts (λ f. f .1) fs (all-right P (wordsOf (builtWords t) gs) _ (all-right P (nodeWords t n) _ h))))
-  node-expressions (Pl.project n xs) h = all-append Holds (expressions n) _ (node-expressions n (all-left P (nodeWords t n) _ h)) (items-expressions xs (all-right P (nodeWords t n) _ h))
-  node-expressions (Pl.order n xs) h = all-append Holds (expressions n) _ (node-expressions n (all-left P (nodeWords t n) _ h)) (all-parts (λ x. x .0) xs (all-right P (nodeWords t n) _ h))
-  node-expressions (Pl.offset n k) h = node-expressions n h
-  node-expressions (Pl.limit n k) h = node-expressions n h
-  node-expressions (Pl.remap n ts) h = node-expressions n h
+  -- the aliases of a plan
+  plan-aliases : (p : Plan Built) → PlanHas Q N ts p → All N (planAliases p)
+  unfolding PlanHas planAliases
+  plan-aliases (P.select n) h = node-aliases n h
+  plan-aliases (P.delete i t n) h = node-aliases n (h .1)
+  plan-aliases (P.insert i t m n) h = node-aliases n (h .1)
+  plan-aliases (P.update i t n xs) h = node-aliases n (h .1)
+  plan-aliases (P.create n k cs) h = all-words N _ cs (all-weaken _ _ (λ c g. given-all N (c .reference) (g .2)) cs (h .1))
+  plan-aliases (P.drop n y) h = all-none N
 
-  -- and to those of its expressions
-  pub plan-expressions : (p : Plan Built) → All P (planWordsBy t p) → All (λ x. All P (builtWords t x)) (planExpressions p)
-  unfolding planWordsBy planExpressions
-  plan-expressions (Pl.select n) h = node-expressions n h
-  plan-expressions (Pl.delete i a n) h = node-expressions n h
-  plan-expressions (Pl.insert i a m n) h = node-expressions n h
-  plan-expressions (Pl.update i a n xs) h = all-append Holds (expressions n) _ (node-expressions n (all-left P (nodeWords t n) _ h)) (all-parts (λ x. x .1) xs (all-right P (nodeWords t n) _ h))
-  plan-expressions (Pl.create n k cs) h = all-none Holds
-  plan-expressions (Pl.drop n y) h = all-none Holds
+  -- WORDS, where those of each value have N
+  module _ (t : Word → List Word) (values : (v : Value) → Q v → All N (valueWords t v)) where
+    tree-words : (x : Built) → Tree x → All N (builtWords t x)
+    unfolding TreeHas builtWords
+    tree-words (P.constant v) h = values v h
+    tree-words (P.column i) h = all-none N
+    tree-words (P.unary o a) h = tree-words a h
+    tree-words (P.binary o a b) h = all-append N (builtWords t a) _ (tree-words a (h .0)) (tree-words b (h .1))
+    tree-words (P.is a v) h = all-append N (builtWords t a) _ (tree-words a (h .0)) (values v (h .2))
+
+    table-words : (p : Plan Built) → PlanHas Q N ts p → All N (tableWords t p)
+    unfolding PlanHas tableWords madeWords All
+    table-words (P.select n) h = tt
+    table-words (P.delete i a n) h = tt
+    table-words (P.insert i a m n) h = tt
+    table-words (P.update i a n xs) h = tt
+    table-words (P.create n k cs) h = (h .2, all-words N (madeWords t) cs (all-weaken _ _ (λ c g. (g .1, all-words N (valueWords t) (given (c .default)) (given-all _ (c .default) (given-weaken Q _ values (c .default) (g .0))))) cs (h .1)))
+    table-words (P.drop n y) h = (h, tt)
+
+    -- all words of a plan
+    pub plan-words : (p : Plan Built) → PlanHas Q N ts p → All N (planWordsBy t p)
+    unfolding planWordsBy
+    plan-words p h = all-append N (planAliases p) _ (plan-aliases p h)
+        (all-append N (wordsOf (builtWords t) (planExpressions p)) _ (all-words N (builtWords t) _ (all-weaken _ _ tree-words (planExpressions p) (plan-trees p h))) (table-words p h))
+
+-- FROM ALL WORDS to those of the parts
+module _ (t : Word → List Word) (P : Word → Type 0) (p : Plan Built) (h : All P (planWordsBy t p)) where
+  pub words-aliases : All P (planAliases p)
+  unfolding planWordsBy
+  words-aliases = all-left P (planAliases p) _ h
+
+  pub words-expressions : All (λ x. All P (builtWords t x)) (planExpressions p)
+  unfolding planWordsBy
+  words-expressions = words-all P (builtWords t) _ (all-left P (wordsOf (builtWords t) (planExpressions p)) _ (all-right P (planAliases p) _ h))

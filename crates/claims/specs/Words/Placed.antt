@@ -1,85 +1,80 @@
 -- Every word of an accepted catalog and of an accepted statement stands in its text, and every name has 1 to 64 bytes.
-use Prim.Native.Nat.{ℕ, _≤_}
+use Prim.Native.Nat.{ℕ, _-_, _≤_}
 use native.Mathlib.Omega.{arith}
 use mathlib.Core.Path.{_≡_, refl}
-use mathlib.Core.Bool.{Bool, true, false, _&&_}
-use mathlib.Core.List.{List, [], _∷_}
-use mathlib.Core.Option.{none, some}
-use lib.Dec.{leb, leb→le}
+use mathlib.Core.List.{List}
 use lib.ListN.{length}
-use Rattle.rules.specs.Limits.{mostBytes, mostNameBytes}
+use Rattle.rules.specs.Refusals.{ok}
+use Rattle.rules.specs.Limits.{mostBytes}
 use Rattle.rules.specs.Lists.{Bytes}
 use Rattle.rules.specs.Lines.{Word}
-use Rattle.rules.specs.Reader.{start, baseAddress, lineHere, name}
-use Rattle.rules.specs.ReadExpression.{counted}
-use Rattle.rules.specs.ReadStatement.{tabled, readStatement}
+use Rattle.rules.specs.Schema.{Value, text, Catalog}
+use Rattle.rules.specs.Reader.{start, baseAddress}
+use Rattle.rules.specs.ReadStatement.{readStatement}
 use Rattle.rules.specs.ReadCatalog.{readCatalog}
-use Rattle.claims.specs.Answers.{Ensures, All, Given, all-weaken}
-use Rattle.claims.specs.Reading.Rules.{Anywhere}
+use Rattle.rules.specs.Entry.{planOf}
+use Rattle.claims.specs.Answers.{Ensures, All}
+use Rattle.claims.specs.Values.Outcomes.{Kept}
+use Rattle.claims.specs.Values.Values.{Fits}
+use Rattle.claims.specs.Reading.Has.{ExprHas, TableHas, StatementHas}
+use Rattle.claims.specs.Reading.Sound.{IsName, Sound, any-line}
+use Rattle.claims.specs.Reading.Lines.{running}
+use Rattle.claims.specs.Reading.Expression.{gives-expression}
+use Rattle.claims.specs.Reading.Statement.{statement-has}
+use Rattle.claims.specs.Reading.Catalog.{catalog-has}
+use Rattle.claims.specs.Building.Has.{PlanHas}
+use Rattle.claims.specs.Building.Statements.{planned}
 use Rattle.claims.specs.Words.Places.{Placed}
-use Rattle.claims.specs.Words.Lines.{Stands, Left, Within, line-stands, within-next, placed-catalog, placed-statement}
-use Rattle.claims.specs.Words.Lists.{itself, nothing, catalogWords, catalogNames, statementWords, statementNames}
-use Rattle.claims.specs.Words.Fields.{given-some, given-weaken, Field}
-use Rattle.claims.specs.Words.Reader.{Sound}
-use Rattle.claims.specs.Words.Catalog.{catalog-words}
-use Rattle.claims.specs.Words.Statement.{statement-words}
+use Rattle.claims.specs.Words.Lines.{Stands, Left, stands, placed-catalog, placed-statement}
+use Rattle.claims.specs.Words.Lists.{itself, valueWords, WordedValue}
 
--- 1 to 64 bytes
-unfoldable pub IsName : Word → Type 0
-IsName w = (1 ≤ length (w .bytes)) × (length (w .bytes) ≤ mostNameBytes)
+-- operators make no text
+pub words-kept : (t : Word → List Word) (P : Word → Type 0) → Kept (WordedValue t P)
+unfolding valueWords All
+words-kept t P = record { nulls = tt; truths = λ a. tt; within = λ z h. tt; remainders = λ m n h. tt; floats = λ b h. tt }
 
-name-given : (w : Word) → Given (λ v. (v ≡ w) × IsName v) (name w)
-unfolding name Given IsName
-name-given w = go (leb 1 (length (w .bytes))) (leb (length (w .bytes)) mostNameBytes) refl refl
-  where
-    go : (a b : Bool) → leb 1 (length (w .bytes)) ≡ a → leb (length (w .bytes)) mostNameBytes ≡ b → Given (λ v. (v ≡ w) × IsName v) (elim (a && b) [ true ↦ some w | false ↦ none ])
-    go true true d e = (refl, (leb→le 1 (length (w .bytes)) (rw d tt), leb→le (length (w .bytes)) mostNameBytes (rw e tt)))
-    go true false d e = tt
-    go false true d e = tt
-    go false false d e = tt
+-- at the start all is left
+whole-left : (t : Bytes) (b : ℕ) → Left t b b t
+unfolding Left
+whole-left t b = let e : b - b ≡ 0 = omega arith in (omega arith, rw e refl)
 
-all-every : {B : Type 0} (Q : B → Type 0) → ((b : B) → Q b) → (xs : List B) → All Q xs
-unfolding All
-all-every Q k [] = tt
-all-every Q k (x ∷ xs) = (k x, all-every Q k xs)
+-- READING TWO TEXTS, the catalog within its length
+module _ (c q : Bytes) (Q : Value → Type 0) (N : Word → Type 0) (kept : Kept Q) (texts : (w : Word) → Placed c q w → Q (text w)) (names : (w : Word) → Placed c q w → IsName w → N w) where
+  -- a text whose words are placed
+  text-sound : (t : Bytes) (b : ℕ) → ((w : Word) → Stands t b w → Placed c q w) → Sound (Stands t b) Q N (λ p. Left t b (p .address) (p .left))
+  text-sound t b k = running (stands t b) kept (λ w h. texts w (k w h)) λ w h i. names w (k w h) i
 
--- a name is its field, of 1 to 64 bytes
-pub name-is : (w v : Word) → name w ≡ some v → (v ≡ w) × IsName v
-name-is w v = given-some _ (name w) (name-given w) v
+  catalog-sound : length c ≤ mostBytes → Sound (Stands c 0) Q N (λ p. Left c 0 (p .address) (p .left))
+  catalog-sound l = text-sound c 0 (placed-catalog c q l)
 
--- reading a text whose first byte has the address b
-text-sound : (t : Bytes) (b : ℕ) (P : Word → Type 0) → ((w : Word) → Stands t b w → P w) → Sound itself P (Within t b)
-unfolding Field All Within counted tabled
-text-sound t b P k = record {
-  fields = λ p h. all-weaken (Stands t b) (Field itself P) (λ w g. (given-weaken _ P (λ v e. rw (e .0) (k w g)) (name w) (name-given w), (k w g, tt))) (lineHere p) (line-stands t b p h);
-  next = within-next t b;
-  counted = λ p h. h;
-  tabled = λ p h. h;
-}
+  statement-sound : Sound (Stands q mostBytes) Q N (λ p. Left q mostBytes (p .address) (p .left))
+  statement-sound = text-sound q mostBytes (placed-statement c q)
 
--- whatever the line, its names have 1 to 64 bytes
-names-sound : Sound nothing IsName Anywhere
-unfolding Field All
-names-sound = record {
-  fields = λ p h. all-every (Field nothing IsName) (λ w. (given-weaken _ IsName (λ v e. e .1) (name w) (name-given w), tt)) (lineHere p);
-  next = λ p h. tt;
-  counted = λ p h. tt;
-  tabled = λ p h. tt;
-}
+  -- and their plan
+  pub placed-planned : length c ≤ mostBytes → (ts : Catalog) → readCatalog c ≡ ok ts → Ensures (planOf c q) (PlanHas Q N ts)
+  unfolding start baseAddress
+  placed-planned l = planned (catalog-sound l) statement-sound c q (whole-left c 0) (whole-left q mostBytes)
+
+-- WORDS
+-- a text at its address
+abbrev pub PlacedValue : Bytes → Bytes → Value → Type 0
+PlacedValue c q v = WordedValue itself (Placed c q) v
 
 -- the words of an accepted catalog stand in it
-pub catalog-placed : (c q : Bytes) → length c ≤ mostBytes → Ensures (readCatalog c) (λ ts. All (Placed c q) (catalogWords ts))
-unfolding Within Left start baseAddress
-catalog-placed c q l = catalog-words (text-sound c 0 (Placed c q) (placed-catalog c q l)) c (omega arith, refl)
+pub catalog-placed : (c q : Bytes) → length c ≤ mostBytes → Ensures (readCatalog c) (All (TableHas (PlacedValue c q) (Placed c q)))
+unfolding valueWords All start baseAddress
+catalog-placed c q l = catalog-has (catalog-sound c q _ (Placed c q) (words-kept itself (Placed c q)) (λ w h. (h, tt)) (λ w h i. h) l) c (whole-left c 0)
 
 -- those of an accepted statement stand in it
-pub statement-placed : (c q : Bytes) → Ensures (readStatement q) (λ s. All (Placed c q) (statementWords s))
-unfolding Within Left start baseAddress
-statement-placed c q = statement-words (text-sound q mostBytes (Placed c q) (placed-statement c q)) q (omega arith, refl)
+pub statement-placed : (c q : Bytes) → Ensures (readStatement q) (StatementHas (ExprHas (PlacedValue c q) (Placed c q)) (Placed c q))
+unfolding valueWords All start baseAddress
+statement-placed c q =
+    let s = statement-sound c q (PlacedValue c q) (Placed c q) (words-kept itself (Placed c q)) (λ w h. (h, tt)) (λ w h i. h) in
+    statement-has s _ (gives-expression s) q (whole-left q mostBytes)
 
--- their names have 1 to 64 bytes
-pub catalog-names : (c : Bytes) → Ensures (readCatalog c) (λ ts. All IsName (catalogNames ts))
-catalog-names c = catalog-words names-sound c tt
+-- their literals fit 64 bits, and their names have 1 to 64 bytes
+pub catalog-names : (c : Bytes) → Ensures (readCatalog c) (All (TableHas Fits IsName))
+catalog-names c = catalog-has any-line c tt
 
-pub statement-names : (q : Bytes) → Ensures (readStatement q) (λ s. All IsName (statementNames s))
-statement-names q = statement-words names-sound q tt
+pub statement-names : (q : Bytes) → Ensures (readStatement q) (StatementHas (ExprHas Fits IsName) IsName)
+statement-names q = statement-has any-line _ (gives-expression any-line) q tt
