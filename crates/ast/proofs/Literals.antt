@@ -1,0 +1,131 @@
+-- Literals of the table by their kinds: those of two kinds differ, those of one are the same when their numbers or bytes are.
+use Prim.Native.Nat.{ℕ, suc, _+_, _*_, _-_, _^_, _<_}
+use native.Mathlib.Omega.{arith}
+use mathlib.Core.Path.{_≡_, refl, sym, ap, _∙_}
+use mathlib.Core.Bool.{Bool, true, false, not, and-true}
+use mathlib.Core.List.{List, headD}
+use lib.Dec.{eqb, ltb}
+use lib.IntN.{ℤ, pos, negsuc}
+use lib.ListN.{getD}
+use borrow.Author.Tests.{eqb-true, eqb-false, eq-eqb, ne-eqb}
+use Rattle.rules.specs.Lists.{Bytes, same}
+use Rattle.rules.specs.Places.{wordAt}
+use Rattle.rules.specs.Schema.{Value, null, bool, int, float, text}
+use Rattle.rules.specs.Equality.{spellValue}
+use Rattle.ast.specs.Table.{isOne, integerAt, valueAt}
+use Rattle.ast.specs.Codes.{orLeast, countFrom, coded-map, coded-least, coded-at, least-kept}
+use Rattle.ast.proofs.Spelling.{no-true, same-true, same-self, valueKind, value-kind, meet}
+
+module _ (c q : Bytes) where
+  value-code : (k a b : ℕ) → valueKind (valueAt c q k a b) ≡ orLeast 1 5 k
+  unfolding valueAt valueKind countFrom
+  value-code k a b = coded-map valueKind _ _ 1 k ∙ coded-least 4 1 k
+
+  -- of two kinds
+  pub values-apart : (k a b l x y : ℕ) → (orLeast 1 5 k ≡ orLeast 1 5 l → ⊥) → same (spellValue (valueAt c q k a b)) (spellValue (valueAt c q l x y)) ≡ false
+  values-apart k a b l x y h = no-true _ (λ e. h (sym (kind-of k a b) ∙ ap (λ (r : List ℕ). headD r 0) (same-true _ _ e) ∙ kind-of l x y))
+    where
+      kind-of : (k a b : ℕ) → headD (spellValue (valueAt c q k a b)) 0 ≡ orLeast 1 5 k
+      kind-of k a b = value-kind (valueAt c q k a b) ∙ value-code k a b
+
+  -- of one
+  number : (k j : ℕ) → orLeast 1 5 k ≡ suc (suc j) → k ≡ 1 + suc j
+  number k j h = least-kept 1 5 k (suc (suc j)) h (λ e. omega arith) ∙ omega arith
+
+  null-only : (v : Value) → (valueKind v ≡ 2 → ⊥) → (valueKind v ≡ 3 → ⊥) → (valueKind v ≡ 4 → ⊥) → (valueKind v ≡ 5 → ⊥) → v ≡ null
+  unfolding valueKind
+  null-only null b i f t = refl
+  null-only (bool x) b i f t = absurd (b refl)
+  null-only (int x) b i f t = absurd (i refl)
+  null-only (float x) b i f t = absurd (f refl)
+  null-only (text x) b i f t = absurd (t refl)
+
+  value-null : (k a b v : ℕ) → orLeast 1 5 k ≡ v → (v ≡ 2 → ⊥) → (v ≡ 3 → ⊥) → (v ≡ 4 → ⊥) → (v ≡ 5 → ⊥) → valueAt c q k a b ≡ null
+  value-null k a b v e = rw (← e, ← value-code k a b) (null-only (valueAt c q k a b))
+
+  pub both-null : (k a b l x y v : ℕ) → orLeast 1 5 k ≡ v → orLeast 1 5 l ≡ v → (v ≡ 2 → ⊥) → (v ≡ 3 → ⊥) → (v ≡ 4 → ⊥) → (v ≡ 5 → ⊥) → same (spellValue (valueAt c q k a b)) (spellValue (valueAt c q l x y)) ≡ true
+  both-null k a b l x y v hk hl n2 n3 n4 n5 = rw (value-null k a b v hk n2 n3 n4 n5, value-null l x y v hl n2 n3 n4 n5) (same-self _)
+
+  pub value-bool : (k a b : ℕ) → orLeast 1 5 k ≡ 2 → valueAt c q k a b ≡ bool (isOne a)
+  unfolding valueAt
+  value-bool k a b h = coded-at _ _ 1 1 k (number k 0 h)
+
+  pub value-int : (k a b : ℕ) → orLeast 1 5 k ≡ 3 → valueAt c q k a b ≡ int (integerAt a b)
+  unfolding valueAt
+  value-int k a b h = coded-at _ _ 2 1 k (number k 1 h)
+
+  pub value-float : (k a b : ℕ) → orLeast 1 5 k ≡ 4 → valueAt c q k a b ≡ float (a + b * 2 ^ 32)
+  unfolding valueAt
+  value-float k a b h = coded-at _ _ 3 1 k (number k 2 h)
+
+  pub value-text : (k a b : ℕ) → orLeast 1 5 k ≡ 5 → valueAt c q k a b ≡ text (wordAt c q a b)
+  unfolding valueAt
+  value-text k a b h = coded-at _ _ 4 1 k (number k 3 h)
+
+-- BOOLEANS
+bools : (b d : Bool) → same (spellValue (bool b)) (spellValue (bool d)) ≡ elim b [ true ↦ d | false ↦ not d ]
+unfolding spellValue same
+bools true true = refl
+bools true false = refl
+bools false true = refl
+bools false false = refl
+
+pub bool-one : (a x : ℕ) → a ≡ 1 → same (spellValue (bool (isOne a))) (spellValue (bool (isOne x))) ≡ eqb x 1
+unfolding isOne
+bool-one a x h = rw (eq-eqb a 1 h) (bools true (eqb x 1))
+
+pub bool-other : (a x : ℕ) → (a ≡ 1 → ⊥) → same (spellValue (bool (isOne a))) (spellValue (bool (isOne x))) ≡ not (eqb x 1)
+unfolding isOne
+bool-other a x h = rw (ne-eqb a 1 h) (bools false (eqb x 1))
+
+-- NUMBERS OF 64 BITS
+-- an integer's 64 bits as a number
+unfoldable bitsOf : ℤ → ℕ
+bitsOf (pos n) = n
+bitsOf (negsuc n) = 2 ^ 64 - suc n
+
+bits-at : (a b : ℕ) → a + b * 2 ^ 32 < 2 ^ 64 → bitsOf (integerAt a b) ≡ a + b * 2 ^ 32
+unfolding integerAt bitsOf
+bits-at a b h = pick (ltb (a + b * 2 ^ 32) (2 ^ 63)) refl
+  where
+    pick : (t : Bool) → ltb (a + b * 2 ^ 32) (2 ^ 63) ≡ t → bitsOf (elim t [ true ↦ pos (a + b * 2 ^ 32) | false ↦ negsuc (2 ^ 64 - suc (a + b * 2 ^ 32)) ]) ≡ a + b * 2 ^ 32
+    pick true e = refl
+    pick false e = omega arith
+
+-- the same of a spelling
+unfoldable bitsSpelled : List ℕ → ℕ
+bitsSpelled r = elim (eqb (getD r 1 0) 0) [ true ↦ getD r 2 0 | false ↦ 2 ^ 64 - suc (getD r 2 0) ]
+
+bits-spelled : (z : ℤ) → bitsSpelled (spellValue (int z)) ≡ bitsOf z
+unfolding bitsSpelled spellValue bitsOf
+bits-spelled (pos n) = refl
+bits-spelled (negsuc n) = refl
+
+integer-same : (a b x y : ℕ) → a + b * 2 ^ 32 ≡ x + y * 2 ^ 32 → integerAt a b ≡ integerAt x y
+unfolding integerAt
+integer-same a b x y = ap (λ (n : ℕ). elim (ltb n (2 ^ 63)) as (λ _. ℤ) [ true ↦ pos n | false ↦ negsuc (2 ^ 64 - suc n) ])
+
+pub ints : (a b x y : ℕ) → a + b * 2 ^ 32 < 2 ^ 64 → x + y * 2 ^ 32 < 2 ^ 64 → same (spellValue (int (integerAt a b))) (spellValue (int (integerAt x y))) ≡ eqb (a + b * 2 ^ 32) (x + y * 2 ^ 32)
+ints a b x y h l = pick (eqb (a + b * 2 ^ 32) (x + y * 2 ^ 32)) refl
+  where
+    spelled : (a b : ℕ) → a + b * 2 ^ 32 < 2 ^ 64 → bitsSpelled (spellValue (int (integerAt a b))) ≡ a + b * 2 ^ 32
+    spelled a b h = bits-spelled (integerAt a b) ∙ bits-at a b h
+
+    pick : (t : Bool) → eqb (a + b * 2 ^ 32) (x + y * 2 ^ 32) ≡ t → same (spellValue (int (integerAt a b))) (spellValue (int (integerAt x y))) ≡ t
+    pick true e = ap (λ (z : ℤ). same (spellValue (int z)) (spellValue (int (integerAt x y)))) (integer-same a b x y (eqb-true _ _ e)) ∙ same-self _
+    pick false e = no-true _ (λ s. eqb-false _ _ e (sym (spelled a b h) ∙ ap bitsSpelled (same-true _ _ s) ∙ spelled x y l))
+
+pub floats : (m n : ℕ) → same (spellValue (float m)) (spellValue (float n)) ≡ eqb m n
+unfolding spellValue same
+floats m n = meet (eqb m n) true ∙ and-true _
+
+-- two numbers of 64 bits by their halves
+pub low-differ : (a b x y : ℕ) → a < 2 ^ 32 → x < 2 ^ 32 → (a ≡ x → ⊥) → eqb (a + b * 2 ^ 32) (x + y * 2 ^ 32) ≡ false
+low-differ a b x y ha hx h = ne-eqb (a + b * 2 ^ 32) (x + y * 2 ^ 32) (λ e. h (omega arith))
+
+pub low-same : (a b x y : ℕ) → a ≡ x → eqb (a + b * 2 ^ 32) (x + y * 2 ^ 32) ≡ eqb b y
+low-same a b x y h = pick (eqb b y) refl
+  where
+    pick : (t : Bool) → eqb b y ≡ t → eqb (a + b * 2 ^ 32) (x + y * 2 ^ 32) ≡ t
+    pick true e = eq-eqb (a + b * 2 ^ 32) (x + y * 2 ^ 32) (omega (arith, eqb-true b y e))
+    pick false e = ne-eqb (a + b * 2 ^ 32) (x + y * 2 ^ 32) (λ s. eqb-false b y e (omega arith))

@@ -1,0 +1,9 @@
+pub mod Table
+pub mod Codes
+pub mod Operands
+pub mod Aggregates
+pub mod Walk
+pub mod Visits
+pub mod Depth
+pub mod Collect
+pub mod Trees

@@ -1,0 +1,6 @@
+// The statement's expressions in a table of rows, and walks over them (ast.rs).
+pub mod aggregates;
+pub mod equality;
+pub mod places;
+pub mod rows;
+pub mod walk;

@@ -1,0 +1,66 @@
+// The rows of the table: a record's numbers, its kind, its operands. A row's number is a usize: with it no sum overflows
+// whatever the table holds, since a row outside the table has 0 rows.
+ghost use mathlib.Core.Path.{_≡_};
+ghost use Prim.Native.Nat.{_+_};
+ghost use Rattle.ast.specs.Table.{at, rowsAt};
+ghost use Rattle.ast.specs.Codes.{orLeast};
+ghost use Rattle.ast.specs.Operands.{kindAt, operandsAt};
+
+// The number at place k of row r; 0 outside the table.
+pub fn at(table: &[u32], r: usize, k: u32) -> u32
+    ensures { λ x. ⌜ x ≡ at (now (table .entry)) r k ⌝ }
+{
+    if table.len() / 8 < r {
+        return 0;
+    }
+    let i = 8 * r + k as usize;
+    if table.len() <= i {
+        return 0;
+    }
+    table[i]
+}
+
+// k where it lies between least and most, else least.
+pub fn or_least(least: u32, most: u32, k: u32) -> u32
+    ensures { λ x. ⌜ x ≡ orLeast least most k ⌝ }
+{
+    if k < least {
+        return least;
+    }
+    if most < k {
+        return least;
+    }
+    k
+}
+
+// The kind of the record at a row, from 1 to 8.
+pub fn kind(table: &[u32], r: usize) -> u32
+    ensures { λ x. ⌜ x ≡ kindAt (now (table .entry)) r ⌝ }
+{
+    or_least(1, 8, at(table, r, 0))
+}
+
+// How many operands it has: the first stands at the next row, each other behind the rows of the one before.
+pub fn operands(table: &[u32], r: usize) -> u32
+    ensures { λ x. ⌜ x ≡ operandsAt (now (table .entry)) r ⌝ }
+{
+    let k = kind(table, r);
+    match k {
+        4 => at(table, r, 3),
+        5 => 1,
+        6 => 2,
+        7 => 1,
+        _ => 0,
+    }
+}
+
+// The row behind the tree at a row.
+pub fn next(table: &[u32], r: usize) -> usize
+    ensures { λ x. ⌜ x ≡ r + rowsAt (now (table .entry)) r ⌝ }
+{
+    let n = at(table, r, 2);
+    if n == 0 {
+        return r;
+    }
+    r + n as usize
+}
