@@ -11,6 +11,7 @@ use judge::list::{self, Answered};
 use judge::predict::predict;
 use judge::sample::sample;
 use judge::shrink::shrink;
+use judge::values;
 
 use crate::arguments::Arguments;
 
@@ -22,7 +23,8 @@ const USAGE: &str = "commands:
   hold FOLDER                                            what was printed of a folder's cases with the Rust planner
   program PATH [--seed S] [--first N] [--count N]        a planning program with the Rust planner
   list FOLDER FILE                                       writes the fixed list from a folder's cases
-  replay FILE                                            the fixed list with the Rust planner";
+  replay FILE                                            the fixed list with the Rust planner
+  values [--seed S] [--first N] [--count N]              the proved operators with the Rust's, on pairs of values";
 
 pub fn run(mut arguments: Vec<String>) -> Result<bool, String> {
     if arguments.is_empty() {
@@ -73,6 +75,12 @@ pub fn run(mut arguments: Vec<String>) -> Result<bool, String> {
             let [file] = Arguments::new(arguments, &[])?.words(["FILE"])?;
             replay(&PathBuf::from(file))
         }
+        "values" => {
+            let arguments = Arguments::new(arguments, &["seed", "first", "count"])?;
+            let numbers = Numbers::of(&arguments, 1_000_000);
+            let [] = arguments.words([])?;
+            Ok(compare_values(numbers))
+        }
         _ => Err(format!("no command {command}\n{USAGE}")),
     }
 }
@@ -94,9 +102,12 @@ impl Numbers {
         }
     }
 
+    fn all(self) -> std::ops::Range<u64> {
+        self.first..self.first.saturating_add(self.count)
+    }
+
     fn cases(self) -> impl Iterator<Item = (u64, Case)> {
-        (self.first..self.first.saturating_add(self.count))
-            .map(move |number| (number, case(self.seed, number)))
+        self.all().map(move |number| (number, case(self.seed, number)))
     }
 }
 
@@ -279,4 +290,19 @@ fn replay(file: &Path) -> Result<bool, String> {
             .enumerate()
             .map(|(i, answer)| (format!("record {}", i + 1), &answer.case, answer.listing.as_slice())),
     )
+}
+
+/// Compares all pairs at the edges, and pairs from a seed; then times the calls that could take long.
+fn compare_values(numbers: Numbers) -> bool {
+    let mut tally = values::Tally::default();
+    let edges = values::edge_pairs().inspect(|pair| values::compare_all(pair, &mut tally)).count();
+    numbers.all().for_each(|number| values::compare_all(&values::pair(numbers.seed, number), &mut tally));
+    println!("{edges} pairs at the edges and {} from seed {}", numbers.count, numbers.seed);
+    println!("{tally}");
+    tally.shown.iter().for_each(|message| println!("differs: {message}"));
+    if !values::AVAILABLE {
+        println!("the proved operators or the Rust planner's sources are not at hand: nothing was compared");
+    }
+    values::times().iter().for_each(|timed| println!("{timed}"));
+    tally.differ() == 0
 }

@@ -110,8 +110,8 @@ fn compare_read(kind: Kind, printed: &Printed, texts: &Texts) -> Verdict {
         (Printed::Refused { number, .. }, Answer::Refused { number: rust, .. }) if *number == rust => {
             Verdict::Agree(kind)
         }
-        (Printed::Planned(tree), Answer::Planned(rust)) if *tree == rust => Verdict::Agree(kind),
-        (Printed::Planned(tree), Answer::Planned(rust)) => {
+        (Printed::Planned(tree), Answer::Given(rust)) if *tree == rust => Verdict::Agree(kind),
+        (Printed::Planned(tree), Answer::Given(rust)) => {
             Verdict::Differ(format!("printed {tree}\n   Rust {rust}"))
         }
         (_, answer) => Verdict::Differ(format!("printed {kind}\n   Rust {}", said(&answer))),
@@ -120,7 +120,7 @@ fn compare_read(kind: Kind, printed: &Printed, texts: &Texts) -> Verdict {
 
 fn said(answer: &Answer) -> String {
     match answer {
-        Answer::Planned(tree) => format!("{tree}"),
+        Answer::Given(tree) => format!("{tree}"),
         Answer::Refused { number, message } => format!("refused {number} ({message})"),
         Answer::Trapped(message) => format!("trapped ({message})"),
         Answer::NotSupplied => "asked for a regular expression".to_string(),

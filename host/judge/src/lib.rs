@@ -9,3 +9,4 @@ pub mod predict;
 pub mod random;
 pub mod sample;
 pub mod shrink;
+pub mod values;

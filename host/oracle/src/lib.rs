@@ -1,8 +1,8 @@
-//! The Rust planner's answer to a pair of texts.
+//! The Rust planner's answer to a pair of texts, and its value of a constant expression.
 //!
 //! The planner's sources are compiled as they are (see build.rs). What they need and what is not supplied has a stand-in
 //! here: the error type and its macros, the encoding, engine and execution modules. Where the sources are not at hand,
-//! [`AVAILABLE`] is false and [`answer`] always gives [`Answer::Unavailable`].
+//! [`AVAILABLE`] is false and [`answer`] and [`evaluate`] always give [`Answer::Unavailable`].
 
 #[cfg(planner)]
 mod ask;
@@ -13,7 +13,7 @@ mod error;
 #[cfg(planner)]
 mod sql;
 
-use texts::{Texts, Tree};
+use texts::{Expr, Literal, Texts, Tree};
 
 #[cfg(planner)]
 pub(crate) use error::{errdata, errinput};
@@ -21,15 +21,13 @@ pub(crate) use error::{errdata, errinput};
 /// Whether the planner's sources were at hand when this crate was built.
 pub const AVAILABLE: bool = cfg!(planner);
 
-/// What the Rust planner makes of a statement.
+/// What the Rust planner makes of a statement, or of a constant expression.
 #[derive(Clone, Debug, PartialEq)]
-pub enum Answer {
-    Planned(Tree),
+pub enum Answer<T = Tree> {
+    /// The statement's plan, or the expression's value.
+    Given(T),
     /// Refused, with the number that document 01 has for the kind.
-    Refused {
-        number: u8,
-        message: String,
-    },
+    Refused { number: u8, message: String },
     /// The planner panicked.
     Trapped(String),
     /// The planner asked for something that is not supplied (a regular expression).
@@ -49,5 +47,17 @@ pub fn answer(texts: &Texts) -> Answer {
 /// Has the Rust planner plan the statement.
 #[cfg(not(planner))]
 pub fn answer(_: &Texts) -> Answer {
+    Answer::Unavailable
+}
+
+/// Has the Rust planner build an expression without columns, and evaluates it.
+#[cfg(planner)]
+pub fn evaluate(expr: &Expr) -> Answer<Literal> {
+    ask::evaluate(expr)
+}
+
+/// Has the Rust planner build an expression without columns, and evaluates it.
+#[cfg(not(planner))]
+pub fn evaluate(_: &Expr) -> Answer<Literal> {
     Answer::Unavailable
 }

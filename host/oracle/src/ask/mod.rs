@@ -1,4 +1,4 @@
-//! Puts a statement to the planner and brings its answer to the common form.
+//! Puts a statement or a constant expression to the planner and brings its answer to the common form.
 
 mod kind;
 mod statement;
@@ -8,12 +8,12 @@ use std::cell::Cell;
 use std::panic::{AssertUnwindSafe, catch_unwind};
 use std::sync::Once;
 
-use texts::Texts;
+use texts::{Expr, Literal, Texts};
 
 use crate::Answer;
 use crate::error::{Error, Result};
 use crate::sql::engine::Catalog;
-use crate::sql::planner::Planner;
+use crate::sql::planner::{Planner, Scope};
 use crate::sql::types::Table;
 
 struct Tables(Vec<Table>);
@@ -31,8 +31,23 @@ pub fn answer(texts: &Texts) -> Answer {
         return Answer::NotUtf8;
     };
     let catalog = Tables(tables);
-    match quietly(|| Planner::new(&catalog).build(statement)) {
-        Ok(Ok(plan)) => Answer::Planned(tree::plan(&plan)),
+    asked(|| Ok(tree::plan(&Planner::new(&catalog).build(statement)?)))
+}
+
+pub fn evaluate(expr: &Expr) -> Answer<Literal> {
+    let Some(expr) = statement::expression(expr) else {
+        return Answer::NotUtf8;
+    };
+    asked(|| {
+        let built = Planner::<Tables>::build_expression(expr, &Scope::new())?;
+        Ok(tree::literal(&built.evaluate(None)?))
+    })
+}
+
+/// What the planner answers when a question is run.
+fn asked<T>(run: impl FnOnce() -> Result<T>) -> Answer<T> {
+    match quietly(run) {
+        Ok(Ok(given)) => Answer::Given(given),
         Ok(Err(Error::InvalidInput { format, message })) => match kind::number(format) {
             Some(number) => Answer::Refused { number, message },
             None => panic!("document 01 has no number for the planner's error: {message}"),

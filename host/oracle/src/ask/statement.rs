@@ -115,7 +115,7 @@ fn new_column(column: &texts::NewColumn) -> Option<ast::Column> {
     })
 }
 
-fn expression(expr: &texts::Expr) -> Option<ast::Expression> {
+pub fn expression(expr: &texts::Expr) -> Option<ast::Expression> {
     use texts::ExprKind::*;
     Some(match &expr.kind {
         Star => ast::Expression::All,

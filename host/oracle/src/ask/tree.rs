@@ -172,13 +172,18 @@ fn expression(expr: &Expression) -> Tree {
 }
 
 fn constant(value: &Value) -> Tree {
-    Tree::literal(&match value {
+    Tree::literal(&literal(value))
+}
+
+/// The planner's value as a literal.
+pub fn literal(value: &Value) -> Literal {
+    match value {
         Value::Null => Literal::Null,
         Value::Boolean(value) => Literal::Bool(*value),
         Value::Integer(value) => Literal::Int(*value),
         Value::Float(value) => Literal::Float(value.to_bits()),
         Value::String(text) => Literal::Text(text.clone().into_bytes()),
-    })
+    }
 }
 
 fn name_of(name: &str) -> Tree {

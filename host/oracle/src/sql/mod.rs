@@ -18,7 +18,7 @@ pub mod planner {
     include!(concat!(env!("OUT_DIR"), "/planner.rs"));
 
     pub use plan::{Aggregate, Direction, Node, Plan};
-    pub use planner::Planner;
+    pub use planner::{Planner, Scope};
 }
 
 pub mod types {

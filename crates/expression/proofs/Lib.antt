@@ -1,0 +1,4 @@
+-- Laws that the proofs of several functions use.
+mod Codes
+mod Steps
+mod Rows

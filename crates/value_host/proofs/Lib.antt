@@ -1,0 +1,3 @@
+mod Found
+mod Held
+mod Values
