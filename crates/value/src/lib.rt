@@ -2,7 +2,6 @@
 pub mod arithmetic;
 pub mod bits;
 pub mod comparison;
-pub mod literal;
 pub mod logic;
 pub mod operands;
 
@@ -51,18 +50,6 @@ pub enum Compared {
     Unordered,
     Unknown,
     Incomparable,
-}
-
-// An integer literal.
-pub enum Integer {
-    Int(i64),
-    Wrong,
-}
-
-// A float literal's bits.
-pub enum Pattern {
-    Bits(u64),
-    Wrong,
 }
 
 // Document 01's number of a refusal, 0 of a value.

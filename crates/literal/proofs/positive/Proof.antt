@@ -1,0 +1,35 @@
+-- `positive`: within the greatest integer, or none.
+use native.Mathlib.Omega.{arith}
+use Rattle.literal.specs.Bits.{bitsOf}
+use Rattle.literal.specs.Integers.{none-positive, positive-large, positive-in}
+use borrow.Author.Needs.{needs}
+use Rattle.literal.proofs.positive.Statement.{statement}
+use Rattle.literal.proofs.positive.Tie as tie
+use Rattle.literal.proofs.positive.Reads as reads
+use Rattle.literal.proofs.positive.Lts as lts
+
+-- src/lib.rt:27:23
+enum-known-d : tie.Need-enum-known-d
+enum-known-d c = search needs
+
+-- src/lib.rt:29:17
+returns : tie.Need-returns
+unfolding bitsOf
+returns c = positive-large _ _ (c .before .before .d .given .1) (c .if1 .taken)
+
+-- src/lib.rt:33:26
+enum-told : tie.Need-enum-told
+enum-told c = search needs
+
+-- src/lib.rt:23:1
+returns-2 : tie.Need-returns-2
+unfolding bitsOf
+returns-2 c = positive-in _ _ (c .before .before .d .given .1) (c .if1 .left)
+
+-- src/lib.rt:23:1
+returns-3 : tie.Need-returns-3
+unfolding bitsOf
+returns-3 c = none-positive _ (c .enum-told .given .1)
+
+pub positive-spec : {M : Type 1} → statement M
+positive-spec = tie.close (tie.spec enum-known-d returns enum-told returns-2 returns-3)

@@ -1,0 +1,12 @@
+pub mod Layout
+pub mod Search
+pub mod Records
+pub mod ColumnRecords
+pub mod TableRecords
+pub mod DefaultRecords
+pub mod Answers
+pub mod Store
+pub mod Columns
+pub mod ColumnRuns
+pub mod Tables
+pub mod TableRuns

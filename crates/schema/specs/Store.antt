@@ -1,0 +1,141 @@
+-- Numbers that are stored, and what keeps its meaning where others are stored.
+use Prim.Native.Nat.{ℕ, zero, suc, _+_, _≤_, _<_}
+use native.Mathlib.Omega.{arith}
+use mathlib.Core.Path.{_≡_, refl, ap, _∙_}
+use mathlib.Core.List.{List, [], _∷_, _++_}
+use lib.ListN.{length, getD, set, length-set}
+use lib.Seq.{sets, getD-set-same, getD-set-other}
+use Rattle.rules.specs.Lists.{Bytes}
+use Rattle.schema.specs.Layout.{tableStart, columnStart, columnOf, columnsAt, tableAt, tablesAt}
+use Rattle.schema.specs.Records.{names}
+
+-- the numbers from a on and before b are the same
+pub record Kept (a b : ℕ) (s s′ : List ℕ) : Type 0 where
+  pub same : (k : ℕ) → a ≤ k → k < b → getD s′ k 0 ≡ getD s k 0
+
+pub kept-all : (a b : ℕ) (s : List ℕ) → Kept a b s s
+kept-all a b s = record { same = λ k h g. refl }
+
+pub kept-part : {a b : ℕ} {s s′ : List ℕ} (a′ b′ : ℕ) → Kept a b s s′ → a ≤ a′ → b′ ≤ b → Kept a′ b′ s s′
+kept-part a′ b′ h l m = record { same = λ k x y. h .same k (omega arith) (omega arith) }
+
+pub kept-on : {a b : ℕ} {s s′ s″ : List ℕ} → Kept a b s s′ → Kept a b s′ s″ → Kept a b s s″
+kept-on h g = record { same = λ k x y. g .same k x y ∙ h .same k x y }
+
+-- STORES
+-- four numbers stored at i
+pub record Four (s s′ : List ℕ) (i a b c d : ℕ) : Type 0 where
+  pub first : getD s′ i 0 ≡ a
+  pub second : getD s′ (i + 1) 0 ≡ b
+  pub third : getD s′ (i + 2) 0 ≡ c
+  pub fourth : getD s′ (i + 3) 0 ≡ d
+  pub other : (k : ℕ) → (k ≡ i → ⊥) → (k ≡ i + 1 → ⊥) → (k ≡ i + 2 → ⊥) → (k ≡ i + 3 → ⊥) → getD s′ k 0 ≡ getD s k 0
+
+pub four-sets : (s : List ℕ) (i a b c d : ℕ) → sets s i (a ∷ b ∷ c ∷ d ∷ []) ≡ set (set (set (set s i a) (i + 1) b) (i + 2) c) (i + 3) d
+four-sets s i a b c d =
+    let x : i + 1 ≡ suc i = omega arith in
+    let y : i + 2 ≡ suc (suc i) = omega arith in
+    let z : i + 3 ≡ suc (suc (suc i)) = omega arith in
+    rw (x, y, z)
+
+pub four : (s s′ : List ℕ) (i a b c d : ℕ) → i + 4 ≤ length s → s′ ≡ sets s i (a ∷ b ∷ c ∷ d ∷ []) → Four s s′ i a b c d
+four s s′ i a b c d h e =
+    let s₁ = set s i a in
+    let s₂ = set s₁ (i + 1) b in
+    let s₃ = set s₂ (i + 2) c in
+    let n₁ : length s₁ ≡ length s = length-set s i a in
+    let n₂ : length s₂ ≡ length s = length-set s₁ (i + 1) b ∙ n₁ in
+    let n₃ : length s₃ ≡ length s = length-set s₂ (i + 2) c ∙ n₂ in
+    let w : s′ ≡ set s₃ (i + 3) d = e ∙ four-sets s i a b c d in
+    record {
+      first = rw w (getD-set-other s₃ (i + 3) i d 0 (λ x. omega (arith, x)) ∙ getD-set-other s₂ (i + 2) i c 0 (λ x. omega (arith, x)) ∙ getD-set-other s₁ (i + 1) i b 0 (λ x. omega (arith, x)) ∙ getD-set-same s i a 0 (omega arith));
+      second = rw w (getD-set-other s₃ (i + 3) (i + 1) d 0 (λ x. omega (arith, x)) ∙ getD-set-other s₂ (i + 2) (i + 1) c 0 (λ x. omega (arith, x)) ∙ getD-set-same s₁ (i + 1) b 0 (omega arith));
+      third = rw w (getD-set-other s₃ (i + 3) (i + 2) d 0 (λ x. omega (arith, x)) ∙ getD-set-same s₂ (i + 2) c 0 (omega arith));
+      fourth = rw w (getD-set-same s₃ (i + 3) d 0 (omega arith));
+      other = λ k x₀ x₁ x₂ x₃. rw w (getD-set-other s₃ (i + 3) k d 0 x₃ ∙ getD-set-other s₂ (i + 2) k c 0 x₂ ∙ getD-set-other s₁ (i + 1) k b 0 x₁ ∙ getD-set-other s i k a 0 x₀);
+    }
+
+-- numbers that lie before what is stored, or behind it
+pub four-before : {s s′ : List ℕ} {i a b c d : ℕ} (x y : ℕ) → Four s s′ i a b c d → y ≤ i → Kept x y s s′
+four-before x y f h = record { same = λ k l m. f .other k (λ e. omega (arith, e)) (λ e. omega (arith, e)) (λ e. omega (arith, e)) (λ e. omega (arith, e)) }
+
+pub four-behind : {s s′ : List ℕ} {i a b c d : ℕ} (x y : ℕ) → Four s s′ i a b c d → i + 4 ≤ x → Kept x y s s′
+four-behind x y f h = record { same = λ k l m. f .other k (λ e. omega (arith, e)) (λ e. omega (arith, e)) (λ e. omega (arith, e)) (λ e. omega (arith, e)) }
+
+-- one number stored at i
+module _ (s : List ℕ) (i v x y : ℕ) where
+  pub set-before : y ≤ i → Kept x y s (set s i v)
+  set-before h = record { same = λ k l m. getD-set-other s i k v 0 (λ e. omega (arith, e)) }
+
+  pub set-behind : i < x → Kept x y s (set s i v)
+  set-behind h = record { same = λ k l m. getD-set-other s i k v 0 (λ e. omega (arith, e)) }
+
+-- COLUMNS
+module _ (c q : Bytes) {s s′ : List ℕ} where
+  column-kept : (i : ℕ) → Kept i (i + 7) s s′ → columnOf c q s′ i ≡ columnOf c q s i
+  unfolding columnOf
+  column-kept i h =
+      let e₀ = h .same i (omega arith) (omega arith) in
+      let e₁ = h .same (i + 1) (omega arith) (omega arith) in
+      let e₂ = h .same (i + 2) (omega arith) (omega arith) in
+      let e₃ = h .same (i + 3) (omega arith) (omega arith) in
+      let e₄ = h .same (i + 4) (omega arith) (omega arith) in
+      let e₅ = h .same (i + 5) (omega arith) (omega arith) in
+      let e₆ = h .same (i + 6) (omega arith) (omega arith) in
+      rw (e₀, e₁, e₂, e₃, e₄, e₅, e₆)
+
+  -- columns before the m-th
+  pub columns-kept : (m j n : ℕ) → Kept 161 (columnStart m) s s′ → j + n ≤ m → columnsAt c q s′ j n ≡ columnsAt c q s j n
+  unfolding columnsAt
+  columns-kept m j zero h l = refl
+  columns-kept m j (suc n) h l = rw (column-kept (columnStart j) (kept-part _ _ h (omega arith) (omega arith)), columns-kept m (suc j) n h (omega arith))
+
+-- one column more
+pub columns-more : (c q : Bytes) (s : List ℕ) (j n : ℕ) → columnsAt c q s j (suc n) ≡ columnsAt c q s j n ++ (columnOf c q s (columnStart (j + n)) ∷ [])
+unfolding columnsAt
+columns-more c q s j zero = let e : j + 0 ≡ j = omega arith in rw e
+columns-more c q s j (suc n) = let e : j + suc n ≡ suc j + n = omega arith in rw e (ap (λ r. columnOf c q s (columnStart j) ∷ r) (columns-more c q s (suc j) n))
+
+-- TABLES
+-- the columns of the first n tables lie before the m-th
+pub record Ranges (s : List ℕ) (n m : ℕ) : Type 0 where
+  pub end : (i : ℕ) → i < n → getD s (tableStart i + 3) 0 + getD s (tableStart i + 4) 0 ≤ m
+
+module _ {s s′ : List ℕ} {n m : ℕ} (r : Ranges s n m) (h : Kept 1 (tableStart n) s s′) where
+  table-number : (i k : ℕ) → i < n → k < 5 → getD s′ (tableStart i + k) 0 ≡ getD s (tableStart i + k) 0
+  table-number i k l o = h .same (tableStart i + k) (omega arith) (omega arith)
+
+  table-first : (i : ℕ) → i < n → getD s′ (tableStart i) 0 ≡ getD s (tableStart i) 0
+  table-first i l = h .same (tableStart i) (omega arith) (omega arith)
+
+  pub names-kept : (t : Bytes) (i : ℕ) → i ≤ n → names t s′ i ≡ names t s i
+  unfolding names
+  names-kept t zero l = refl
+  names-kept t (suc i) l = rw (table-first i (omega arith), table-number i 1 (omega arith) (omega arith), names-kept t i (omega arith))
+
+  pub ranges-kept : Ranges s′ n m
+  ranges-kept = record { end = λ i l. rw (table-number i 3 l (omega arith), table-number i 4 l (omega arith)) (r .end i l) }
+
+  module _ (c q : Bytes) (g : Kept 161 (columnStart m) s s′) where
+    table-kept : (i : ℕ) → i < n → tableAt c q s′ i ≡ tableAt c q s i
+    unfolding tableAt
+    table-kept i l =
+        rw (
+          table-first i l,
+          table-number i 1 l (omega arith),
+          table-number i 2 l (omega arith),
+          table-number i 3 l (omega arith),
+          table-number i 4 l (omega arith),
+          columns-kept c q m _ _ g (r .end i l),
+        )
+
+    pub tables-kept : (i k : ℕ) → i + k ≤ n → tablesAt c q s′ i k ≡ tablesAt c q s i k
+    unfolding tablesAt
+    tables-kept i zero l = refl
+    tables-kept i (suc k) l = rw (table-kept i (omega arith), tables-kept (suc i) k (omega arith))
+
+-- one table more
+pub tables-more : (c q : Bytes) (s : List ℕ) (i n : ℕ) → tablesAt c q s i (suc n) ≡ tablesAt c q s i n ++ (tableAt c q s (i + n) ∷ [])
+unfolding tablesAt
+tables-more c q s i zero = let e : i + 0 ≡ i = omega arith in rw e
+tables-more c q s i (suc n) = let e : i + suc n ≡ suc i + n = omega arith in rw e (ap (λ r. tableAt c q s i ∷ r) (tables-more c q s (suc i) n))

@@ -1,0 +1,194 @@
+// The catalog's text into numbers: a loop over the tables, and in each a loop over its columns.
+ghost use mathlib.Core.Path.{_≡_};
+ghost use mathlib.Core.List.{[], _∷_};
+ghost use Prim.Native.Nat.{_+_, _≤_};
+ghost use lib.ListN.{length};
+ghost use lib.Seq.{sets};
+ghost use Rattle.rules.specs.Lists.{Bytes};
+ghost use Rattle.rules.specs.Limits.{mostBytes};
+ghost use Rattle.rules.specs.ReadCatalog.{readCatalog};
+ghost use Rattle.schema.specs.Layout.{numbers};
+ghost use Rattle.schema.specs.Columns.{ColumnReady, ColumnRead};
+ghost use Rattle.schema.specs.ColumnRuns.{ColumnsRead};
+ghost use Rattle.schema.specs.Tables.{TableReady, TableRead};
+ghost use Rattle.schema.specs.TableRuns.{catalogOf, catalogAnswer};
+use crate::COLUMN_SIZE;
+use crate::COLUMNS;
+use crate::NUMBERS;
+use crate::TABLE_SIZE;
+use crate::TABLES;
+use crate::record::ColumnRecord;
+use crate::record::DefaultRecord;
+use crate::record::TableRecord;
+use crate::record::column_record;
+use crate::record::default_record;
+use crate::record::table_record;
+
+// Most tables a catalog.
+const MOST_TABLES: u32 = 32;
+
+// Most columns a table.
+const MOST_TABLE_COLUMNS: u32 = 64;
+
+// A catalog: read, or 2 or 3 at a line.
+pub enum Read {
+    Done,
+    Wrong(u32),
+    Limit(u32),
+}
+
+// One column: read, and the position behind it; or 2 or 3 at a line; or none stands there.
+enum ColumnStep {
+    Column(usize),
+    Wrong(u32),
+    Limit(u32),
+    End,
+}
+
+// Columns or a table: read, with the position behind them, its line and how many columns there are; or 2 or 3 at a line.
+enum Run {
+    Done(usize, u32, u32),
+    Wrong(u32),
+    Limit(u32),
+}
+
+// Four numbers from at on.
+fn put_four(tables: &mut [u32], at: usize, a: u32, b: u32, c: u32, d: u32)
+    requires { ⌜ at + 4 ≤ length (now tables) ⌝ }
+    ensures { λ _. ⌜ now (tables .exit) ≡ sets (now (tables .entry)) at (a ∷ b ∷ c ∷ d ∷ []) ⌝ }
+{
+    tables[at] = a;
+    tables[at + 1] = b;
+    tables[at + 2] = c;
+    tables[at + 3] = d;
+}
+
+// The column that stands at a position, the n-th of its table; the table's first is `first` of all.
+fn read_column(
+    catalog: &[u8],
+    tables: &mut [u32],
+    at: usize,
+    line: u32,
+    first: usize,
+    n: u32,
+) -> ColumnStep
+    requires { ⌜ ColumnReady (now catalog) (now tables) at line first n ⌝ }
+    ensures { λ r. ⌜ ColumnRead (now (catalog .entry)) at line first n (now (tables .entry)) (now (tables .exit)) r ⌝ }
+{
+    let c = column_record(catalog, at);
+    match c {
+        ColumnRecord::Missing => ColumnStep::End,
+        ColumnRecord::Wrong => ColumnStep::Wrong(line),
+        ColumnRecord::Column(a, m, k, u, e) => {
+            if MOST_TABLE_COLUMNS <= n {
+                return ColumnStep::Limit(line);
+            }
+            let d = default_record(catalog, e);
+            let DefaultRecord::Default(x, y, z) = d else {
+                return ColumnStep::Wrong(line + 1);
+            };
+            let i = COLUMNS + COLUMN_SIZE * (first + n as usize);
+            put_four(tables, i, a, m, k, u);
+            put_four(tables, i + 4, x, y, z, 0);
+            let next = text::line_end(catalog, e);
+            ColumnStep::Column(next)
+        }
+    }
+}
+
+// The columns that stand at a position.
+fn read_columns(catalog: &[u8], tables: &mut [u32], at: usize, line: u32, first: usize) -> Run
+    requires { ⌜ ColumnReady (now catalog) (now tables) at line first 0 ⌝ }
+    ensures { λ r. ⌜ ColumnsRead (now (catalog .entry)) at line first (now (tables .entry)) (now (tables .exit)) r ⌝ }
+{
+    let mut p = at;
+    let mut l = line;
+    let mut n: u32 = 0;
+    loop {
+        let r = read_column(catalog, tables, p, l, first, n);
+        match r {
+            ColumnStep::End => {
+                return Run::Done(p, l, n);
+            }
+            ColumnStep::Wrong(k) => {
+                return Run::Wrong(k);
+            }
+            ColumnStep::Limit(k) => {
+                return Run::Limit(k);
+            }
+            ColumnStep::Column(e) => {
+                p = e;
+                l += 2;
+                n += 1;
+            }
+        }
+    }
+}
+
+// The table that stands at a position, behind n tables; its first column is `first` of all.
+fn read_table(catalog: &[u8], tables: &mut [u32], at: usize, line: u32, n: u32, first: usize) -> Run
+    requires { ⌜ TableReady (now catalog) (now tables) at line n first ⌝ }
+    ensures { λ r. ⌜ TableRead (now (catalog .entry)) at line n first (now (tables .entry)) (now (tables .exit)) r ⌝ }
+{
+    let h = table_record(catalog, tables, n, at);
+    let TableRecord::Table(a, m, k, e) = h else {
+        return Run::Wrong(line);
+    };
+    if MOST_TABLES <= n {
+        return Run::Limit(line);
+    }
+    let r = read_columns(catalog, tables, e, line + 1, first);
+    match r {
+        Run::Wrong(x) => Run::Wrong(x),
+        Run::Limit(x) => Run::Limit(x),
+        Run::Done(p, l, count) => {
+            if count <= k {
+                return Run::Wrong(line);
+            }
+            let i = TABLES + TABLE_SIZE * (n as usize);
+            put_four(tables, i, a, m, k, first as u32);
+            tables[i + 4] = count;
+            Run::Done(p, l, count)
+        }
+    }
+}
+
+// All tables of a text that is not too long.
+fn read_tables(catalog: &[u8], tables: &mut [u32]) -> Read
+    requires { ⌜ (length (now catalog) ≤ mostBytes) × (length (now tables) ≡ numbers) ⌝ }
+    ensures { λ r. ⌜ ((q : Bytes) → catalogOf (now (catalog .entry)) q (now (tables .exit)) r ≡ readCatalog (now (catalog .entry))) ⌝ }
+{
+    let mut p: usize = 0;
+    let mut l: u32 = 1;
+    let mut n: u32 = 0;
+    let mut first: usize = 0;
+    while p < catalog.len() {
+        let r = read_table(catalog, tables, p, l, n, first);
+        match r {
+            Run::Done(e, line, count) => {
+                p = e;
+                l = line;
+                n += 1;
+                first += count as usize;
+            }
+            Run::Wrong(k) => {
+                return Read::Wrong(k);
+            }
+            Run::Limit(k) => {
+                return Read::Limit(k);
+            }
+        }
+    }
+    tables[0] = n;
+    Read::Done
+}
+
+// The catalog from its text, whatever that is. Where it is refused the numbers mean nothing.
+pub fn read_catalog(catalog: &[u8], tables: &mut [u32; NUMBERS]) -> Read
+    ensures { λ r. ⌜ ((q : Bytes) → catalogOf (now (catalog .entry)) q (now (tables .exit)) r ≡ catalogAnswer (now (catalog .entry))) ⌝ }
+{
+    if (text::MOST_BYTES as usize) < catalog.len() {
+        return Read::Limit(0);
+    }
+    read_tables(catalog, tables)
+}
