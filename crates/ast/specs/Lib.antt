@@ -7,3 +7,11 @@ pub mod Visits
 pub mod Depth
 pub mod Collect
 pub mod Trees
+pub mod Encode
+pub mod Fits
+pub mod ReadBack
+pub mod Says
+pub mod Operators
+pub mod Heads
+pub mod Literals
+pub mod Records

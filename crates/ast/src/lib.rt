@@ -1,6 +1,7 @@
 // The statement's expressions in a table of rows, and walks over them (ast.rs).
 pub mod aggregates;
 pub mod equality;
+mod heads;
 pub mod places;
 pub mod rows;
 pub mod walk;
