@@ -5,7 +5,6 @@ ghost use Rattle.rules.specs.Lists.{named};
 ghost use Rattle.rules.specs.Places.{bytesAt};
 ghost use Rattle.rules.specs.BuildAggregate.{aggregates};
 ghost use Rattle.ast.specs.Aggregates.{namedOf};
-use crate::places::same_bytes;
 
 pub enum Aggregate {
     Avg,
@@ -22,33 +21,26 @@ pub enum Named {
 }
 
 // Which aggregate the n bytes at a of a text name.
-fn named_in(text: &[u8], a: u32, n: u32) -> Named
-    ensures { λ r. ⌜ namedOf r ≡ named aggregates (take n (drop a (now (text .entry)))) ⌝ }
+fn named_in(t: &[u8], a: u32, n: u32) -> Named
+    ensures { λ r. ⌜ namedOf r ≡ named aggregates (take n (drop a (now (t .entry)))) ⌝ }
 {
-    if same_bytes(b"avg", 0, 3, text, a, n) {
-        return Named::Aggregate(Aggregate::Avg);
+    let k = text::which(b"avg count max min sum ", t, a as usize, n as usize);
+    match k {
+        0 => Named::Aggregate(Aggregate::Avg),
+        1 => Named::Aggregate(Aggregate::Count),
+        2 => Named::Aggregate(Aggregate::Max),
+        3 => Named::Aggregate(Aggregate::Min),
+        4 => Named::Aggregate(Aggregate::Sum),
+        _ => Named::Other,
     }
-    if same_bytes(b"count", 0, 5, text, a, n) {
-        return Named::Aggregate(Aggregate::Count);
-    }
-    if same_bytes(b"max", 0, 3, text, a, n) {
-        return Named::Aggregate(Aggregate::Max);
-    }
-    if same_bytes(b"min", 0, 3, text, a, n) {
-        return Named::Aggregate(Aggregate::Min);
-    }
-    if same_bytes(b"sum", 0, 3, text, a, n) {
-        return Named::Aggregate(Aggregate::Sum);
-    }
-    Named::Other
 }
 
 // Which aggregate the name at a place is.
 pub fn is_aggregate(catalog: &[u8], statement: &[u8], address: u32, length: u32) -> Named
     ensures { λ r. ⌜ namedOf r ≡ named aggregates (bytesAt (now (catalog .entry)) (now (statement .entry)) address length) ⌝ }
 {
-    if address < 65536 {
+    if address < text::MOST_BYTES {
         return named_in(catalog, address, length);
     }
-    named_in(statement, address - 65536, length)
+    named_in(statement, address - text::MOST_BYTES, length)
 }

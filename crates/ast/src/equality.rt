@@ -7,7 +7,6 @@ ghost use Rattle.rules.specs.Places.{bytesAt};
 ghost use Rattle.rules.specs.Equality.{spellValue, equal};
 ghost use Rattle.ast.specs.Table.{at, valueAt, treeAt};
 ghost use Rattle.ast.specs.Codes.{orLeast};
-use crate::places::same_text;
 use crate::rows::at;
 use crate::rows::kind;
 use crate::rows::next;
@@ -23,7 +22,7 @@ fn same_word(catalog: &[u8], statement: &[u8], table: &[u32], i: usize, j: usize
     let n = at(table, i, k + 1);
     let b = at(table, j, k);
     let m = at(table, j, k + 1);
-    same_text(catalog, statement, a, n, b, m)
+    text::places::same_bytes(catalog, statement, a, n, b, m)
 }
 
 // Whether two rows have the same operator, of those with the codes from least to most.
@@ -72,7 +71,7 @@ pub fn same_value(
             }
             b == y
         }
-        5 => same_text(catalog, statement, a, b, x, y),
+        5 => text::places::same_bytes(catalog, statement, a, b, x, y),
         _ => true,
     }
 }

@@ -2,6 +2,5 @@
 pub mod aggregates;
 pub mod equality;
 mod heads;
-pub mod places;
 pub mod rows;
 pub mod walk;

@@ -5,14 +5,14 @@ use native.Mathlib.Numerals.{add-one}
 use mathlib.Core.Path.{_≡_, sym, ap, _∙_}
 use mathlib.Core.List.{List, append-nil}
 use lib.ListN.{length}
-use Rattle.rules.specs.Refusals.{Answer, ok}
+use Rattle.rules.specs.Refusals.{catalog, Answer, ok}
 use Rattle.rules.specs.Limits.{mostTableColumns}
 use Rattle.rules.specs.Lists.{Bytes}
 use Rattle.rules.specs.Schema.{Column}
 use Rattle.rules.specs.Reader.{Place}
 use Rattle.schema.specs.Layout.{columnStart, columnsAt}
 use Rattle.schema.specs.Records.{here}
-use Rattle.schema.specs.Answers.{wrongAt, limitAt, prefixed, prefixed-none, prefixed-twice}
+use Rattle.text.specs.Answers.{wrongAt, limitAt, prefixed, prefixed-none, prefixed-twice}
 use Rattle.schema.specs.Store.{Kept, kept-all, kept-part, kept-on, columns-kept, columns-more}
 use Rattle.schema.specs.Columns.{columns, columnsFrom, ColumnReady, ColumnMoves, ColumnRead}
 use Rattle.schema.specs.declared.read.ColumnStep.{ColumnStep}
@@ -23,8 +23,8 @@ use Rattle.schema.specs.declared.read.Run.the-variants as R
 -- the columns that were read, the first of them the f-th of all
 unfoldable pub columnsOf : Bytes → Bytes → List ℕ → ℕ → Run → Answer (List Column × Place)
 columnsOf t q s f (R.Done e l n) = ok (columnsAt t q s f n, here t e l)
-columnsOf t q s f (R.Wrong k) = wrongAt k
-columnsOf t q s f (R.Limit k) = limitAt k
+columnsOf t q s f (R.Wrong k) = wrongAt catalog k
+columnsOf t q s f (R.Limit k) = limitAt catalog k
 
 unfoldable pub ColumnsMove : Bytes → ℕ → Run → Type 0
 ColumnsMove t p (R.Done e l n) = (p ≤ e) × (e ≤ length t) × (l ≤ e + 1) × (n ≤ mostTableColumns)

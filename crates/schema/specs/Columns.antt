@@ -22,7 +22,7 @@ use Rattle.text.specs.Lines.{lineEnd, line-moves, line-most}
 use Rattle.text.specs.Reading.{place, place-next}
 use Rattle.schema.specs.Layout.{numbers, columnStart, typeOf, defaultOf, columnOf}
 use Rattle.schema.specs.Records.{Position, here, defaultSaid, columnHere, columnSaid, ColumnEnds, ColumnLine}
-use Rattle.schema.specs.Answers.{wrongAt, limitAt, bind-ok, bind-no, within-wrong, within-limit, within-ok, prefixed, give-first}
+use Rattle.text.specs.Answers.{wrongAt, limitAt, bind-ok, bind-no, within-wrong, within-limit, within-ok, prefixed, give-first}
 use Rattle.schema.specs.Store.{Kept, kept-all, kept-on, Four, four, four-before}
 use Rattle.schema.specs.declared.record.DefaultRecord.{DefaultRecord}
 use Rattle.schema.specs.declared.record.DefaultRecord.the-variants as D
@@ -125,8 +125,8 @@ pub record ColumnReady (t : Bytes) (s : List ℕ) (p l f n : ℕ) : Type 0 where
 -- what reading has come to: the columns behind this one, or the end
 unfoldable pub columnsFrom : Bytes → Bytes → List ℕ → ℕ → ℕ → ℕ → ℕ → ℕ → ColumnStep → Answer (List Column × Place)
 columnsFrom t q s p l f n fuel (S.Column e) = prefixed (columnOf t q s (columnStart (f + n)) ∷ []) (columns fuel (suc n) (here t e (l + 2)))
-columnsFrom t q s p l f n fuel (S.Wrong k) = wrongAt k
-columnsFrom t q s p l f n fuel (S.Limit k) = limitAt k
+columnsFrom t q s p l f n fuel (S.Wrong k) = wrongAt catalog k
+columnsFrom t q s p l f n fuel (S.Limit k) = limitAt catalog k
 columnsFrom t q s p l f n fuel S.End = ok ([], here t p l)
 
 unfoldable pub ColumnMoves : Bytes → ℕ → ℕ → ColumnStep → Type 0

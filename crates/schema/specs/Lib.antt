@@ -4,7 +4,6 @@ pub mod Records
 pub mod ColumnRecords
 pub mod TableRecords
 pub mod DefaultRecords
-pub mod Answers
 pub mod Store
 pub mod Columns
 pub mod ColumnRuns

@@ -18,7 +18,7 @@ use Rattle.rules.specs.ReadCatalog.{tables, readCatalog}
 use Rattle.text.specs.Reading.{place-start, place-end}
 use Rattle.schema.specs.Layout.{numbers, tableStart, columnStart, tableAt, tablesAt, catalogAt}
 use Rattle.schema.specs.Records.{Position, here, names}
-use Rattle.schema.specs.Answers.{wrongAt, limitAt, prefixed, prefixed-none, prefixed-twice}
+use Rattle.text.specs.Answers.{wrongAt, limitAt, prefixed, prefixed-none, prefixed-twice}
 use Rattle.schema.specs.Store.{Ranges, set-behind, tables-kept, tables-more}
 use Rattle.schema.specs.Tables.{TableReady, TableDone, TableMoves, TableRead, tablesFrom}
 use Rattle.schema.specs.declared.read.Run.{Run}
@@ -29,12 +29,12 @@ use Rattle.schema.specs.declared.read.Read.the-variants as A
 -- the catalog that was read: the one that the numbers s stand for
 unfoldable pub catalogOf : Bytes → Bytes → List ℕ → Rd.Read → Answer Catalog
 catalogOf t q s A.Done = ok (catalogAt t q s)
-catalogOf t q s (A.Wrong l) = wrongAt l
-catalogOf t q s (A.Limit l) = limitAt l
+catalogOf t q s (A.Wrong l) = wrongAt catalog l
+catalogOf t q s (A.Limit l) = limitAt catalog l
 
 -- the rules' answer, 3 with no line where the text is too long
 unfoldable pub catalogAnswer : Bytes → Answer Catalog
-catalogAnswer t = elim (ltb mostBytes (length t)) [ true ↦ limitAt 0 | false ↦ readCatalog t ]
+catalogAnswer t = elim (ltb mostBytes (length t)) [ true ↦ limitAt catalog 0 | false ↦ readCatalog t ]
 
 pub too-long : (t q : Bytes) (s : List ℕ) → mostBytes < length t → catalogOf t q s (A.Limit 0) ≡ catalogAnswer t
 unfolding catalogOf catalogAnswer
@@ -102,13 +102,13 @@ module _ {t : Bytes} {p l n f : ℕ} {s : List ℕ} (h : TableLoop t p l n f s) 
     pub tables-wrong : {k : ℕ} → r ≡ R.Wrong k → (q : Bytes) → catalogOf t q s′ (A.Wrong k) ≡ readCatalog t
     unfolding catalogOf tablesFrom prefixed valueOf wrongAt
     tables-wrong {k} z q =
-        let x : wrongAt k ≡ tables (suc (length t)) 0 [] (here t 0 1) = (rw (turn, ← g .says q (suc (length t) - (n + 1)), z) at (h .is q)) in
+        let x : wrongAt catalog k ≡ tables (suc (length t)) 0 [] (here t 0 1) = (rw (turn, ← g .says q (suc (length t) - (n + 1)), z) at (h .is q)) in
         ap valueOf x ∙ sym (whole t)
 
     pub tables-limit : {k : ℕ} → r ≡ R.Limit k → (q : Bytes) → catalogOf t q s′ (A.Limit k) ≡ readCatalog t
     unfolding catalogOf tablesFrom prefixed valueOf limitAt
     tables-limit {k} z q =
-        let x : limitAt k ≡ tables (suc (length t)) 0 [] (here t 0 1) = (rw (turn, ← g .says q (suc (length t) - (n + 1)), z) at (h .is q)) in
+        let x : limitAt catalog k ≡ tables (suc (length t)) 0 [] (here t 0 1) = (rw (turn, ← g .says q (suc (length t) - (n + 1)), z) at (h .is q)) in
         ap valueOf x ∙ sym (whole t)
 
     module _ {e l′ m : ℕ} (z : r ≡ R.Done e l′ m) where

@@ -21,7 +21,7 @@ use Rattle.text.specs.Lines.{lineEnd, line-moves}
 use Rattle.text.specs.Reading.{place, place-next, place-more, place-length}
 use Rattle.schema.specs.Layout.{numbers, tableStart, columnStart, columnsAt, tableAt, tablesAt}
 use Rattle.schema.specs.Records.{Position, here, names, tableHere, tableSaid, TableEnds, TableLine}
-use Rattle.schema.specs.Answers.{wrongAt, limitAt, bind-ok, bind-no, then-ok, then-no, within-wrong, within-limit, within-ok, prefixed, give-first}
+use Rattle.text.specs.Answers.{wrongAt, limitAt, bind-ok, bind-no, then-ok, then-no, within-wrong, within-limit, within-ok, prefixed, give-first}
 use Rattle.schema.specs.Search.{columns-length}
 use Rattle.schema.specs.Store.{Kept, kept-part, kept-on, Four, four, four-before, four-behind, set-before, set-behind, columns-kept, Ranges, names-kept, ranges-kept, tables-kept}
 use Rattle.schema.specs.Columns.{columns, ColumnReady, line-position}
@@ -95,8 +95,8 @@ pub record TableReady (t : Bytes) (s : List ℕ) (p l n f : ℕ) : Type 0 where
 -- what reading has come to: the tables behind this one
 unfoldable pub tablesFrom : Bytes → Bytes → List ℕ → ℕ → ℕ → Run → Answer (List Table × Place)
 tablesFrom t q s n fuel (R.Done e l m) = prefixed (tableAt t q s n ∷ []) (tables fuel (suc n) (names t s (suc n)) (here t e l))
-tablesFrom t q s n fuel (R.Wrong k) = wrongAt k
-tablesFrom t q s n fuel (R.Limit k) = limitAt k
+tablesFrom t q s n fuel (R.Wrong k) = wrongAt catalog k
+tablesFrom t q s n fuel (R.Limit k) = limitAt catalog k
 
 pub record TableDone (t : Bytes) (p n f : ℕ) (s s′ : List ℕ) (e l m : ℕ) : Type 0 where
   pub moved : p < e

@@ -5,7 +5,7 @@ mod record;
 ghost use mathlib.Core.Path.{_≡_};
 ghost use Prim.Native.Nat.{_<_, _^_};
 ghost use lib.ListN.{length, getD};
-ghost use Rattle.rules.specs.Lists.{Bytes, same};
+ghost use Rattle.rules.specs.Lists.{Bytes};
 ghost use Rattle.rules.specs.Places.{bytesAt, wordAt};
 ghost use Rattle.rules.specs.Schema.{getTable, columnAt, defaultAt};
 ghost use Rattle.schema.specs.Layout.{defaultOf, tableAt, catalogAt};
@@ -50,29 +50,6 @@ fn number(tables: &[u32], i: usize) -> u32
     if i < tables.len() { tables[i] } else { 0 }
 }
 
-// Whether the bytes at two places are the same.
-fn same_bytes(catalog: &[u8], statement: &[u8], a: u32, n: u32, b: u32, m: u32) -> bool
-    ensures { λ r. ⌜ r ≡ same (bytesAt (now (catalog .entry)) (now (statement .entry)) a n) (bytesAt (now (catalog .entry)) (now (statement .entry)) b m) ⌝ }
-{
-    if b < text::MOST_BYTES {
-        return text::places::holds_at(
-            catalog,
-            statement,
-            a,
-            n,
-            text::part(catalog, b as usize, m as usize),
-        );
-    }
-    let d = b - text::MOST_BYTES;
-    text::places::holds_at(
-        catalog,
-        statement,
-        a,
-        n,
-        text::part(statement, d as usize, m as usize),
-    )
-}
-
 // The table of a name, which is the n bytes at an address.
 pub fn get_table(catalog: &[u8], statement: &[u8], tables: &[u32], a: u32, n: u32) -> Found
     ensures { λ r. ⌜ foundTable (now (catalog .entry)) (now (statement .entry)) (now (tables .entry)) r ≡ getTable 0 (catalogAt (now (catalog .entry)) (now (statement .entry)) (now (tables .entry))) (bytesAt (now (catalog .entry)) (now (statement .entry)) a n) ⌝ }
@@ -81,7 +58,7 @@ pub fn get_table(catalog: &[u8], statement: &[u8], tables: &[u32], a: u32, n: u3
     let mut i: u32 = 0;
     while i < count {
         let t = TABLES + TABLE_SIZE * (i as usize);
-        if same_bytes(
+        if text::places::same_bytes(
             catalog,
             statement,
             number(tables, t),
@@ -106,7 +83,7 @@ pub fn column_at(catalog: &[u8], statement: &[u8], tables: &[u32], i: u32, a: u3
     let mut j: u32 = 0;
     while j < count {
         let k = COLUMNS + COLUMN_SIZE * (first + j as usize);
-        if same_bytes(
+        if text::places::same_bytes(
             catalog,
             statement,
             number(tables, k),

@@ -15,7 +15,6 @@ ghost use Rattle.schema.specs.Records.{Position, here, names, defaultSai
 use crate::TABLE_SIZE;
 use crate::TABLES;
 use crate::number;
-use crate::same_bytes;
 use literal::Bits;
 use text::Number;
 
@@ -78,7 +77,7 @@ fn is_taken(catalog: &[u8], tables: &[u32], n: u32, a: u32, m: u32) -> bool
     while 0 < i {
         i -= 1;
         let t = TABLES + TABLE_SIZE * i;
-        if same_bytes(
+        if text::places::same_bytes(
             catalog,
             catalog,
             a,

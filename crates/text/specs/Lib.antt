@@ -6,3 +6,4 @@ pub mod Order
 pub mod Places
 pub mod Reading
 pub mod Records
+pub mod Answers

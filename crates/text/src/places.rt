@@ -33,16 +33,10 @@ pub fn holds_at(catalog: &[u8], statement: &[u8], a: u32, n: u32, x: &[u8]) -> b
     equal(part(statement, b as usize, n as usize), x)
 }
 
-// Whether two places lie inside their texts and hold the same bytes.
-pub fn same_text(catalog: &[u8], statement: &[u8], a: u32, n: u32, b: u32, m: u32) -> bool
-    ensures { λ r. ⌜ r ≡ places.sameText (now (catalog .entry)) (now (statement .entry)) a n b m ⌝ }
+// Whether the bytes at two places, or as many of them as there are, are the same.
+pub fn same_bytes(catalog: &[u8], statement: &[u8], a: u32, n: u32, b: u32, m: u32) -> bool
+    ensures { λ r. ⌜ r ≡ same (bytesAt (now (catalog .entry)) (now (statement .entry)) a n) (bytesAt (now (catalog .entry)) (now (statement .entry)) b m) ⌝ }
 {
-    if !inside(catalog, statement, a, n) {
-        return false;
-    }
-    if !inside(catalog, statement, b, m) {
-        return false;
-    }
     if b < MOST_BYTES {
         return holds_at(
             catalog,
@@ -60,6 +54,19 @@ pub fn same_text(catalog: &[u8], statement: &[u8], a: u32, n: u32, b: u32, m: u3
         n,
         part(statement, d as usize, m as usize),
     )
+}
+
+// Whether two places lie inside their texts and hold the same bytes.
+pub fn same_text(catalog: &[u8], statement: &[u8], a: u32, n: u32, b: u32, m: u32) -> bool
+    ensures { λ r. ⌜ r ≡ places.sameText (now (catalog .entry)) (now (statement .entry)) a n b m ⌝ }
+{
+    if !inside(catalog, statement, a, n) {
+        return false;
+    }
+    if !inside(catalog, statement, b, m) {
+        return false;
+    }
+    same_bytes(catalog, statement, a, n, b, m)
 }
 
 // The order of the n bytes at an address, or as many of them as there are, and x.

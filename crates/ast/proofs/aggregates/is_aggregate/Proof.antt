@@ -1,6 +1,6 @@
 -- `aggregates::is_aggregate`: the address is the catalog's or the statement's.
 use borrow.Author.Needs.{needs}
-use Rattle.ast.proofs.Compared.{bytes-catalog, bytes-statement}
+use Rattle.text.specs.Places.{bytes-catalog, bytes-statement}
 use Rattle.ast.proofs.aggregates.is_aggregate.Statement.{statement}
 use Rattle.ast.proofs.aggregates.is_aggregate.Tie as tie
 

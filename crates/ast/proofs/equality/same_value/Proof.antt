@@ -27,8 +27,8 @@ returns-3 c = rw (value-int _ _ _ _ _ (sym (c .before .before .before .before .o
 returns-4 : tie.Need-returns-4
 returns-4 c = rw (value-float _ _ _ _ _ (sym (c .before .before .before .before .or-least .ensures) ∙ c .before .match .keys3), value-float _ _ _ _ _ (sym (c .before .before .before .or-least2 .ensures) ∙ sym (c .before .before .if1 .left) ∙ c .before .match .keys3)) (sym (floats _ _ ∙ low-differ _ _ _ _ (omega arith) (omega arith) (c .if4 .taken)))
 
-same-text-requires : tie.Need-same-text-requires
-same-text-requires c κs = search needs
+same-bytes-requires : tie.Need-same-bytes-requires
+same-bytes-requires c κs = search needs
 
 returns-5 : tie.Need-returns-5
 returns-5 c = rw (value-bool _ _ _ _ _ (sym (c .before .before .before .before .or-least .ensures) ∙ c .before .match .keys1), value-bool _ _ _ _ _ (sym (c .before .before .before .or-least2 .ensures) ∙ sym (c .before .before .if1 .left) ∙ c .before .match .keys1)) (sym (bool-other _ _ (c .if2 .left)))
@@ -41,7 +41,7 @@ returns-7 c = rw (value-float _ _ _ _ _ (sym (c .before .before .before .before 
 
 returns-8 : tie.Need-returns-8
 unfolding spellValue same wordAt
-returns-8 c = rw (value-text _ _ _ _ _ (sym (c .before .before .before .before .or-least .ensures) ∙ c .before .match .keys4), value-text _ _ _ _ _ (sym (c .before .before .before .or-least2 .ensures) ∙ sym (c .before .before .if1 .left) ∙ c .before .match .keys4)) (c .same-text .ensures)
+returns-8 c = rw (value-text _ _ _ _ _ (sym (c .before .before .before .before .or-least .ensures) ∙ c .before .match .keys4), value-text _ _ _ _ _ (sym (c .before .before .before .or-least2 .ensures) ∙ sym (c .before .before .if1 .left) ∙ c .before .match .keys4)) (c .same-bytes .ensures)
 
 returns-9 : tie.Need-returns-9
 returns-9 c = sym (both-null _ _ _ _ _ _ _ _ _ (sym (c .before .before .before .or-least .ensures)) (sym (c .before .before .or-least2 .ensures) ∙ sym (c .before .if1 .left)) (c .match .rest .0 .0 .0 .1) (c .match .rest .0 .0 .1) (c .match .rest .0 .1) (c .match .rest .1))
@@ -56,7 +56,7 @@ same-value-spec =
     returns-2
     returns-3
     returns-4
-    same-text-requires
+    same-bytes-requires
     returns-5
     returns-6
     returns-7

@@ -21,11 +21,11 @@ add-at-2 c = search needs
 at-requires-4 : tie.Need-at-requires-4
 at-requires-4 c κs = search needs
 
-same-text-requires : tie.Need-same-text-requires
-same-text-requires c κs = search needs
+same-bytes-requires : tie.Need-same-bytes-requires
+same-bytes-requires c κs = search needs
 
 returns : tie.Need-returns
-returns c = rw (← c .before .before .before .before .at .ensures, ← c .before .before .before .at2 .ensures, ← c .before .before .at3 .ensures, ← c .before .at4 .ensures) (c .same-text .ensures)
+returns c = rw (← c .before .before .before .before .at .ensures, ← c .before .before .before .at2 .ensures, ← c .before .before .at3 .ensures, ← c .before .at4 .ensures) (c .same-bytes .ensures)
 
 pub same-word-spec : {M : Type 1} → statement M
 same-word-spec =
@@ -37,5 +37,5 @@ same-word-spec =
     at-requires-3
     add-at-2
     at-requires-4
-    same-text-requires
+    same-bytes-requires
     returns)

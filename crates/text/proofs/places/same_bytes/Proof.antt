@@ -1,11 +1,11 @@
--- `same_bytes`: the second place's text by its address.
+-- `places::same_bytes`: the second place's text by its address.
 use mathlib.Core.Path.{sym, ap, _∙_}
 use borrow.Author.Needs.{needs}
 use Rattle.rules.specs.Lists.{same}
 use Rattle.rules.specs.Places.{bytesAt}
 use Rattle.text.specs.Places.{bytes-catalog, bytes-statement}
-use Rattle.schema.proofs.same_bytes.Statement.{statement}
-use Rattle.schema.proofs.same_bytes.Tie as tie
+use Rattle.text.proofs.places.same_bytes.Statement.{statement}
+use Rattle.text.proofs.places.same_bytes.Tie as tie
 
 part-requires : tie.Need-part-requires
 part-requires c κs = search needs

@@ -1,19 +1,19 @@
--- Answers of reading the catalog: one step after another, and lists put before what the rest gives.
+-- Answers of reading a text: one step after another, and lists put before what the rest gives.
 use Prim.Native.Nat.{ℕ, _≤_, _<_}
 use mathlib.Core.Path.{_≡_, refl}
 use mathlib.Core.Option.{Option, none, some}
 use mathlib.Core.List.{List, [], _∷_, _++_, append-assoc}
 use borrow.Author.Tests.{lt-ltb, le-ltb}
-use Rattle.rules.specs.Refusals.{catalog, wrongRecord, limitPassed, Refusal, Answer, ok, refused}
+use Rattle.rules.specs.Refusals.{Text, wrongRecord, limitPassed, Refusal, Answer, ok, refused}
 use Rattle.rules.specs.Lines.{Word}
 use Rattle.rules.specs.Reader.{Place, Read, give, stop, next, rest, recordWithin, _>>=_, _>>_}
 
--- document 01's 2 and 3, at a line of the catalog
-unfoldable pub wrongAt : {A : Type 0} → ℕ → Answer A
-wrongAt l = refused (record { reason = wrongRecord; text = catalog; line = l })
+-- document 01's 2 and 3, at a line of a text
+unfoldable pub wrongAt : {A : Type 0} → Text → ℕ → Answer A
+wrongAt t l = refused (record { reason = wrongRecord; text = t; line = l })
 
-unfoldable pub limitAt : {A : Type 0} → ℕ → Answer A
-limitAt l = refused (record { reason = limitPassed; text = catalog; line = l })
+unfoldable pub limitAt : {A : Type 0} → Text → ℕ → Answer A
+limitAt t l = refused (record { reason = limitPassed; text = t; line = l })
 
 module _ {A B : Type 0} (m : Read A) (f : A → Read B) (p : Place) where
   pub bind-ok : (a : A) (p′ : Place) → m p ≡ ok (a, p′) → (m >>= f) p ≡ f a p′
