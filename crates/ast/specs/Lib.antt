@@ -15,3 +15,11 @@ pub mod Operators
 pub mod Heads
 pub mod Literals
 pub mod Records
+pub mod Reading
+pub mod Stores
+pub mod RecordHere
+pub mod Times
+pub mod Given
+pub mod Built
+pub mod Rows
+pub mod ExpressionRuns

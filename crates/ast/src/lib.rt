@@ -2,5 +2,6 @@
 pub mod aggregates;
 pub mod equality;
 mod heads;
+pub mod reading;
 pub mod rows;
 pub mod walk;
