@@ -23,3 +23,4 @@ pub mod Given
 pub mod Built
 pub mod Rows
 pub mod ExpressionRuns
+pub mod Names

@@ -30,7 +30,7 @@ pub below-less : (m n : ℕ) (s s′ : List ℕ) → n ≤ m → Below m s s′ 
 unfolding Below
 below-less m n s s′ l f i h = f i (omega arith)
 
-below-set : (n : ℕ) (s : List ℕ) (i x : ℕ) → n ≤ i → Below n s (set s i x)
+pub below-set : (n : ℕ) (s : List ℕ) (i x : ℕ) → n ≤ i → Below n s (set s i x)
 unfolding Below
 below-set n s i x l j h = getD-set-other s i j x 0 (λ e. omega (arith, e))
 

@@ -18,8 +18,8 @@ use Rattle.rules.specs.Reader.{Place, Read, start, stop, lineHere, next, key, a
 use Rattle.rules.specs.ReadExpression.{expression}
 use Rattle.rules.specs.ReadColumn.{ColumnHead}
 use Rattle.rules.specs.ReadStatement.{FromHead, tableHead, joinHead, fromHeads, tabled, fromHere, fromBody, fromTree, froms, itemBody, groupBody, orderBody, selectBody, deleteBody, nameBody, rowBody, columnsHere, insertBody, sets, updateBody, newColumn, columnBody, createBody, StatementHead, selectHead, otherHead, deleteHead, insertHead, updateHead, createHead, dropHead, statementBody, statementHere, statementHeads, statementRecords, readStatement}
-use Rattle.claims.specs.Answers.{Ensures, anything, Given}
-use Rattle.claims.specs.Reading.Rules.{Reaches, Reads, Anywhere, reads-by, reads-into, reads-next, reads-give, reads-stop, reads-test, reads-option, reads-fit, reads-record, reads-within, reads-turns, reads-atLeastOne, reads-value}
+use Rattle.claims.specs.Answers.{Ensures, weaken, Given}
+use Rattle.claims.specs.Reading.Rules.{Reaches, Reads, Anywhere, reads-by, reads-into, reads-next, reads-give, reads-stop, reads-test, reads-option, reads-list, reads-fit, reads-record, reads-within, reads-turns, reads-atLeastOne, reads-value}
 use Rattle.claims.specs.Reading.Cells.{Grown, _⨟_, few, Adds, stays, passes, after, adds-times, adds-expression, adds-optional, adds-clause, adds-run}
 
 -- the tables of a FROM item
@@ -93,9 +93,9 @@ adds-order : (l : ℕ) (d : Bool) → Adds (λ (k : Key). size (k .expr)) (order
 unfolding orderBody
 adds-order l d p u = reads-by _ _ _ _ adds-expression tt λ e q g. reads-give _ q _ g
 
--- what a body reads is within the limits, in cells and by L
+-- what a body reads counts its cells, and is within the limits, in cells and by L
 abbrev Keeps : {A : Type 0} → (A → ℕ) → (A → Type 0) → Read A → Type 0
-Keeps c L m = Reads Anywhere m (λ p a q. (c a ≤ mostCells) × L a)
+Keeps c L m = Reads Anywhere m (λ p a q. (q .cells ≡ p .cells + c a) × (c a ≤ mostCells) × L a)
 
 limited-select : Keeps selectSize LimitedSelect selectBody
 unfolding selectBody selectSize itemsSize keysSize
@@ -108,7 +108,8 @@ limited-select p u =
     reads-by _ _ _ _ (adds-run _ _ _ _ _ adds-order) tt λ os p₆ h₆.
     reads-by _ _ _ _ (adds-clause _) tt λ o p₇ h₇.
     reads-by _ _ _ _ (adds-clause _) tt λ l p₈ h₈.
-    reads-give _ p₈ _ (few (h₁ .0 ⨟ h₂ ⨟ h₃ ⨟ h₄ .0 ⨟ h₅ ⨟ h₆ .0 ⨟ h₇ ⨟ h₈) .0, record { items = h₁ .1; from = few h₂ .1; group = h₄ .1; order = h₆ .1 })
+    let g = h₁ .0 ⨟ h₂ ⨟ h₃ ⨟ h₄ .0 ⨟ h₅ ⨟ h₆ .0 ⨟ h₇ ⨟ h₈ in
+    reads-give _ p₈ _ (g .cells, few g .0, record { items = h₁ .1; from = few h₂ .1; group = h₄ .1; order = h₆ .1 })
 
 -- DELETE
 limited-delete : (l : ℕ) (n : Word) → Keeps (λ (d : Delete). clauseSize (d .filter)) (λ d. Unit {0}) (deleteBody l n)
@@ -130,19 +131,25 @@ adds-row : (l n : ℕ) → Adds (total size) (rowBody l n)
 unfolding rowBody
 adds-row l n p u = reads-by _ _ _ _ (adds-times expression adds-expression n) tt λ es q h. reads-give _ q _ (omega (arith, size-list es))
 
-few-names : Reads Anywhere columnsHere (λ p cs q. Given (λ ns. length ns ≤ mostEntries) cs)
+-- names count nothing
+no-cells : {A : Type 0} (as′ : List A) → total (λ a. 0) as′ ≡ 0
+unfolding total
+no-cells [] = refl
+no-cells (a ∷ as′) = rw (no-cells as′)
+
+few-names : Reads Anywhere columnsHere (λ p cs q. Grown 0 0 p q × Given (λ ns. length ns ≤ mostEntries) cs)
 unfolding columnsHere Given
 few-names p u = reads-test (at (bytes "columns") p) _ _ _
-    (λ t. reads-next _ _ p _ _ (reads-record _ _ p (λ u q. Anywhere q) λ u e. tt) λ u q g.
-    reads-by _ _ _ _ (adds-run _ _ _ _ _ adds-name) tt λ ns r h. reads-give _ r _ (h .1))
-    (λ t. tt)
+    (λ t. reads-next _ _ p _ _ (reads-record _ _ p (λ u q. Grown 0 0 p q) λ u e. passes p) λ u q g.
+    reads-by _ _ _ _ (adds-run _ _ _ _ _ adds-name) tt λ ns r h. reads-give _ r _ (rw (no-cells ns) at (g ⨟ h .0), h .1))
+    (λ t. (stays p, tt))
 
 limited-insert : (l : ℕ) (n : Word) → Keeps (λ (d : Insert). rowsSize (d .rows)) LimitedInsert (insertBody l n)
 unfolding insertBody rowsSize
 limited-insert l n p u =
     reads-by _ _ _ _ few-names tt λ cs q g.
     reads-by _ _ _ _ (reads-atLeastOne _ _ _ (adds-run _ _ _ _ _ adds-row)) tt λ rs r h.
-    reads-give _ r _ (omega arith, record { rows = h .1; columns = g })
+    reads-give _ r _ (omega arith, omega arith, record { rows = h .1; columns = g .1 })
 
 -- UPDATE
 adds-sets : (fuel n : ℕ) (b : Option Bytes) → n ≤ mostEntries → Reads Anywhere (sets fuel n b) (λ p xs q. Grown (setsSize xs) 0 p q × (n + length xs ≤ mostEntries))
@@ -172,22 +179,26 @@ limited-create l n p u = reads-by _ _ _ _ (adds-run _ _ _ _ _ adds-column) tt λ
 limited-body : (h : StatementHead) (l : ℕ) → Keeps statementSize Limited (statementBody h l)
 unfolding statementBody statementSize
 limited-body selectHead l p u = reads-by _ _ _ _ limited-select tt λ s q h. reads-give _ q _ h
-limited-body otherHead l p u = reads-give _ p _ (omega arith, tt)
+limited-body otherHead l p u = reads-give _ p _ (omega arith)
 limited-body (deleteHead n) l p u = reads-by _ _ _ _ (limited-delete l n) tt λ d q h. reads-give _ q _ h
 limited-body (insertHead n) l p u = reads-by _ _ _ _ (limited-insert l n) tt λ d q h. reads-give _ q _ h
 limited-body (updateHead n) l p u = reads-by _ _ _ _ (limited-update l n) tt λ d q h. reads-give _ q _ h
 limited-body (createHead n) l p u = reads-by _ _ _ _ (limited-create l n) tt λ d q h. reads-give _ q _ h
-limited-body (dropHead n y) l p u = reads-give _ p _ (omega arith, tt)
+limited-body (dropHead n y) l p u = reads-give _ p _ (omega arith)
 
 limited-records : Keeps statementSize Limited statementRecords
-unfolding statementRecords lineNumber statementHere
+unfolding statementRecords lineNumber statementHere nothingLeft stop next
 limited-records p u = reads-into _ _ p _
     (reads-into _ _ p _ (reads-fit (oneOf statementHeads (lineHere p)) p _ λ h e.
     reads-by _ _ _ _ (limited-body h (p .line)) tt λ s q g.
-    reads-next _ _ q _ _ (reads-record _ _ q (λ u r. Unit {0}) λ u e. tt) λ u r v.
-    reads-next _ _ r (λ w t. Unit {0}) _ (anything (nothingLeft r)) λ w t k. reads-give s t _ g))
+    reads-next _ _ q _ _ (reads-record _ _ q (λ u r. Grown 0 0 q r) λ u e. passes q) λ u r v.
+    reads-next _ _ r (λ w t. Grown 0 0 r t) _ (reads-list (r .left) _ _ _ (stays r) tt) λ w t k. reads-give s t _ (omega arith, g .1, g .2)))
+
+-- Reading a statement counts exactly its cells.
+pub statement-counted : Reads Anywhere statementRecords (λ p s q. q .cells ≡ p .cells + statementSize s)
+statement-counted p u = weaken (statementRecords p) _ _ (λ r h. h .0) (limited-records p u)
 
 -- A statement that is read has at most 512 cells, and of each kind of record no more than the limit.
 pub statement-limited : (t : Bytes) → Ensures (readStatement t) (λ s. (statementSize s ≤ mostCells) × Limited s)
 unfolding readStatement start
-statement-limited t = reads-value (statementRecords (start statement t)) _ (limited-records (start statement t) (omega arith))
+statement-limited t = reads-value (statementRecords (start statement t)) _ (weaken (statementRecords (start statement t)) _ _ (λ r h. (h .1, h .2)) (limited-records (start statement t) tt))

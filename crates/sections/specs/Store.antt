@@ -1,0 +1,157 @@
+-- Numbers that are stored, and the entry that twelve of them stand for.
+use Prim.Native.Nat.{ℕ, zero, suc, _+_, _*_, _≤_, _<_}
+use native.Mathlib.Omega.{arith}
+use native.Mathlib.Nat.{add-zero}
+use mathlib.Core.Path.{_≡_, refl, sym, ap, _∙_}
+use mathlib.Core.List.{List, [], _∷_, _++_}
+use mathlib.Core.Option.{Option, none, some}
+use lib.ListN.{length, getD, set, length-set}
+use lib.Seq.{sets, getD-set-same, getD-set-other}
+use Rattle.rules.specs.Lists.{Bytes}
+use Rattle.rules.specs.Lines.{Word}
+use Rattle.rules.specs.Ast.{Exprs}
+use Rattle.ast.specs.Table.{argumentsAt, treeAt}
+use Rattle.ast.specs.Names.{nameAt, nameNumbers, NameFits, names-back}
+use Rattle.ast.specs.Reading.{Below}
+use Rattle.ast.specs.Stores.{sets-append}
+use Rattle.entries.specs.Entries.{EntryHead}
+use Rattle.sections.specs.Layout.{headAt, entryAt, entriesAt}
+use Rattle.entries.specs.Heads.{headNumbers}
+
+-- NUMBERS THAT ARE AS THEY WERE
+-- the numbers from a on and before b
+pub record Kept (a b : ℕ) (s s′ : List ℕ) : Type 0 where
+  pub same : (k : ℕ) → a ≤ k → k < b → getD s′ k 0 ≡ getD s k 0
+
+pub kept-part : {a b : ℕ} {s s′ : List ℕ} (a′ b′ : ℕ) → Kept a b s s′ → a ≤ a′ → b′ ≤ b → Kept a′ b′ s s′
+kept-part a′ b′ h l m = record { same = λ k x y. h .same k (omega arith) (omega arith) }
+
+pub kept-on : {a b : ℕ} {s s′ s″ : List ℕ} → Kept a b s s′ → Kept a b s′ s″ → Kept a b s s″
+kept-on h g = record { same = λ k x y. g .same k x y ∙ h .same k x y }
+
+pub kept-below : {n : ℕ} {s s′ : List ℕ} (a b : ℕ) → Below n s s′ → b ≤ n → Kept a b s s′
+unfolding Below
+kept-below a b h l = record { same = λ k x y. h k (omega arith) }
+
+pub kept-set : (s : List ℕ) (i v a b : ℕ) → i < a → Kept a b s (set s i v)
+kept-set s i v a b l = record { same = λ k x y. getD-set-other s i k v 0 (λ e. omega (arith, e)) }
+
+-- STORES
+sets-before : (vs s : List ℕ) (i j : ℕ) → j < i → getD (sets s i vs) j 0 ≡ getD s j 0
+sets-before [] s i j h = refl
+sets-before (v ∷ vs) s i j h = sets-before vs (set s i v) (suc i) j (omega arith) ∙ getD-set-other s i j v 0 (λ e. omega (arith, e))
+
+sets-at : (vs s : List ℕ) (i j : ℕ) → i + length vs ≤ length s → j < length vs → getD (sets s i vs) (i + j) 0 ≡ getD vs j 0
+sets-at [] s i j h l = absurd (omega arith)
+sets-at (v ∷ vs) s i zero h l = rw (add-zero i) (sets-before vs (set s i v) (suc i) i (omega arith) ∙ getD-set-same s i v 0 (omega arith))
+sets-at (v ∷ vs) s i (suc j) h l =
+    let e : i + suc j ≡ suc i + j = omega arith in
+    rw e (sets-at vs (set s i v) (suc i) j (rw (length-set s i v) (omega arith)) (omega arith))
+
+-- three stores of four numbers each
+pub sets-three : (s s₁ s₂ s₃ : List ℕ) (i : ℕ) (xs ys zs : List ℕ) → length xs ≡ 4 → length ys ≡ 4 → s₁ ≡ sets s i xs → s₂ ≡ sets s₁ (i + 4) ys → s₃ ≡ sets s₂ (i + 8) zs
+    → s₃ ≡ sets s i (xs ++ (ys ++ zs))
+sets-three s s₁ s₂ s₃ i xs ys zs m n e₁ e₂ e₃ =
+    let a : i + 8 ≡ i + 4 + 4 = omega arith in
+    let x : sets (sets (sets s i xs) (i + 4) ys) (i + 4 + 4) zs ≡ sets (sets s i xs) (i + 4) (ys ++ zs) = (rw n at (sym (sets-append ys zs (sets s i xs) (i + 4)))) in
+    let y : sets (sets s i xs) (i + 4) (ys ++ zs) ≡ sets s i (xs ++ (ys ++ zs)) = (rw m at (sym (sets-append xs (ys ++ zs) s i))) in
+    e₃ ∙ rw (e₂, e₁, a) (x ∙ y)
+
+pub four-sets : (s : List ℕ) (i a b c d : ℕ) → sets s i (a ∷ b ∷ c ∷ d ∷ []) ≡ set (set (set (set s i a) (i + 1) b) (i + 2) c) (i + 3) d
+four-sets s i a b c d =
+    let x : i + 1 ≡ suc i = omega arith in
+    let y : i + 2 ≡ suc (suc i) = omega arith in
+    let z : i + 3 ≡ suc (suc (suc i)) = omega arith in
+    rw (x, y, z)
+
+-- these numbers stand from i on
+pub record Stored (s : List ℕ) (i : ℕ) (vs : List ℕ) : Type 0 where
+  pub at : (j : ℕ) → j < length vs → getD s (i + j) 0 ≡ getD vs j 0
+
+pub stored-sets : (s : List ℕ) (i : ℕ) (vs : List ℕ) → i + length vs ≤ length s → Stored (sets s i vs) i vs
+stored-sets s i vs h = record { at = λ j l. sets-at vs s i j h l }
+
+pub stored-kept : {s s′ : List ℕ} {i : ℕ} {vs : List ℕ} → Kept i (i + length vs) s s′ → Stored s i vs → Stored s′ i vs
+stored-kept k h = record { at = λ j l. k .same _ (omega arith) (omega arith) ∙ h .at j l }
+
+-- ENTRIES
+-- the twelve numbers of an entry
+unfoldable pub entryNumbers : ℕ → ℕ → EntryHead → List ℕ
+entryNumbers l r h = l ∷ h .expressions ∷ r ∷ headNumbers h
+
+-- a name has two numbers
+names-two : (w v : Option Word) (a b d e f : ℕ)
+    → nameNumbers w ++ (a ∷ b ∷ d ∷ e ∷ f ∷ nameNumbers v)
+    ≡ getD (nameNumbers w) 0 0 ∷ getD (nameNumbers w) 1 0 ∷ a ∷ b ∷ d ∷ e ∷ f ∷ getD (nameNumbers v) 0 0 ∷ getD (nameNumbers v) 1 0 ∷ []
+unfolding nameNumbers
+names-two none none a b d e f = refl
+names-two none (some v) a b d e f = refl
+names-two (some w) none a b d e f = refl
+names-two (some w) (some v) a b d e f = refl
+
+-- the same twelve, one by one
+unfoldable twelve : ℕ → ℕ → EntryHead → List ℕ
+twelve l r h =
+    l
+    ∷ h .expressions
+    ∷ r
+    ∷ getD (nameNumbers (h .name)) 0 0
+    ∷ getD (nameNumbers (h .name)) 1 0
+    ∷ h .code
+    ∷ h .key
+    ∷ h .nullable
+    ∷ h .unique
+    ∷ h .index
+    ∷ getD (nameNumbers (h .reference)) 0 0
+    ∷ getD (nameNumbers (h .reference)) 1 0
+    ∷ []
+
+numbers-twelve : (l r : ℕ) (h : EntryHead) → entryNumbers l r h ≡ twelve l r h
+unfolding entryNumbers headNumbers twelve
+numbers-twelve l r h = rw (names-two (h .name) (h .reference) (h .code) (h .key) (h .nullable) (h .unique) (h .index))
+
+pub entry-twelve : (l r : ℕ) (h : EntryHead) → length (entryNumbers l r h) ≡ 12
+unfolding twelve
+entry-twelve l r h = rw (numbers-twelve l r h)
+
+-- the entry whose numbers stand from i on
+module _ (c q : Bytes) (cells s : List ℕ) (i l r : ℕ) (h : EntryHead) (f : NameFits c q (h .name)) (g : NameFits c q (h .reference)) (w : Stored s i (entryNumbers l r h)) where
+  number : (j : ℕ) → j < 12 → getD s (i + j) 0 ≡ getD (twelve l r h) j 0
+  number j k = w .at j (rw (entry-twelve l r h) k) ∙ ap (λ xs. getD xs j 0) (numbers-twelve l r h)
+
+  head-back : headAt c q cells s i ≡ h
+  unfolding headAt twelve
+  head-back =
+      rw (
+        number 1 (omega arith),
+        number 3 (omega arith),
+        number 4 (omega arith),
+        number 5 (omega arith),
+        number 6 (omega arith),
+        number 7 (omega arith),
+        number 8 (omega arith),
+        number 9 (omega arith),
+        number 10 (omega arith),
+        number 11 (omega arith),
+        names-back c q (h .name) f,
+        names-back c q (h .reference) g,
+      )
+
+  pub entry-back : (es : Exprs) → argumentsAt (treeAt c q cells 32) cells (h .expressions) r ≡ es → entryAt c q cells s i ≡ record { line = l; head = h; exprs = es }
+  unfolding entryAt twelve
+  entry-back es e =
+      let n₀ : getD s i 0 ≡ l = (rw (add-zero i) at (number 0 (omega arith))) in
+      rw (n₀, head-back, number 1 (omega arith), number 2 (omega arith), e)
+
+-- one entry more
+pub entries-more : (c q : Bytes) (cells s : List ℕ) (i n : ℕ) → entriesAt c q cells s i (suc n) ≡ entriesAt c q cells s i n ++ (entryAt c q cells s (i + 12 * n) ∷ [])
+unfolding entriesAt
+entries-more c q cells s i zero = let e : i + 12 * 0 ≡ i = omega arith in rw e
+entries-more c q cells s i (suc n) =
+    let e : i + 12 * suc n ≡ i + 12 + 12 * n = omega arith in
+    rw e (ap (λ r. entryAt c q cells s i ∷ r) (entries-more c q cells s (i + 12) n))
+
+pub entries-length : (c q : Bytes) (cells s : List ℕ) (i n : ℕ) → length (entriesAt c q cells s i n) ≡ n
+unfolding entriesAt
+entries-length c q cells s i zero = refl
+entries-length c q cells s i (suc n) = ap suc (entries-length c q cells s (i + 12) n)

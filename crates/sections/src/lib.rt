@@ -1,0 +1,217 @@
+// Sections of a statement: the records of one kind that stand in a row, each with its expressions.
+ghost use mathlib.Core.Path.{_≡_};
+ghost use mathlib.Core.List.{[], _∷_};
+ghost use Prim.Native.Nat.{ℕ, _+_, _≤_, _<_};
+ghost use lib.ListN.{length};
+ghost use lib.Seq.{sets};
+ghost use Rattle.ast.specs.Reading.{Position, Given};
+ghost use Rattle.entries.specs.Entries.{mostOf, isOnce, section, someSection};
+ghost use Rattle.sections.specs.Layout.{startOf};
+ghost use Rattle.sections.specs.Contracts.{SectionRead};
+ghost use Rattle.entries.specs.Heads.{numbersOf};
+ghost use Rattle.sections.specs.OneEntry.{entryStart, EntryReady, EntryRead};
+use ast::reading::Read;
+use ast::reading::read_expressions;
+use entries::Head;
+use entries::entry_head;
+
+// Where the sections start in the parts.
+const STARTS: [usize; 12] = [8, 777, 790, 1559, 1572, 2341, 2354, 8, 21, 790, 8, 8];
+
+// Most entries of each section.
+const MOSTS: [u32; 12] = [64, 1, 64, 1, 64, 1, 1, 1, 64, 256, 64, 64];
+
+// Whether it is a clause: one record at most.
+const ONCE: [bool; 12] = [
+    false,
+    true,
+    false,
+    true,
+    false,
+    true,
+    true,
+    true,
+    false,
+    false,
+    false,
+    false,
+];
+
+// How many numbers an entry has.
+const ENTRY_SIZE: usize = 12;
+
+// One entry: read, with the position behind it, its line, the rows so far, and its name's address and length; or none stands there, or 2 or 3 at a line.
+enum Step {
+    Entry(usize, u32, u32, u32, u32),
+    End,
+    Wrong(u32),
+    Limit(u32),
+}
+
+fn start_of(kind: u32) -> usize
+    requires { ⌜ kind ≤ 11 ⌝ }
+    ensures { λ r. ⌜ r ≡ startOf kind ⌝ }
+{
+    STARTS[kind as usize]
+}
+
+fn most_of(kind: u32) -> u32
+    requires { ⌜ kind ≤ 11 ⌝ }
+    ensures { λ r. ⌜ r ≡ mostOf kind ⌝ }
+{
+    MOSTS[kind as usize]
+}
+
+fn is_once(kind: u32) -> bool
+    requires { ⌜ kind ≤ 11 ⌝ }
+    ensures { λ r. ⌜ r ≡ isOnce kind ⌝ }
+{
+    ONCE[kind as usize]
+}
+
+// Where the n-th entry of a section starts.
+fn entry_start(kind: u32, n: u32) -> usize
+    requires { ⌜ (kind ≤ 11) × (n < mostOf kind) ⌝ }
+    ensures { λ r. ⌜ r ≡ entryStart kind n ⌝ }
+{
+    let start = start_of(kind);
+    start + 1 + ENTRY_SIZE * (n as usize)
+}
+
+// Four numbers from i on.
+fn put_four(parts: &mut [u32], i: usize, a: u32, b: u32, c: u32, d: u32)
+    requires { ⌜ i + 4 ≤ length (now parts) ⌝ }
+    ensures { λ _. ⌜ now (parts .exit) ≡ sets (now (parts .entry)) i (a ∷ b ∷ c ∷ d ∷ []) ⌝ }
+{
+    parts[i] = a;
+    parts[i + 1] = b;
+    parts[i + 2] = c;
+    parts[i + 3] = d;
+}
+
+// The numbers of an entry, from i on: its line, the row of its first expression, and what its record says.
+fn put_entry(parts: &mut [u32], i: usize, line: u32, row: u32, h: Head)
+    requires { ⌜ i + 12 ≤ length (now parts) ⌝ }
+    ensures { λ _. ⌜ now (parts .exit) ≡ sets (now (parts .entry)) i (line ∷ h .expressions ∷ row ∷ numbersOf h) ⌝ }
+{
+    put_four(parts, i, line, h.expressions, row, h.a);
+    put_four(parts, i + 4, h.b, h.code, h.key, h.nullable);
+    put_four(parts, i + 8, h.unique, h.index, h.c, h.d);
+}
+
+// The entry at a position, behind n of them, the last one with this name.
+fn read_entry(
+    t: &[u8],
+    p: usize,
+    l: u32,
+    c: u32,
+    kind: u32,
+    n: u32,
+    last: u32,
+    len: u32,
+    cells: &mut [u32],
+    parts: &mut [u32],
+) -> Step
+    requires { ⌜ EntryReady (now t) p l c kind n (now cells) (now parts) ⌝ }
+    ensures { λ r. ⌜ ((k : ℕ) → EntryRead (now (t .entry)) p l c kind n last len (now (cells .entry)) (now (cells .exit)) (now (parts .entry)) (now (parts .exit)) k r) ⌝ }
+{
+    let h = entry_head(t, p, kind, last, len);
+    if h.state == 0 {
+        return Step::End;
+    }
+    if h.state == 1 {
+        return Step::Wrong(l);
+    }
+    let most = most_of(kind);
+    if most <= n {
+        return Step::Limit(l);
+    }
+    let e = text::line_end(t, p);
+    let r = read_expressions(t, e, l + 1, c, h.expressions, cells);
+    match r {
+        Read::Wrong(x) => Step::Wrong(x),
+        Read::Limit(x) => Step::Limit(x),
+        Read::Done(q, m, d) => {
+            let i = entry_start(kind, n);
+            put_entry(parts, i, l, c, h);
+            Step::Entry(q, m, d, h.a, h.b)
+        }
+    }
+}
+
+// The section of a kind at a position, from row c on.
+pub fn read_section(
+    t: &[u8],
+    p: usize,
+    l: u32,
+    c: u32,
+    kind: u32,
+    cells: &mut [u32],
+    parts: &mut [u32],
+) -> Read
+    requires { ⌜ Position (now t) p l c ⌝ ∗ ⌜ (kind ≤ 11) × (length (now cells) ≡ 4096) × (length (now parts) ≡ 3863) ⌝ }
+    ensures { λ r. ⌜ ((k : ℕ) → Given (section kind) (SectionRead (now (t .entry)) kind c (now (cells .entry)) (now (cells .exit)) (now (parts .entry)) (now (parts .exit))) (now (t .entry)) p l c k r) ⌝ }
+{
+    let once = is_once(kind);
+    let start = start_of(kind);
+    let mut q = p;
+    let mut m = l;
+    let mut d = c;
+    let mut n: u32 = 0;
+    let mut last: u32 = 0;
+    let mut len: u32 = 0;
+    loop {
+        let r = read_entry(t, q, m, d, kind, n, last, len, cells, parts);
+        match r {
+            Step::End => {
+                parts[start] = n;
+                return Read::Done(q, m, d);
+            }
+            Step::Wrong(x) => {
+                return Read::Wrong(x);
+            }
+            Step::Limit(x) => {
+                return Read::Limit(x);
+            }
+            Step::Entry(q2, m2, d2, a, b) => {
+                n += 1;
+                if once {
+                    parts[start] = n;
+                    return Read::Done(q2, m2, d2);
+                }
+                q = q2;
+                m = m2;
+                d = d2;
+                last = a;
+                len = b;
+            }
+        }
+    }
+}
+
+// The same, with one entry at least.
+pub fn read_some(
+    t: &[u8],
+    p: usize,
+    l: u32,
+    c: u32,
+    kind: u32,
+    cells: &mut [u32],
+    parts: &mut [u32],
+) -> Read
+    requires { ⌜ Position (now t) p l c ⌝ ∗ ⌜ (kind ≤ 11) × (length (now cells) ≡ 4096) × (length (now parts) ≡ 3863) ⌝ }
+    ensures { λ r. ⌜ ((k : ℕ) → Given (someSection kind) (SectionRead (now (t .entry)) kind c (now (cells .entry)) (now (cells .exit)) (now (parts .entry)) (now (parts .exit))) (now (t .entry)) p l c k r) ⌝ }
+{
+    let r = read_section(t, p, l, c, kind, cells, parts);
+    match r {
+        Read::Wrong(x) => Read::Wrong(x),
+        Read::Limit(x) => Read::Limit(x),
+        Read::Done(q, m, d) => {
+            let start = start_of(kind);
+            if parts[start] == 0 {
+                return Read::Wrong(l);
+            }
+            Read::Done(q, m, d)
+        }
+    }
+}
