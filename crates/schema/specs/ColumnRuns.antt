@@ -13,7 +13,8 @@ use Rattle.rules.specs.Reader.{Place}
 use Rattle.schema.specs.Layout.{columnStart, columnsAt}
 use Rattle.schema.specs.Records.{here}
 use Rattle.text.specs.Answers.{wrongAt, limitAt, prefixed, prefixed-none, prefixed-twice}
-use Rattle.schema.specs.Store.{Kept, kept-all, kept-part, kept-on, columns-kept, columns-more}
+use Rattle.numbers.specs.Kept.{Kept, kept-all, kept-part, kept-on}
+use Rattle.schema.specs.Store.{columns-kept, columns-more}
 use Rattle.schema.specs.Columns.{columns, columnsFrom, ColumnReady, ColumnMoves, ColumnRead}
 use Rattle.schema.specs.declared.read.ColumnStep.{ColumnStep}
 use Rattle.schema.specs.declared.read.ColumnStep.the-variants as S

@@ -23,7 +23,8 @@ use Rattle.text.specs.Reading.{place, place-next}
 use Rattle.schema.specs.Layout.{numbers, columnStart, typeOf, defaultOf, columnOf}
 use Rattle.schema.specs.Records.{Position, here, defaultSaid, columnHere, columnSaid, ColumnEnds, ColumnLine}
 use Rattle.text.specs.Answers.{wrongAt, limitAt, bind-ok, bind-no, within-wrong, within-limit, within-ok, prefixed, give-first}
-use Rattle.schema.specs.Store.{Kept, kept-all, kept-on, Four, four, four-before}
+use Rattle.numbers.specs.Kept.{Kept, kept-all, kept-on}
+use Rattle.schema.specs.Store.{Four, four, four-before}
 use Rattle.schema.specs.declared.record.DefaultRecord.{DefaultRecord}
 use Rattle.schema.specs.declared.record.DefaultRecord.the-variants as D
 use Rattle.schema.specs.declared.record.ColumnRecord.{ColumnRecord}

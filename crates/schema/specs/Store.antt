@@ -6,21 +6,9 @@ use mathlib.Core.List.{List, [], _∷_, _++_}
 use lib.ListN.{length, getD, set, length-set}
 use lib.Seq.{sets, getD-set-same, getD-set-other}
 use Rattle.rules.specs.Lists.{Bytes}
+use Rattle.numbers.specs.Kept.{Kept, kept-part, four-sets}
 use Rattle.schema.specs.Layout.{tableStart, columnStart, columnOf, columnsAt, tableAt, tablesAt}
 use Rattle.schema.specs.Records.{names}
-
--- the numbers from a on and before b are the same
-pub record Kept (a b : ℕ) (s s′ : List ℕ) : Type 0 where
-  pub same : (k : ℕ) → a ≤ k → k < b → getD s′ k 0 ≡ getD s k 0
-
-pub kept-all : (a b : ℕ) (s : List ℕ) → Kept a b s s
-kept-all a b s = record { same = λ k h g. refl }
-
-pub kept-part : {a b : ℕ} {s s′ : List ℕ} (a′ b′ : ℕ) → Kept a b s s′ → a ≤ a′ → b′ ≤ b → Kept a′ b′ s s′
-kept-part a′ b′ h l m = record { same = λ k x y. h .same k (omega arith) (omega arith) }
-
-pub kept-on : {a b : ℕ} {s s′ s″ : List ℕ} → Kept a b s s′ → Kept a b s′ s″ → Kept a b s s″
-kept-on h g = record { same = λ k x y. g .same k x y ∙ h .same k x y }
 
 -- STORES
 -- four numbers stored at i
@@ -30,13 +18,6 @@ pub record Four (s s′ : List ℕ) (i a b c d : ℕ) : Type 0 where
   pub third : getD s′ (i + 2) 0 ≡ c
   pub fourth : getD s′ (i + 3) 0 ≡ d
   pub other : (k : ℕ) → (k ≡ i → ⊥) → (k ≡ i + 1 → ⊥) → (k ≡ i + 2 → ⊥) → (k ≡ i + 3 → ⊥) → getD s′ k 0 ≡ getD s k 0
-
-pub four-sets : (s : List ℕ) (i a b c d : ℕ) → sets s i (a ∷ b ∷ c ∷ d ∷ []) ≡ set (set (set (set s i a) (i + 1) b) (i + 2) c) (i + 3) d
-four-sets s i a b c d =
-    let x : i + 1 ≡ suc i = omega arith in
-    let y : i + 2 ≡ suc (suc i) = omega arith in
-    let z : i + 3 ≡ suc (suc (suc i)) = omega arith in
-    rw (x, y, z)
 
 pub four : (s s′ : List ℕ) (i a b c d : ℕ) → i + 4 ≤ length s → s′ ≡ sets s i (a ∷ b ∷ c ∷ d ∷ []) → Four s s′ i a b c d
 four s s′ i a b c d h e =

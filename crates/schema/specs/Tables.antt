@@ -23,7 +23,8 @@ use Rattle.schema.specs.Layout.{numbers, tableStart, columnStart, column
 use Rattle.schema.specs.Records.{Position, here, names, tableHere, tableSaid, TableEnds, TableLine}
 use Rattle.text.specs.Answers.{wrongAt, limitAt, bind-ok, bind-no, then-ok, then-no, within-wrong, within-limit, within-ok, prefixed, give-first}
 use Rattle.schema.specs.Search.{columns-length}
-use Rattle.schema.specs.Store.{Kept, kept-part, kept-on, Four, four, four-before, four-behind, set-before, set-behind, columns-kept, Ranges, names-kept, ranges-kept, tables-kept}
+use Rattle.numbers.specs.Kept.{Kept, kept-part, kept-on}
+use Rattle.schema.specs.Store.{Four, four, four-before, four-behind, set-before, set-behind, columns-kept, Ranges, names-kept, ranges-kept, tables-kept}
 use Rattle.schema.specs.Columns.{columns, ColumnReady, line-position}
 use Rattle.schema.specs.ColumnRuns.{columnsOf, ColumnsMove, turnsAt, ColumnsRead}
 use Rattle.schema.specs.declared.record.TableRecord.{TableRecord}

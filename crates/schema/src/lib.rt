@@ -10,6 +10,7 @@ ghost use Rattle.rules.specs.Places.{bytesAt, wordAt};
 ghost use Rattle.rules.specs.Schema.{getTable, columnAt, defaultAt};
 ghost use Rattle.schema.specs.Layout.{defaultOf, tableAt, catalogAt};
 ghost use Rattle.schema.specs.Search.{foundOf, foundTable, startOf, nameAt};
+use numbers::number;
 
 // How many numbers a catalog takes: how many tables, 32 tables of five numbers, 2,048 columns of eight.
 pub const NUMBERS: usize = 16545;
@@ -41,13 +42,6 @@ pub struct Default {
     pub kind: u32,
     pub first: u32,
     pub second: u32,
-}
-
-// The number at i, and 0 past the end.
-fn number(tables: &[u32], i: usize) -> u32
-    ensures { λ r. ⌜ r ≡ getD (now (tables .entry)) i 0 ⌝ }
-{
-    if i < tables.len() { tables[i] } else { 0 }
 }
 
 // The table of a name, which is the n bytes at an address.

@@ -23,6 +23,7 @@ use crate::record::TableRecord;
 use crate::record::column_record;
 use crate::record::default_record;
 use crate::record::table_record;
+use numbers::put_four;
 
 // Most tables a catalog.
 const MOST_TABLES: u32 = 32;
@@ -50,17 +51,6 @@ enum Run {
     Done(usize, u32, u32),
     Wrong(u32),
     Limit(u32),
-}
-
-// Four numbers from at on.
-fn put_four(tables: &mut [u32], at: usize, a: u32, b: u32, c: u32, d: u32)
-    requires { ⌜ at + 4 ≤ length (now tables) ⌝ }
-    ensures { λ _. ⌜ now (tables .exit) ≡ sets (now (tables .entry)) at (a ∷ b ∷ c ∷ d ∷ []) ⌝ }
-{
-    tables[at] = a;
-    tables[at + 1] = b;
-    tables[at + 2] = c;
-    tables[at + 3] = d;
 }
 
 // The column that stands at a position, the n-th of its table; the table's first is `first` of all.

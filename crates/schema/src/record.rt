@@ -14,8 +14,8 @@ ghost use Rattle.text.specs.Words.{nth};
 ghost use Rattle.schema.specs.Records.{Position, here, names, defaultSaid, ColumnLine, TableLine};
 use crate::TABLE_SIZE;
 use crate::TABLES;
-use crate::number;
 use literal::Bits;
+use numbers::number;
 use text::Number;
 
 // A column's record: the name's address and length, the type, 1 if it is nullable, and the position behind the line.

@@ -20,10 +20,11 @@ use Rattle.ast.specs.Reading.{here, Position, Took, Given, Rows, Below}
 use Rattle.entries.specs.Entries.{EntryHead, Entry, keywordOf, mostOf, fieldsOf, nameOf, entries}
 use Rattle.sections.specs.Layout.{startOf, numbers, entryAt}
 use Rattle.entries.specs.Heads.{lastName, numbersOf, Entered, Says}
+use Rattle.numbers.specs.Kept.{Kept}
 use Rattle.ast.specs.Rows.{below-sets, rows-kept, rows-back}
 use Rattle.ast.specs.Times.{times-count}
 use Rattle.sections.specs.Kinds.{entry-within, keyword-inside}
-use Rattle.sections.specs.Store.{Kept, Stored, stored-sets, stored-kept, entryNumbers, entry-twelve, entry-back}
+use Rattle.sections.specs.Store.{Stored, stored-sets, stored-kept, entryNumbers, entry-twelve, entry-back}
 use Rattle.entries.specs.declared.Head.{Head}
 use Rattle.ast.specs.declared.reading.Read as Rd
 use Rattle.ast.specs.declared.reading.Read.the-variants as R

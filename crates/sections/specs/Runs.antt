@@ -19,8 +19,9 @@ use Rattle.sections.specs.Layout.{startOf, numbers, entriesAt, sectionAt
 use Rattle.entries.specs.Heads.{lastName}
 use Rattle.sections.specs.Contracts.{endOf, SectionRead}
 use Rattle.sections.specs.Kinds.{end-within, turns-once, turns-more, turns-some}
+use Rattle.numbers.specs.Kept.{Kept, kept-part, kept-on, kept-set}
 use Rattle.ast.specs.Rows.{below-refl, below-trans, below-less, below-set}
-use Rattle.sections.specs.Store.{Kept, kept-part, kept-on, kept-below, kept-set, entries-more}
+use Rattle.sections.specs.Store.{kept-below, entries-more}
 use Rattle.sections.specs.OneEntry.{entryStart, EntryReady, EntryTook, EntryRead}
 use Rattle.ast.specs.declared.reading.Read.the-variants as R
 use Rattle.sections.specs.declared.Step.{Step}

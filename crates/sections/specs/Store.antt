@@ -10,31 +10,19 @@ use lib.Seq.{sets, getD-set-same, getD-set-other}
 use Rattle.rules.specs.Lists.{Bytes}
 use Rattle.rules.specs.Lines.{Word}
 use Rattle.rules.specs.Ast.{Exprs}
+use Rattle.numbers.specs.Kept.{Kept}
 use Rattle.ast.specs.Table.{argumentsAt, treeAt}
 use Rattle.ast.specs.Names.{nameAt, nameNumbers, NameFits, names-back}
 use Rattle.ast.specs.Reading.{Below}
 use Rattle.ast.specs.Stores.{sets-append}
 use Rattle.entries.specs.Entries.{EntryHead}
-use Rattle.sections.specs.Layout.{headAt, entryAt, entriesAt}
 use Rattle.entries.specs.Heads.{headNumbers}
+use Rattle.sections.specs.Layout.{headAt, entryAt, entriesAt}
 
 -- NUMBERS THAT ARE AS THEY WERE
--- the numbers from a on and before b
-pub record Kept (a b : ℕ) (s s′ : List ℕ) : Type 0 where
-  pub same : (k : ℕ) → a ≤ k → k < b → getD s′ k 0 ≡ getD s k 0
-
-pub kept-part : {a b : ℕ} {s s′ : List ℕ} (a′ b′ : ℕ) → Kept a b s s′ → a ≤ a′ → b′ ≤ b → Kept a′ b′ s s′
-kept-part a′ b′ h l m = record { same = λ k x y. h .same k (omega arith) (omega arith) }
-
-pub kept-on : {a b : ℕ} {s s′ s″ : List ℕ} → Kept a b s s′ → Kept a b s′ s″ → Kept a b s s″
-kept-on h g = record { same = λ k x y. g .same k x y ∙ h .same k x y }
-
 pub kept-below : {n : ℕ} {s s′ : List ℕ} (a b : ℕ) → Below n s s′ → b ≤ n → Kept a b s s′
 unfolding Below
 kept-below a b h l = record { same = λ k x y. h k (omega arith) }
-
-pub kept-set : (s : List ℕ) (i v a b : ℕ) → i < a → Kept a b s (set s i v)
-kept-set s i v a b l = record { same = λ k x y. getD-set-other s i k v 0 (λ e. omega (arith, e)) }
 
 -- STORES
 sets-before : (vs s : List ℕ) (i j : ℕ) → j < i → getD (sets s i vs) j 0 ≡ getD s j 0
@@ -56,13 +44,6 @@ sets-three s s₁ s₂ s₃ i xs ys zs m n e₁ e₂ e₃ =
     let x : sets (sets (sets s i xs) (i + 4) ys) (i + 4 + 4) zs ≡ sets (sets s i xs) (i + 4) (ys ++ zs) = (rw n at (sym (sets-append ys zs (sets s i xs) (i + 4)))) in
     let y : sets (sets s i xs) (i + 4) (ys ++ zs) ≡ sets s i (xs ++ (ys ++ zs)) = (rw m at (sym (sets-append xs (ys ++ zs) s i))) in
     e₃ ∙ rw (e₂, e₁, a) (x ∙ y)
-
-pub four-sets : (s : List ℕ) (i a b c d : ℕ) → sets s i (a ∷ b ∷ c ∷ d ∷ []) ≡ set (set (set (set s i a) (i + 1) b) (i + 2) c) (i + 3) d
-four-sets s i a b c d =
-    let x : i + 1 ≡ suc i = omega arith in
-    let y : i + 2 ≡ suc (suc i) = omega arith in
-    let z : i + 3 ≡ suc (suc (suc i)) = omega arith in
-    rw (x, y, z)
 
 -- these numbers stand from i on
 pub record Stored (s : List ℕ) (i : ℕ) (vs : List ℕ) : Type 0 where

@@ -14,6 +14,7 @@ use ast::reading::Read;
 use ast::reading::read_expressions;
 use entries::Head;
 use entries::entry_head;
+use numbers::put_four;
 
 // Where the sections start in the parts.
 const STARTS: [usize; 12] = [8, 777, 790, 1559, 1572, 2341, 2354, 8, 21, 790, 8, 8];
@@ -76,17 +77,6 @@ fn entry_start(kind: u32, n: u32) -> usize
 {
     let start = start_of(kind);
     start + 1 + ENTRY_SIZE * (n as usize)
-}
-
-// Four numbers from i on.
-fn put_four(parts: &mut [u32], i: usize, a: u32, b: u32, c: u32, d: u32)
-    requires { ⌜ i + 4 ≤ length (now parts) ⌝ }
-    ensures { λ _. ⌜ now (parts .exit) ≡ sets (now (parts .entry)) i (a ∷ b ∷ c ∷ d ∷ []) ⌝ }
-{
-    parts[i] = a;
-    parts[i + 1] = b;
-    parts[i + 2] = c;
-    parts[i + 3] = d;
 }
 
 // The numbers of an entry, from i on: its line, the row of its first expression, and what its record says.

@@ -2,8 +2,8 @@
 use mathlib.Core.Path.{sym}
 use lib.ListN.{List·getD-eq-default}
 use borrow.Author.Needs.{needs}
-use Rattle.schema.proofs.number.Statement.{statement}
-use Rattle.schema.proofs.number.Tie as tie
+use Rattle.numbers.proofs.number.Statement.{statement}
+use Rattle.numbers.proofs.number.Tie as tie
 
 mul-result : tie.Need-mul-result
 mul-result c = search needs
@@ -15,7 +15,7 @@ returns : tie.Need-returns
 returns c = search needs
 
 returns-2 : tie.Need-returns-2
-returns-2 c = sym (List·getD-eq-default (c .before .args .tables .now) 0 (c .if1 .left))
+returns-2 c = sym (List·getD-eq-default (c .before .args .s .now) 0 (c .if1 .left))
 
 pub number-spec : {M : Type 1} → statement M
 number-spec = tie.close (tie.spec mul-result shared-slice-read-result returns returns-2)

@@ -1,0 +1,65 @@
+-- `put_four`: four stores are one.
+use native.Mathlib.Omega.{arith}
+use mathlib.Core.Path.{sym}
+use lib.ListN.{length-set}
+use Rattle.numbers.specs.Kept.{four-sets}
+use borrow.Author.Needs.{needs}
+use Rattle.numbers.proofs.put_four.Statement.{statement}
+use Rattle.numbers.proofs.put_four.Tie as tie
+
+mul-s : tie.Need-mul-s
+mul-s c = search needs
+
+slice-write-s : tie.Need-slice-write-s
+slice-write-s c = search needs
+
+add-s : tie.Need-add-s
+add-s c = search needs
+
+mul-s-2 : tie.Need-mul-s-2
+mul-s-2 c = search needs
+
+slice-write-s-2 : tie.Need-slice-write-s-2
+slice-write-s-2 c = simp length-set (omega (arith, c .pre))
+
+add-s-2 : tie.Need-add-s-2
+add-s-2 c = search needs
+
+mul-s-3 : tie.Need-mul-s-3
+mul-s-3 c = search needs
+
+slice-write-s-3 : tie.Need-slice-write-s-3
+slice-write-s-3 c = simp length-set (omega (arith, c .pre))
+
+add-s-3 : tie.Need-add-s-3
+add-s-3 c = search needs
+
+mul-s-4 : tie.Need-mul-s-4
+mul-s-4 c = search needs
+
+slice-write-s-4 : tie.Need-slice-write-s-4
+slice-write-s-4 c = simp length-set (omega (arith, c .pre))
+
+same-length : tie.Need-same-length
+same-length c = search needs
+
+returns : tie.Need-returns
+returns c = sym (four-sets (c .args .s .now) (c .args .i) (c .args .a) (c .args .b) (c .args .c) (c .args .d))
+
+pub put-four-spec : {M : Type 1} → statement M
+put-four-spec =
+    tie.close
+    (tie.spec
+    mul-s
+    slice-write-s
+    add-s
+    mul-s-2
+    slice-write-s-2
+    add-s-2
+    mul-s-3
+    slice-write-s-3
+    add-s-3
+    mul-s-4
+    slice-write-s-4
+    same-length
+    returns)
