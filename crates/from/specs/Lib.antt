@@ -1,0 +1,15 @@
+pub mod Layout
+pub mod Contracts
+pub mod Records
+pub mod Fields
+pub mod Lines
+pub mod Rules
+pub mod Trees
+pub mod Rows
+pub mod Predicates
+pub mod Stack
+pub mod Said
+pub mod Loop
+pub mod Closed
+pub mod Turns
+pub mod Runs

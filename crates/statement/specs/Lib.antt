@@ -1,0 +1,15 @@
+pub mod Layout
+pub mod Bodies
+pub mod Mapped
+pub mod RulesRuns
+pub mod RulesSections
+pub mod RulesBodies
+pub mod Stays
+pub mod Answers
+pub mod FirstRecord
+pub mod Clauses
+pub mod BodyReads
+pub mod InsertReads
+pub mod SelectReads
+pub mod EndRecord
+pub mod Whole
