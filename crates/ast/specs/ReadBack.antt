@@ -16,6 +16,7 @@ use Rattle.rules.specs.Equality.{unaryCode, plainCode, binaryCode}
 use Rattle.rules.specs.Ast.{Unary, not, fact, ident, neg, sqrt, Plain, and, or, eq, gt, lt, add, div, pow, mul, rem, sub, like, Binary, plain, ge, le, ne}
 use Rattle.rules.specs.Ast.{Expr, star, column, literal, call, unary, binary, is, Exprs, nil, cons, size, sizeAll}
 use Rattle.rules.specs.ReadExpression.{Head, starHead, isHead, columnHead, valueHead, callHead, unaryHead, binaryHead}
+use Rattle.numbers.specs.Kept.{sets-before}
 use Rattle.literal.specs.Bits.{signed}
 use Rattle.ast.specs.Table.{at, rowsAt, coded, unaryAt, binaryAt, integerAt, isOne, valueAt, argumentsAt, treeBy, treeAt}
 use Rattle.ast.specs.Encode.{integerBits, valueNumbers, headNumbers, isNumbers, rowOf, countOf, encode, encodeAll, encode-length, three}
@@ -35,18 +36,13 @@ stand-append t (x ∷ xs) ys i h =
     let e : i + length (x ∷ xs) ≡ suc i + length xs = omega arith in
     ((h .0, r .0), rw e (r .1))
 
--- stores further on change nothing
-getD-sets : (vs t : List ℕ) (i j : ℕ) → i < j → getD (sets t j vs) i 0 ≡ getD t i 0
-getD-sets [] t i j h = refl
-getD-sets (v ∷ vs) t i j h = getD-sets vs (set t j v) i (suc j) (omega arith) ∙ getD-set-other t j i v 0 (λ e. omega (arith, e))
-
 -- what was stored stands
 pub stand-sets : (vs t : List ℕ) (i : ℕ) → i + length vs ≤ length t → Stand (sets t i vs) i vs
 unfolding Stand
 stand-sets [] t i h = tt
 stand-sets (v ∷ vs) t i h =
     let l : suc i + length vs ≤ length (set t i v) = rw (length-sets t i (v ∷ [])) (omega arith) in
-    (getD-sets vs (set t i v) i (suc i) (omega arith) ∙ getD-set-same t i v 0 (omega arith), stand-sets vs (set t i v) (suc i) l)
+    (sets-before vs (set t i v) (suc i) i (omega arith) ∙ getD-set-same t i v 0 (omega arith), stand-sets vs (set t i v) (suc i) l)
 
 -- A ROW
 -- the eight numbers of a row, and what stands behind it

@@ -15,6 +15,7 @@ ghost use Rattle.text.specs.Reading.{place};
 ghost use Rattle.ast.specs.Says.{numbersOf, Says, Speaks, Inside, literalBy};
 use literal::Bits;
 use text::Number;
+use text::places::address;
 
 // The kinds of rows; 0 stands for a wrong record.
 pub const STAR: u32 = 1;
@@ -159,14 +160,6 @@ fn operator(t: &[u8], a: usize, n: usize) -> Row
         2,
     ];
     plain_row(kinds[k], codes[k], operands[k])
-}
-
-// The address of a position in the statement's text.
-fn address(a: usize) -> u32
-    requires { ⌜ a ≤ 65536 ⌝ }
-    ensures { λ r. ⌜ r ≡ mostBytes + a ⌝ }
-{
-    text::MOST_BYTES + a as u32
 }
 
 // A column's name.

@@ -18,6 +18,7 @@ ghost use Rattle.entries.specs.ColumnWords.{wordsHead};
 use text::Line;
 use text::Number;
 use text::Order;
+use text::places::address;
 
 // The states of a record: none of the kind stands there, its fields do not fit, it says numbers.
 const MISSING: u32 = 0;
@@ -64,14 +65,6 @@ fn wrong() -> Head
     ensures { λ r. ⌜ r .state ≡ 1 ⌝ }
 {
     plain(WRONG, 0, 0)
-}
-
-// The address of a position in the statement's text.
-fn address(a: usize) -> u32
-    requires { ⌜ a ≤ 65536 ⌝ }
-    ensures { λ r. ⌜ r ≡ mostBytes + a ⌝ }
-{
-    text::MOST_BYTES + a as u32
 }
 
 // A record without fields, and so many expressions.

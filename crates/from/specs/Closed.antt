@@ -18,7 +18,8 @@ use Rattle.ast.specs.Reading.{here, Below, Given, Took}
 use Rattle.from.specs.Layout.{treesBefore}
 use Rattle.from.specs.Rules.{Frame, first, second, restOf, rest-right, rest-close, rest-close-no, rest-end}
 use Rattle.from.specs.Trees.{lineIn, kindIn, onIn, Closed, TreeTook}
-use Rattle.from.specs.Rows.{below-trans, below-less, join-row}
+use Rattle.ast.specs.Rows.{below-trans, below-less}
+use Rattle.from.specs.Rows.{join-row}
 use Rattle.from.specs.Stack.{codeOf, Holds, lefts, holds-push, line-in, kind-in, on-in}
 use Rattle.from.specs.Loop.{held, TreeLoop}
 use Rattle.ast.specs.declared.reading.Read as Rd
@@ -139,7 +140,7 @@ module _ {t : Bytes} {p₀ l₀ c₀ k₀ n₀ : ℕ} {cells₀ rows₀ : List �
             where
               -- what was written below row c is as it was
               below : (cells″ : List ℕ) → Below (8 * c′) cells′ cells″ → Below (8 * c) cells cells″
-              below cells″ w = below-trans (8 * c) cells cells′ cells″ (took .holds .cells-kept) (below-less (8 * c) (8 * c′) cells′ cells″ (omega (arith, took .more)) w)
+              below cells″ w = below-trans (8 * c) cells cells′ cells″ (took .holds .cells-kept) (below-less (8 * c′) (8 * c) cells′ cells″ (omega (arith, took .more)) w)
 
               go : (fs : List Frame) → restOf true (h .fuel) fs (h .tree) (here t p l c k) ≡ turns fromTree (here t p₀ l₀ c₀ k₀) → d ≡ length fs → Holds stack fs
                   → n + length (held true (h .tree) (lefts fs)) + 2 * k₀ ≡ n₀ + 2 * k
@@ -172,7 +173,7 @@ module _ {t : Bytes} {p₀ l₀ c₀ k₀ n₀ : ℕ} {cells₀ rows₀ : List �
                     count = omega (arith, count);
                     stand = λ cells″ u b. rw (add-one n, ← el) (join-row rows rows′ n (kindIn v) (lineIn v) (w .number) 0 0 0 0 (omega (arith, close-room, h .rows-room)) (w .written) b t cells″ j a (h .tree)
                         (lefts fs ++ treesBefore b t cells″ rows₀ n₀) (took .value) ek (stand cells″ (below cells″ u) b) (w .stands cells″ u b));
-                    cells-kept = below-trans (8 * c₀) cells₀ cells cells′ (h .cells-kept) (below-less (8 * c₀) (8 * c) cells cells′ (omega (arith, h .more)) (w .cells-kept));
+                    cells-kept = below-trans (8 * c₀) cells₀ cells cells′ (h .cells-kept) (below-less (8 * c) (8 * c₀) cells cells′ (omega (arith, h .more)) (w .cells-kept));
                     stack-room = h .stack-room;
                     cells-room = cl ∙ h .cells-room;
                     rows-room = rl ∙ h .rows-room;

@@ -25,7 +25,7 @@ use Rattle.ast.specs.Reading.{here}
 use Rattle.ast.specs.Names.{flagNumber}
 use Rattle.ast.specs.Names.{nameNumbers, NameFits}
 use Rattle.from.specs.Records.{joinNumber, tableFields, joinFields, fromNumbers, FromFits, numbersOf, FromSays}
-use Rattle.from.specs.declared.FromRecord.{FromRecord}
+use Rattle.from.specs.declared.record.FromRecord.{FromRecord}
 
 pub says-as : {t : Bytes} {e : ℕ} {h : Option FromHead} {r : FromRecord} (g : Option FromHead) → g ≡ h → FromSays t e h r → FromSays t e g r
 says-as g e s = rw e s
@@ -94,10 +94,10 @@ unfolding predicates keys wordsOf push bytes
 predicate-words = refl
 
 -- the k-th join, and whether a predicate follows by the k-th word
-pub record JoinAt (k : ℕ) : Type 0 where
-  pub join : Join
-  pub is : nth joins k ≡ some join
-  pub number : joinNumber join ≡ k + 2
+record JoinAt (k : ℕ) : Type 0 where
+  join : Join
+  is : nth joins k ≡ some join
+  number : joinNumber join ≡ k + 2
 
 join-at : (k : ℕ) → k < 4 → JoinAt k
 unfolding joins nth joinNumber
@@ -107,10 +107,10 @@ join-at (suc (suc zero)) h = record { join = left; is = refl; number = refl }
 join-at (suc (suc (suc zero))) h = record { join = right; is = refl; number = refl }
 join-at (suc (suc (suc (suc k)))) h = absurd (omega arith)
 
-pub record FlagAt (k : ℕ) : Type 0 where
-  pub on : Bool
-  pub is : nth predicates k ≡ some on
-  pub number : flagNumber on ≡ 1 - k
+record FlagAt (k : ℕ) : Type 0 where
+  on : Bool
+  is : nth predicates k ≡ some on
+  number : flagNumber on ≡ 1 - k
 
 flag-at : (k : ℕ) → k < 2 → FlagAt k
 unfolding predicates nth flagNumber

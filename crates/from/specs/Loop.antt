@@ -24,10 +24,11 @@ use Rattle.from.specs.Records.{FromSays}
 use Rattle.from.specs.Lines.{record-moves, join-moves}
 use Rattle.from.specs.Rules.{Frame, first, restOf, rest-begin, rest-no, rest-table, rest-join, here-wrong, here-limit, here-table, here-join}
 use Rattle.from.specs.Trees.{TreeReady}
-use Rattle.from.specs.Rows.{below-refl, table-row}
+use Rattle.ast.specs.Rows.{below-refl}
+use Rattle.from.specs.Rows.{table-row}
 use Rattle.from.specs.Stack.{codeOf, Holds, lefts, join-small, flag-small, holds-push}
 use Rattle.from.specs.Said.{TableSaid, JoinSaid, said-wrong, said-table, said-join}
-use Rattle.from.specs.declared.FromRecord.{FromRecord}
+use Rattle.from.specs.declared.record.FromRecord.{FromRecord}
 
 -- the tree that was read, before the left sides of the open joins
 unfoldable pub held : Bool → From → List From → List From

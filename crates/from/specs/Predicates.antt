@@ -18,10 +18,9 @@ use Rattle.text.specs.Answers.{wrongAt, limitAt}
 use Rattle.ast.specs.Table.{isOne}
 use Rattle.ast.specs.Reading.{here, Position, Given, Took, Rows}
 use Rattle.from.specs.Layout.{predicateAt}
-use Rattle.ast.specs.Rows.{rows-kept, tree-back}
+use Rattle.ast.specs.Rows.{below-refl, rows-kept, tree-back}
 use Rattle.from.specs.Rules.{single, single-no, without}
 use Rattle.from.specs.Trees.{lineIn, kindIn, onIn, Closed}
-use Rattle.from.specs.Rows.{below-refl}
 use Rattle.ast.specs.declared.reading.Read as Rd
 use Rattle.ast.specs.declared.reading.Read.the-variants as R
 

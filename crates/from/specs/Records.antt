@@ -13,7 +13,7 @@ use Rattle.rules.specs.ReadStatement.{FromHead, tableHead, joinHead, joins, pre
 use Rattle.ast.specs.Fits.{WordFits}
 use Rattle.ast.specs.Names.{flagNumber}
 use Rattle.ast.specs.Names.{nameNumbers, NameFits}
-use Rattle.from.specs.declared.FromRecord.{FromRecord}
+use Rattle.from.specs.declared.record.FromRecord.{FromRecord}
 
 -- the kind of a join's row
 unfoldable pub joinNumber : Join → ℕ

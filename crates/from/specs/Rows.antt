@@ -10,37 +10,14 @@ use lib.Seq.{sets, getD-set-same, getD-set-other}
 use Rattle.rules.specs.Lists.{Bytes}
 use Rattle.rules.specs.Places.{wordAt}
 use Rattle.rules.specs.Ast.{Expr, Join, cross, inner, left, right, From, table, join}
+use Rattle.numbers.specs.Kept.{sets-before, sets-at}
 use Rattle.ast.specs.Table.{at, coded, treeAt}
 use Rattle.ast.specs.Reading.{Below}
 use Rattle.ast.specs.Names.{nameAt}
 use Rattle.from.specs.Layout.{predicateAt, joined, fromStep, treesBefore}
 use Rattle.from.specs.Records.{joinNumber}
 
--- NUMBERS THAT ARE KEPT
-pub below-refl : (n : ℕ) (s : List ℕ) → Below n s s
-unfolding Below
-below-refl n s i h = refl
-
-pub below-trans : (n : ℕ) (s s′ s″ : List ℕ) → Below n s s′ → Below n s′ s″ → Below n s s″
-unfolding Below
-below-trans n s s′ s″ h g i l = g i l ∙ h i l
-
-pub below-less : (m n : ℕ) (s s′ : List ℕ) → m ≤ n → Below n s s′ → Below m s s′
-unfolding Below
-below-less m n s s′ l h i k = h i (omega arith)
-
 -- STORES
-sets-below : (vs l : List ℕ) (i j : ℕ) → j < i → getD (sets l i vs) j 0 ≡ getD l j 0
-sets-below [] l i j h = refl
-sets-below (v ∷ vs) l i j h = sets-below vs (set l i v) (suc i) j (omega arith) ∙ getD-set-other l i j v 0 (λ e. omega (arith, e))
-
-sets-in : (vs l : List ℕ) (i k : ℕ) → k < length vs → i + length vs ≤ length l → getD (sets l i vs) (i + k) 0 ≡ getD vs k 0
-sets-in [] l i k h g = absurd (omega arith)
-sets-in (v ∷ vs) l i zero h g = rw (add-zero i) (sets-below vs (set l i v) (suc i) i (omega arith) ∙ getD-set-same l i v 0 (omega arith))
-sets-in (v ∷ vs) l i (suc k) h g =
-    let e : i + suc k ≡ suc i + k = omega arith in
-    rw e (sets-in vs (set l i v) (suc i) k (omega arith) (omega (arith, length-set l i v)))
-
 pub seven-sets : (s : List ℕ) (i a b c d e f g : ℕ) → sets s i (a ∷ b ∷ c ∷ d ∷ e ∷ f ∷ g ∷ []) ≡ set (set (set (set (set (set (set s i a) (i + 1) b) (i + 2) c) (i + 3) d) (i + 4) e) (i + 5) f) (i + 6) g
 seven-sets s i a b c d e f g =
     let i₁ : i + 1 ≡ suc i = omega arith in
@@ -106,11 +83,11 @@ module _ (b q : Bytes) (cells rows rows′ : List ℕ) where
 module _ (rows rows′ : List ℕ) (n k l x a m c d : ℕ) (room : 8 * n + 8 ≤ length rows) (e : rows′ ≡ sets rows (8 * n) (k ∷ l ∷ x ∷ a ∷ m ∷ c ∷ d ∷ [])) where
   numbers : (i : ℕ) → i < 7 → at rows′ n i ≡ getD (k ∷ l ∷ x ∷ a ∷ m ∷ c ∷ d ∷ []) i 0
   unfolding at
-  numbers i h = rw e (sets-in (k ∷ l ∷ x ∷ a ∷ m ∷ c ∷ d ∷ []) rows (8 * n) i (omega arith) (omega arith))
+  numbers i h = rw e (sets-at (k ∷ l ∷ x ∷ a ∷ m ∷ c ∷ d ∷ []) rows (8 * n) i (omega arith) (omega arith))
 
   earlier : Below (8 * n) rows rows′
   unfolding Below
-  earlier i h = rw e (sets-below (k ∷ l ∷ x ∷ a ∷ m ∷ c ∷ d ∷ []) rows (8 * n) i h)
+  earlier i h = rw e (sets-before (k ∷ l ∷ x ∷ a ∷ m ∷ c ∷ d ∷ []) rows (8 * n) i h)
 
   module _ (b q : Bytes) (cells : List ℕ) where
     row-is : treesBefore b q cells rows′ (suc n) ≡ stepBy b q cells k l x a m c d (treesBefore b q cells rows n)

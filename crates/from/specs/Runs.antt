@@ -21,10 +21,10 @@ use Rattle.from.specs.Layout.{treesBefore, fromsAt}
 use Rattle.from.specs.Contracts.{FromsRead}
 use Rattle.from.specs.Records.{FromSays}
 use Rattle.from.specs.Trees.{TreeTook, TreeReady, TreeRead}
-use Rattle.from.specs.Rows.{below-refl, below-trans, below-less}
+use Rattle.ast.specs.Rows.{below-refl, below-trans, below-less}
 use Rattle.from.specs.Loop.{loop-begin, loop-limit, loop-table}
 use Rattle.from.specs.Closed.{loop-end}
-use Rattle.from.specs.declared.FromRecord.{FromRecord}
+use Rattle.from.specs.declared.record.FromRecord.{FromRecord}
 use Rattle.from.specs.declared.Tree as Tr
 use Rattle.from.specs.declared.Tree.the-variants as T
 use Rattle.from.specs.declared.Froms.the-variants as F
@@ -155,8 +155,8 @@ module _ {t : Bytes} {p₀ l₀ c₀ : ℕ} {cells₀ : List ℕ} {p l c k n : �
         };
         few = omega (arith, took .count, took .tables, h .ready .count);
         stand = λ cells″ y b. took .stand cells″ y b ∙ ap (λ xs. took .value ∷ xs) (h .stand cells″ (below cells″ y) b);
-        cells-kept = below-trans (8 * c₀) cells₀ cells cells′ (h .cells-kept) (below-less (8 * c₀) (8 * c) cells cells′ (omega (arith, h .more)) (took .cells-kept));
+        cells-kept = below-trans (8 * c₀) cells₀ cells cells′ (h .cells-kept) (below-less (8 * c) (8 * c₀) cells cells′ (omega (arith, h .more)) (took .cells-kept));
       }
         where
           below : (cells″ : List ℕ) → Below (8 * c′) cells′ cells″ → Below (8 * c) cells cells″
-          below cells″ y = below-trans (8 * c) cells cells′ cells″ (took .cells-kept) (below-less (8 * c) (8 * c′) cells′ cells″ (omega (arith, took .more)) y)
+          below cells″ y = below-trans (8 * c) cells cells′ cells″ (took .cells-kept) (below-less (8 * c′) (8 * c) cells′ cells″ (omega (arith, took .more)) y)

@@ -17,7 +17,7 @@ use Rattle.ast.specs.Names.{nameNumbers, NameFits}
 use Rattle.ast.specs.Names.{nameAt}
 use Rattle.from.specs.Records.{joinNumber, fromNumbers, FromFits, numbersOf, FromSays}
 use Rattle.from.specs.Stack.{join-small}
-use Rattle.from.specs.declared.FromRecord.{FromRecord}
+use Rattle.from.specs.declared.record.FromRecord.{FromRecord}
 
 -- a table, and its names read back from their places
 pub record TableSaid (t : Bytes) (h : Option FromHead) (r : FromRecord) : Type 0 where

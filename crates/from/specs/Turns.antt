@@ -29,14 +29,15 @@ pub record Start : Type 0 where
 abbrev pub Reads : Bytes → Start → Stand → List ℕ → List ℕ → List ℕ → Type 0
 Reads t g s stack cells rows = TreeLoop t (g .p) (g .l) (g .c) (g .k) (g .n) (g .cells) (g .rows) (s .done) (s .p) (s .l) (s .c) (s .k) (s .n) (s .d) stack cells rows
 
-pub record Reading (t : Bytes) (s : Stand) (stack cells rows : List ℕ) : Type 0 where
+-- a tree was begun somewhere, and reading it has come to s
+pub record TreeBegun (t : Bytes) (s : Stand) (stack cells rows : List ℕ) : Type 0 where
   pub start : Start
   pub reads : Reads t start s stack cells rows
 
 -- the same, whatever the expression rows are
-pub record ReadingFrom (t : Bytes) (s : Stand) (stack rows : List ℕ) : Type 0 where
+pub record RowsBegun (t : Bytes) (s : Stand) (stack rows : List ℕ) : Type 0 where
   pub cells : List ℕ
-  pub reading : Reading t s stack cells rows
+  pub reading : TreeBegun t s stack cells rows
 
 pub record Turned (t : Bytes) (g : Start) (s s′ : Stand) (stack′ cells′ rows′ : List ℕ) : Type 0 where
   pub reads : Reads t g s′ stack′ cells′ rows′

@@ -1,25 +1,22 @@
 // FROM: the trees of tables and joins, read by a loop over an explicit stack of the joins that are open.
+mod record;
+
 ghost use mathlib.Core.Path.{_≡_};
 ghost use mathlib.Core.Bool.{true, false};
 ghost use mathlib.Core.List.{List, [], _∷_};
-ghost use mathlib.Core.Option.{none};
 ghost use Prim.Native.Nat.{ℕ, _+_, _*_, _≤_};
 ghost use lib.ListN.{length};
 ghost use lib.Seq.{sets};
-ghost use Rattle.rules.specs.Limits.{mostBytes};
-ghost use Rattle.rules.specs.Lists.{same, any};
-ghost use Rattle.rules.specs.Lines.{bytes};
-ghost use Rattle.rules.specs.Reader.{key, lineHere, oneOf, optional};
+ghost use Rattle.rules.specs.Reader.{optional};
 ghost use Rattle.rules.specs.ReadExpression.{expression};
-ghost use Rattle.rules.specs.ReadStatement.{fromHeads};
-ghost use Rattle.text.specs.Lines.{field, lineEnd};
-ghost use Rattle.ast.specs.Says.{Inside};
 ghost use Rattle.ast.specs.Table.{isOne};
-ghost use Rattle.ast.specs.Reading.{here, Position, Given};
+ghost use Rattle.ast.specs.Reading.{Position, Given};
 ghost use Rattle.from.specs.Contracts.{FromsRead};
-ghost use Rattle.from.specs.Records.{tableFields, joinFields, FromSays};
 ghost use Rattle.from.specs.Trees.{onIn, Closed, TreeReady, TreeRead};
-ghost use Rattle.from.specs.Turns.{Reading, ReadingFrom, TurnFrom};
+ghost use Rattle.from.specs.Turns.{TreeBegun, RowsBegun, TurnFrom};
+use self::record::TABLE;
+use self::record::from_record;
+use self::record::from_stands;
 use ast::reading::Read;
 use ast::reading::read_expressions;
 
@@ -28,9 +25,6 @@ const MOST_TABLES: u32 = 16;
 
 // Most joins that are open at once: the record of each has at least thirteen bytes.
 const MOST_OPEN: usize = 5041;
-
-// The kind of a table's row; those of joins are 2 to 5, and 0 stands for a wrong record.
-const TABLE: u32 = 1;
 
 // What was read: the position behind it, its line, the expression rows and the FROM rows so far; or 2 or 3 at a line.
 pub enum Froms {
@@ -64,134 +58,6 @@ enum Turn {
     End,
     Wrong(u32),
     Limit(u32),
-}
-
-// A FROM record: its kind, whether a predicate follows a join (1), the table's address and length, the alias's (0 0 where there is none), and the position behind it.
-struct FromRecord {
-    kind: u32,
-    on: u32,
-    a: u32,
-    b: u32,
-    c: u32,
-    d: u32,
-    next: usize,
-}
-
-fn wrong_record(e: usize) -> FromRecord
-    ensures { λ r. ⌜ ((t : List ℕ) → FromSays t e none r) ⌝ }
-{
-    FromRecord {
-        kind: 0,
-        on: 0,
-        a: 0,
-        b: 0,
-        c: 0,
-        d: 0,
-        next: e,
-    }
-}
-
-// A table's name.
-fn table_record(t: &[u8], a: usize, n: usize, e: usize) -> FromRecord
-    requires { ⌜ Inside (now t) a n ⌝ }
-    ensures { λ r. ⌜ FromSays (now (t .entry)) e (tableFields (field mostBytes (now (t .entry)) a n ∷ [])) r ⌝ }
-{
-    if !text::is_name(n) {
-        return wrong_record(e);
-    }
-    FromRecord {
-        kind: TABLE,
-        on: 0,
-        a: text::MOST_BYTES + a as u32,
-        b: n as u32,
-        c: 0,
-        d: 0,
-        next: e,
-    }
-}
-
-// A table's name and its alias.
-fn alias_record(t: &[u8], a: usize, n: usize, b: usize, m: usize, e: usize) -> FromRecord
-    requires { ⌜ Inside (now t) a n ⌝ ∗ ⌜ Inside (now t) b m ⌝ }
-    ensures { λ r. ⌜ FromSays (now (t .entry)) e (tableFields (field mostBytes (now (t .entry)) a n ∷ field mostBytes (now (t .entry)) b m ∷ [])) r ⌝ }
-{
-    if !text::is_name(n) {
-        return wrong_record(e);
-    }
-    if !text::is_name(m) {
-        return wrong_record(e);
-    }
-    FromRecord {
-        kind: TABLE,
-        on: 0,
-        a: text::MOST_BYTES + a as u32,
-        b: n as u32,
-        c: text::MOST_BYTES + b as u32,
-        d: m as u32,
-        next: e,
-    }
-}
-
-// A join's two words.
-fn join_record(t: &[u8], a: usize, n: usize, b: usize, m: usize, e: usize) -> FromRecord
-    ensures { λ r. ⌜ FromSays (now (t .entry)) e (joinFields (field mostBytes (now (t .entry)) a n ∷ field mostBytes (now (t .entry)) b m ∷ [])) r ⌝ }
-{
-    let j = text::which(b"cross inner left right ", t, a, n);
-    if 4 <= j {
-        return wrong_record(e);
-    }
-    let o = text::which(b"on bare ", t, b, m);
-    if 2 <= o {
-        return wrong_record(e);
-    }
-    FromRecord {
-        kind: j as u32 + 2,
-        on: 1 - o as u32,
-        a: 0,
-        b: 0,
-        c: 0,
-        d: 0,
-        next: e,
-    }
-}
-
-// The FROM record at a position.
-fn from_record(t: &[u8], p: usize) -> FromRecord
-    requires { ⌜ (length (now t) ≤ 65536) × (p ≤ length (now t)) ⌝ }
-    ensures { λ r. ⌜ ((l c k : ℕ) → FromSays (now (t .entry)) (lineEnd (now (t .entry)) p) (oneOf fromHeads (lineHere (here (now (t .entry)) p l c k))) r) ⌝ }
-{
-    let f = text::fields(t, p);
-    let n = f.count;
-    let k = text::which(b"from join ", t, f.starts[0], f.lens[0]);
-    if k == 0 {
-        if n == 2 {
-            return table_record(t, f.starts[1], f.lens[1], f.next);
-        }
-        if n != 3 {
-            return wrong_record(f.next);
-        }
-        return alias_record(t, f.starts[1], f.lens[1], f.starts[2], f.lens[2], f.next);
-    }
-    if k != 1 {
-        return wrong_record(f.next);
-    }
-    if n != 3 {
-        return wrong_record(f.next);
-    }
-    join_record(t, f.starts[1], f.lens[1], f.starts[2], f.lens[2], f.next)
-}
-
-// Whether the record at a position is meant to be one of FROM.
-fn from_stands(t: &[u8], p: usize) -> bool
-    ensures { λ r. ⌜ ((l c k : ℕ) → r ≡ any (same (key (here (now (t .entry)) p l c k))) (bytes "from" ∷ bytes "join" ∷ [])) ⌝ }
-{
-    let f = text::fields(t, p);
-    let a = f.starts[0];
-    let n = f.lens[0];
-    if text::holds(t, a, n, b"from") {
-        return true;
-    }
-    text::holds(t, a, n, b"join")
 }
 
 // FROM row n.
@@ -253,7 +119,7 @@ fn close_join(
 
 // The record of a side that is to be read: a join more is open, or a table is read.
 fn next_side(t: &[u8], s: Stand, stack: &mut [u32], rows: &mut [u32]) -> Turn
-    requires { ⌜ ReadingFrom (now t) s (now stack) (now rows) ⌝ ∗ ⌜ s .done ≡ false ⌝ }
+    requires { ⌜ RowsBegun (now t) s (now stack) (now rows) ⌝ ∗ ⌜ s .done ≡ false ⌝ }
     ensures { λ r. ⌜ ((cells : List ℕ) → TurnFrom (now (t .entry)) s (now (stack .entry)) (now (stack .exit)) cells cells (now (rows .entry)) (now (rows .exit)) r) ⌝ }
 {
     let h = from_record(t, s.p);
@@ -290,7 +156,7 @@ fn next_side(t: &[u8], s: Stand, stack: &mut [u32], rows: &mut [u32]) -> Turn
 
 // Behind a side that was read: the right one follows, or the join is closed, or the tree has ended.
 fn end_side(t: &[u8], s: Stand, stack: &mut [u32], cells: &mut [u32], rows: &mut [u32]) -> Turn
-    requires { ⌜ Reading (now t) s (now stack) (now cells) (now rows) ⌝ ∗ ⌜ s .done ≡ true ⌝ }
+    requires { ⌜ TreeBegun (now t) s (now stack) (now cells) (now rows) ⌝ ∗ ⌜ s .done ≡ true ⌝ }
     ensures { λ r. ⌜ TurnFrom (now (t .entry)) s (now (stack .entry)) (now (stack .exit)) (now (cells .entry)) (now (cells .exit)) (now (rows .entry)) (now (rows .exit)) r ⌝ }
 {
     if s.d == 0 {
@@ -326,8 +192,9 @@ fn end_side(t: &[u8], s: Stand, stack: &mut [u32], cells: &mut [u32], rows: &mut
     }
 }
 
+// One record, or the end of a side.
 fn take_turn(t: &[u8], s: Stand, stack: &mut [u32], cells: &mut [u32], rows: &mut [u32]) -> Turn
-    requires { ⌜ Reading (now t) s (now stack) (now cells) (now rows) ⌝ }
+    requires { ⌜ TreeBegun (now t) s (now stack) (now cells) (now rows) ⌝ }
     ensures { λ r. ⌜ TurnFrom (now (t .entry)) s (now (stack .entry)) (now (stack .exit)) (now (cells .entry)) (now (cells .exit)) (now (rows .entry)) (now (rows .exit)) r ⌝ }
 {
     let done = s.done;

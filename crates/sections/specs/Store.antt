@@ -10,7 +10,7 @@ use lib.Seq.{sets, getD-set-same, getD-set-other}
 use Rattle.rules.specs.Lists.{Bytes}
 use Rattle.rules.specs.Lines.{Word}
 use Rattle.rules.specs.Ast.{Exprs}
-use Rattle.numbers.specs.Kept.{Kept}
+use Rattle.numbers.specs.Kept.{Kept, sets-at}
 use Rattle.ast.specs.Table.{argumentsAt, treeAt}
 use Rattle.ast.specs.Names.{nameAt, nameNumbers, NameFits, names-back}
 use Rattle.ast.specs.Reading.{Below}
@@ -25,17 +25,6 @@ unfolding Below
 kept-below a b h l = record { same = λ k x y. h k (omega arith) }
 
 -- STORES
-sets-before : (vs s : List ℕ) (i j : ℕ) → j < i → getD (sets s i vs) j 0 ≡ getD s j 0
-sets-before [] s i j h = refl
-sets-before (v ∷ vs) s i j h = sets-before vs (set s i v) (suc i) j (omega arith) ∙ getD-set-other s i j v 0 (λ e. omega (arith, e))
-
-sets-at : (vs s : List ℕ) (i j : ℕ) → i + length vs ≤ length s → j < length vs → getD (sets s i vs) (i + j) 0 ≡ getD vs j 0
-sets-at [] s i j h l = absurd (omega arith)
-sets-at (v ∷ vs) s i zero h l = rw (add-zero i) (sets-before vs (set s i v) (suc i) i (omega arith) ∙ getD-set-same s i v 0 (omega arith))
-sets-at (v ∷ vs) s i (suc j) h l =
-    let e : i + suc j ≡ suc i + j = omega arith in
-    rw e (sets-at vs (set s i v) (suc i) j (rw (length-set s i v) (omega arith)) (omega arith))
-
 -- three stores of four numbers each
 pub sets-three : (s s₁ s₂ s₃ : List ℕ) (i : ℕ) (xs ys zs : List ℕ) → length xs ≡ 4 → length ys ≡ 4 → s₁ ≡ sets s i xs → s₂ ≡ sets s₁ (i + 4) ys → s₃ ≡ sets s₂ (i + 8) zs
     → s₃ ≡ sets s i (xs ++ (ys ++ zs))

@@ -14,6 +14,7 @@ ghost use Rattle.text.specs.Words.{nth};
 ghost use Rattle.ast.specs.Says.{Inside};
 ghost use Rattle.ast.specs.Reading.{here};
 ghost use Rattle.statement.specs.FirstRecord.{firstSaid};
+use text::places::address;
 
 // The kinds of statements; 0 stands for a wrong record.
 pub const SELECT: u32 = 1;
@@ -55,14 +56,6 @@ fn wrong() -> First
     ensures { λ r. ⌜ ((c t : Bytes) → firstSaid c t r ≡ none) ⌝ }
 {
     plain(0)
-}
-
-// The address of a position in the statement's text.
-fn address(a: usize) -> u32
-    requires { ⌜ a ≤ 65536 ⌝ }
-    ensures { λ r. ⌜ r ≡ mostBytes + a ⌝ }
-{
-    text::MOST_BYTES + a as u32
 }
 
 // A statement whose one field is a name, by its keyword's number: 1 delete, 2 insert, 3 update, 4 create.

@@ -1,6 +1,8 @@
 // Places in both texts: an address and a length. The catalog's bytes have the addresses from 0 on, the statement's those from
 // 65,536 on.
 ghost use mathlib.Core.Path.{_≡_};
+ghost use Prim.Native.Nat.{_+_, _≤_};
+ghost use Rattle.rules.specs.Limits.{mostBytes};
 ghost use Rattle.rules.specs.Lists.{same};
 ghost use Rattle.rules.specs.Places.{bytesAt};
 ghost use Rattle.text.specs.Order.{orderOf};
@@ -10,6 +12,14 @@ use super::Order;
 use super::compare;
 use super::equal;
 use super::part;
+
+// The address of a position in the statement.
+pub fn address(a: usize) -> u32
+    requires { ⌜ a ≤ 65536 ⌝ }
+    ensures { λ r. ⌜ r ≡ mostBytes + a ⌝ }
+{
+    MOST_BYTES + a as u32
+}
 
 // Whether the n bytes at an address lie inside their text.
 pub fn inside(catalog: &[u8], statement: &[u8], a: u32, n: u32) -> bool

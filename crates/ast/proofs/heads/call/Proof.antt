@@ -10,7 +10,6 @@ use Rattle.ast.proofs.heads.call.Statement.{statement}
 use Rattle.ast.proofs.heads.call.Tie as tie
 use Rattle.ast.proofs.heads.call.Reads as reads
 use Rattle.ast.proofs.heads.call.Lts as lts
-use Rattle.ast.proofs.heads.address.Reads as address-reads
 use Rattle.ast.proofs.heads.wrong.Reads as wrong-reads
 use Rattle.text.proofs.count.Reads as count-reads
 use Rattle.text.proofs.is_name.Reads as is-name-reads

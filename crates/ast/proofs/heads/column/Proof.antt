@@ -8,7 +8,6 @@ use Rattle.ast.proofs.heads.column.Statement.{statement}
 use Rattle.ast.proofs.heads.column.Tie as tie
 use Rattle.ast.proofs.heads.column.Reads as reads
 use Rattle.ast.proofs.heads.column.Lts as lts
-use Rattle.ast.proofs.heads.address.Reads as address-reads
 use Rattle.ast.proofs.heads.wrong.Reads as wrong-reads
 use Rattle.text.proofs.is_name.Reads as is-name-reads
 

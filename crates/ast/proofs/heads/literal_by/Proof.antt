@@ -10,7 +10,6 @@ use Rattle.ast.proofs.heads.literal_by.Statement.{statement}
 use Rattle.ast.proofs.heads.literal_by.Tie as tie
 use Rattle.ast.proofs.heads.literal_by.Reads as reads
 use Rattle.ast.proofs.heads.literal_by.Lts as lts
-use Rattle.ast.proofs.heads.address.Reads as address-reads
 use Rattle.ast.proofs.heads.flag.Reads as flag-reads
 use Rattle.ast.proofs.heads.halves.Reads as halves-reads
 use Rattle.ast.proofs.heads.no_literal.Reads as no-literal-reads

@@ -3,8 +3,8 @@ use mathlib.Core.Path.{sym, _∙_}
 use borrow.Author.Needs.{needs}
 use Rattle.rules.specs.Lines.{bytes}
 use Rattle.from.specs.Fields.{is-first, is-second}
-use Rattle.from.proofs.from_stands.Statement.{statement}
-use Rattle.from.proofs.from_stands.Tie as tie
+use Rattle.from.proofs.record.from_stands.Statement.{statement}
+use Rattle.from.proofs.record.from_stands.Tie as tie
 
 fields-requires : tie.Need-fields-requires
 fields-requires c κs = search needs

@@ -4,8 +4,8 @@ use mathlib.Core.Path.{refl}
 use borrow.Author.Needs.{needs}
 use Rattle.rules.specs.Lines.{bytes}
 use Rattle.from.specs.Fields.{says-as, join-words, predicate-words, join-none, predicate-none, join-some}
-use Rattle.from.proofs.join_record.Statement.{statement}
-use Rattle.from.proofs.join_record.Tie as tie
+use Rattle.from.proofs.record.join_record.Statement.{statement}
+use Rattle.from.proofs.record.join_record.Tie as tie
 
 slice-aggregate-which : tie.Need-slice-aggregate-which
 slice-aggregate-which c = search needs

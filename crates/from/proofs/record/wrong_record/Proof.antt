@@ -1,8 +1,8 @@
 -- `wrong_record`: zeros.
 use mathlib.Core.Path.{refl}
 use Rattle.from.specs.Records.{fromNumbers, FromFits}
-use Rattle.from.proofs.wrong_record.Statement.{statement}
-use Rattle.from.proofs.wrong_record.Tie as tie
+use Rattle.from.proofs.record.wrong_record.Statement.{statement}
+use Rattle.from.proofs.record.wrong_record.Tie as tie
 
 returns : tie.Need-returns
 unfolding fromNumbers FromFits

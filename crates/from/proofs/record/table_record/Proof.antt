@@ -3,8 +3,8 @@ use mathlib.Core.Path.{refl, sym, _∙_}
 use borrow.Author.Tests.{not-true, not-false}
 use borrow.Author.Needs.{needs}
 use Rattle.from.specs.Fields.{says-as, table-none, table-some}
-use Rattle.from.proofs.table_record.Statement.{statement}
-use Rattle.from.proofs.table_record.Tie as tie
+use Rattle.from.proofs.record.table_record.Statement.{statement}
+use Rattle.from.proofs.record.table_record.Tie as tie
 
 is-name-requires : tie.Need-is-name-requires
 is-name-requires c κs = search needs

@@ -4,8 +4,8 @@ use borrow.Author.Needs.{needs}
 use Rattle.rules.specs.Lines.{bytes}
 use Rattle.ast.specs.Records.{inside-field}
 use Rattle.from.specs.Fields.{says-as, says-next, from-words, from-one, from-two, from-not, join-two, join-not, no-from}
-use Rattle.from.proofs.from_record.Statement.{statement}
-use Rattle.from.proofs.from_record.Tie as tie
+use Rattle.from.proofs.record.from_record.Statement.{statement}
+use Rattle.from.proofs.record.from_record.Tie as tie
 
 fields-requires : tie.Need-fields-requires
 fields-requires c κs = search needs
