@@ -6,9 +6,10 @@ use std::process::{Command, Stdio};
 
 use judge::compare::{Tally, Verdict, compare};
 use judge::folder;
-use judge::generate::{Case, case, limits, pairs};
+use judge::generate::{Case, case, damaged, limits, pairs};
 use judge::list::{self, Answered};
 use judge::predict::predict;
+use judge::reading;
 use judge::sample::sample;
 use judge::shrink::shrink;
 use judge::values;
@@ -24,7 +25,9 @@ const USAGE: &str = "commands:
   program PATH [--seed S] [--first N] [--count N]        a planning program with the Rust planner
   list FOLDER FILE                                       writes the fixed list from a folder's cases
   replay FILE                                            the fixed list with the Rust planner
-  values [--seed S] [--first N] [--count N]              the proved operators with the Rust's, on pairs of values";
+  values [--seed S] [--first N] [--count N]              the proved operators with the Rust's, on pairs of values
+  reading [--seed S] [--first N] [--count N]             the proved reading with the host's own, on damaged texts
+  bench [--count N]                                      the proved reading beside splitting the same texts";
 
 pub fn run(mut arguments: Vec<String>) -> Result<bool, String> {
     if arguments.is_empty() {
@@ -80,6 +83,18 @@ pub fn run(mut arguments: Vec<String>) -> Result<bool, String> {
             let numbers = Numbers::of(&arguments, 1_000_000);
             let [] = arguments.words([])?;
             Ok(compare_values(numbers))
+        }
+        "reading" => {
+            let arguments = Arguments::new(arguments, &["seed", "first", "count"])?;
+            let numbers = Numbers::of(&arguments, 1_000_000);
+            let [] = arguments.words([])?;
+            Ok(compare_reading(numbers))
+        }
+        "bench" => {
+            let arguments = Arguments::new(arguments, &["count"])?;
+            let count = arguments.option("count", 2_000);
+            let [] = arguments.words([])?;
+            time_reading(u32::try_from(count).map_err(|_| format!("--count {count} is too large"))?)
         }
         _ => Err(format!("no command {command}\n{USAGE}")),
     }
@@ -305,4 +320,25 @@ fn compare_values(numbers: Numbers) -> bool {
     }
     values::times().iter().for_each(|timed| println!("{timed}"));
     tally.differ() == 0
+}
+
+/// Compares the reading of damaged texts from a seed.
+fn compare_reading(numbers: Numbers) -> bool {
+    let mut reader = reader::Reader::default();
+    let mut tally = reading::Tally::default();
+    for number in numbers.all() {
+        let verdict = reading::compare(&mut reader, &damaged(numbers.seed, number));
+        tally.add(&format!("damaged case {number}"), verdict);
+    }
+    println!("{tally}");
+    tally.shown.iter().for_each(|message| println!("differs: {message}"));
+    tally.differ() == 0
+}
+
+fn time_reading(count: u32) -> Result<bool, String> {
+    if !reader::AVAILABLE {
+        return Err("`rt staticlib reader_host` was not run".to_string());
+    }
+    println!("{}", reading::bench(count));
+    Ok(true)
 }

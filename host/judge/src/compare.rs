@@ -4,7 +4,7 @@ use std::collections::BTreeMap;
 use std::fmt;
 
 use oracle::Answer;
-use texts::{Expr, ExprKind, From, Operator, Refusal, Select, Statement, Texts, read};
+use texts::{Expr, ExprKind, Operator, Refusal, Statement, Texts, read};
 
 use crate::generate::Case;
 use crate::listing::{self, Printed};
@@ -133,19 +133,7 @@ const LARGEST: u64 = 1 << 17;
 
 /// The number of cells of a statement's expressions with nothing shared: each `ge` and `le` doubles its operands.
 fn unfolded_size(statement: &Statement) -> u64 {
-    let sum = |exprs: &mut dyn Iterator<Item = &Expr>| {
-        exprs.fold(0u64, |sum, expr| sum.saturating_add(unfolded(expr)))
-    };
-    match statement {
-        Statement::Select(select) => sum(&mut select_expressions(select).into_iter()),
-        Statement::Delete { filter, .. } => sum(&mut filter.iter()),
-        Statement::Insert { rows, .. } => sum(&mut rows.iter().flatten()),
-        Statement::Update { sets, filter, .. } => {
-            sum(&mut sets.iter().flat_map(|set| &set.expr).chain(filter))
-        }
-        Statement::Create { columns, .. } => sum(&mut columns.iter().flat_map(|column| &column.default)),
-        Statement::Drop { .. } | Statement::Other { .. } => 0,
-    }
+    statement.expressions().into_iter().fold(0, |sum, expr| sum.saturating_add(unfolded(expr)))
 }
 
 fn unfolded(expr: &Expr) -> u64 {
@@ -155,25 +143,6 @@ fn unfolded(expr: &Expr) -> u64 {
         ExprKind::Operator(Operator::Ne, _) => operands.saturating_add(2),
         _ => operands.saturating_add(1),
     }
-}
-
-fn select_expressions(select: &Select) -> Vec<&Expr> {
-    fn predicates<'a>(from: &'a From, found: &mut Vec<&'a Expr>) {
-        if let From::Join { left, right, predicate, .. } = from {
-            predicates(left, found);
-            predicates(right, found);
-            found.extend(predicate);
-        }
-    }
-    let mut found: Vec<&Expr> = select.items.iter().map(|item| &item.expr).collect();
-    select.from.iter().for_each(|from| predicates(from, &mut found));
-    found.extend(&select.filter);
-    found.extend(&select.groups);
-    found.extend(select.order.iter().map(|key| &key.expr));
-    for clause in [&select.having, &select.offset, &select.limit] {
-        found.extend(clause.iter().map(|clause| &clause.expr));
-    }
-    found
 }
 
 /// How many cases came to which verdict.

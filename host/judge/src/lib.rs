@@ -7,6 +7,7 @@ pub mod list;
 pub mod listing;
 pub mod predict;
 pub mod random;
+pub mod reading;
 pub mod sample;
 pub mod shrink;
 pub mod values;

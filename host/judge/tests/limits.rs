@@ -1,7 +1,7 @@
 //! Cases whose refusal is known from how they are made.
 
 use judge::compare::{Verdict, compare};
-use judge::generate::{Known, limits, pairs};
+use judge::generate::{Known, edges, limits, pairs};
 use judge::predict::predict;
 
 fn hold(cases: Vec<Known>) {
@@ -21,4 +21,9 @@ fn limits_are_noticed_where_they_are_passed() {
 #[test]
 fn the_first_of_two_faults_is_named() {
     hold(pairs::all());
+}
+
+#[test]
+fn edges_are_refused_where_they_are_wrong() {
+    hold(edges::all());
 }

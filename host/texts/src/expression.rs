@@ -66,6 +66,11 @@ impl Expr {
             ExprKind::Is(operand, _) => std::slice::from_ref(operand),
         }
     }
+
+    /// The number of its records, the literal of an `is` apart.
+    pub fn cells(&self) -> usize {
+        1 + self.operands().iter().map(Expr::cells).sum::<usize>()
+    }
 }
 
 /// The operators, `is` apart.

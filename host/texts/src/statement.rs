@@ -12,6 +12,22 @@ pub enum Statement {
     Other { line: usize },
 }
 
+impl Statement {
+    /// Its expressions, from clause to clause.
+    pub fn expressions(&self) -> Vec<&Expr> {
+        match self {
+            Statement::Select(select) => select.expressions(),
+            Statement::Delete { filter, .. } => filter.iter().collect(),
+            Statement::Insert { rows, .. } => rows.iter().flatten().collect(),
+            Statement::Update { sets, filter, .. } => {
+                sets.iter().flat_map(|set| &set.expr).chain(filter).collect()
+            }
+            Statement::Create { columns, .. } => columns.iter().flat_map(|column| &column.default).collect(),
+            Statement::Drop { .. } | Statement::Other { .. } => vec![],
+        }
+    }
+}
+
 /// The expressions of an inserted row.
 pub type Row = Vec<Expr>;
 
@@ -25,6 +41,20 @@ pub struct Select {
     pub order: Vec<OrderKey>,
     pub offset: Option<Clause>,
     pub limit: Option<Clause>,
+}
+
+impl Select {
+    fn expressions(&self) -> Vec<&Expr> {
+        let mut found: Vec<&Expr> = self.items.iter().map(|item| &item.expr).collect();
+        self.from.iter().for_each(|from| from.predicates(&mut found));
+        found.extend(&self.filter);
+        found.extend(&self.groups);
+        found.extend(self.order.iter().map(|key| &key.expr));
+        for clause in [&self.having, &self.offset, &self.limit] {
+            found.extend(clause.iter().map(|clause| &clause.expr));
+        }
+        found
+    }
 }
 
 #[derive(Clone, Debug, PartialEq)]
@@ -67,6 +97,16 @@ impl Direction {
 pub enum From {
     Table { line: usize, name: Name, alias: Option<Name> },
     Join { line: usize, kind: JoinKind, left: Box<From>, right: Box<From>, predicate: Option<Expr> },
+}
+
+impl From {
+    fn predicates<'a>(&'a self, found: &mut Vec<&'a Expr>) {
+        if let From::Join { left, right, predicate, .. } = self {
+            left.predicates(found);
+            right.predicates(found);
+            found.extend(predicate);
+        }
+    }
 }
 
 #[derive(Clone, Copy, Debug, PartialEq, Eq)]

@@ -3,6 +3,7 @@
 mod constant;
 mod create;
 mod damage;
+pub mod edges;
 mod expression;
 mod known;
 pub mod limits;
@@ -27,17 +28,7 @@ pub struct Case {
 /// The case of a number under a seed.
 pub fn case(seed: u64, number: u64) -> Case {
     let mut maker = Maker::new(Random::new(seed, number));
-    let statement = maker.random.weighted(&[
-        (48, Maker::select as fn(&mut Maker) -> Statement),
-        (12, Maker::update),
-        (10, Maker::insert),
-        (8, Maker::delete),
-        (16, Maker::create),
-        (2, Maker::drop),
-        (1, Maker::other),
-    ]);
-    let statement = statement(&mut maker);
-    let mut case = Case { catalog: write_catalog(&maker.tables), statement: write_statement(&statement) };
+    let mut case = maker.case();
     match maker.random.between(0, 99) {
         0..8 => maker.damage(&mut case),
         8 => {
@@ -46,6 +37,14 @@ pub fn case(seed: u64, number: u64) -> Case {
         }
         _ => {}
     }
+    case
+}
+
+/// The damaged case of a number under a seed.
+pub fn damaged(seed: u64, number: u64) -> Case {
+    let mut maker = Maker::new(Random::new(seed, number));
+    let mut case = maker.case();
+    maker.damage(&mut case);
     case
 }
 
@@ -62,6 +61,21 @@ impl Maker {
         let mistakes = random.weighted(&[(55, 0), (25, 3), (15, 12), (5, 40)]);
         let tables = names::tables(&mut random);
         Maker { random, tables, mistakes }
+    }
+
+    /// A case with both texts whole.
+    fn case(&mut self) -> Case {
+        let statement = self.random.weighted(&[
+            (48, Maker::select as fn(&mut Maker) -> Statement),
+            (12, Maker::update),
+            (10, Maker::insert),
+            (8, Maker::delete),
+            (16, Maker::create),
+            (2, Maker::drop),
+            (1, Maker::other),
+        ]);
+        let statement = statement(self);
+        Case { catalog: write_catalog(&self.tables), statement: write_statement(&statement) }
     }
 
     /// Whether to make a choice that is likely to be refused.

@@ -1,0 +1,4 @@
+pub mod Input
+pub mod Decimals
+pub mod Fields
+pub mod Line

@@ -1,0 +1,156 @@
+-- Reading by cases: what each refusal, and what was read, says of the rules' answer.
+use Prim.Native.Nat.{ℕ, zero, suc, _≤_, _<_}
+use native.Mathlib.Omega.{arith}
+use mathlib.Core.Path.{_≡_, refl, sym, ap, _∙_}
+use mathlib.Core.List.{List, [], _∷_}
+use lib.ListN.{length, getD}
+use borrow.Author.Tests.{lt-ltb, le-ltb, eq-eqb, ne-eqb}
+use Rattle.rules.specs.Refusals.{catalog, statement, number, Refusal, ok, refused, refuse, wrongRecord, limitPassed, _>>=_}
+use Rattle.rules.specs.Limits.{mostBytes}
+use Rattle.rules.specs.Lists.{Bytes}
+use Rattle.rules.specs.Schema.{Catalog}
+use Rattle.rules.specs.Ast.{Statement}
+use Rattle.rules.specs.Ast as Ast
+use Rattle.rules.specs.Sizes.{statementSize}
+use Rattle.rules.specs.Entry.{textNumber}
+use Rattle.rules.specs.ReadCatalog.{readCatalog}
+use Rattle.rules.specs.ReadStatement.{readStatement}
+use Rattle.text.specs.Answers.{wrongAt, limitAt}
+use Rattle.ast.specs.Table.{coded}
+use Rattle.ast.specs.Codes.{coded-above}
+use Rattle.schema.specs.Layout.{tablesAt, catalogAt}
+use Rattle.schema.specs.TableRuns.{catalogOf, catalogAnswer}
+use Rattle.schema.specs.declared.read.Read as Rd
+use Rattle.schema.specs.declared.read.Read.the-variants as A
+use Rattle.statement.specs.Layout.{statementAt}
+use Rattle.statement.specs.Whole.{statementOf, statementAnswer, Counts}
+use Rattle.statement.specs.declared.Outcome as Oc
+use Rattle.statement.specs.declared.Outcome.the-variants as O
+use Rattle.reader.specs.Texts.{kindOf, notOther, bothOf, readTexts}
+use Rattle.reader.specs.Reading.{told, isOther, toldBy, TextsRead}
+use Rattle.reader.specs.declared.Texts.the-variants as T
+
+-- REFUSED
+never : {A : Type 0} {ρ : Refusal} {x : A} → refused ρ ≡ ok x → ⊥
+never e = let z : _≡_ {A = ℕ} 0 1 = cc in omega arith
+
+module _ {c q : Bytes} {tables cells froms parts : List ℕ} where
+  refused-read : (ρ : Refusal) → readTexts c q ≡ refused ρ → TextsRead c q tables cells froms parts (T.Refused (number (ρ .reason)) (textNumber (ρ .text)) (ρ .line))
+  unfolding told
+  refused-read ρ e = record { says = sym (ap told e); stands = λ x z. absurd (never (sym e ∙ z)) }
+
+  pub catalog-long : mostBytes < length c → TextsRead c q tables cells froms parts (T.Refused 3 1 0)
+  unfolding readTexts number textNumber
+  catalog-long h = refused-read (record { reason = limitPassed; text = catalog; line = 0 }) (rw (readTexts, lt-ltb mostBytes (length c) h))
+
+  pub statement-long : length c ≤ mostBytes → mostBytes < length q → TextsRead c q tables cells froms parts (T.Refused 3 2 0)
+  unfolding readTexts number textNumber
+  statement-long h g = refused-read (record { reason = limitPassed; text = statement; line = 0 }) (rw (readTexts, le-ltb mostBytes (length c) h, lt-ltb mostBytes (length q) g))
+
+-- READ
+-- a kind of no statement, and of one
+pub told-zero : {k : ℕ} (l n m : ℕ) → k ≡ 0 → T.Refused 4 2 l ≡ toldBy k l n m
+unfolding toldBy isOther
+told-zero {k} l n m h = sym (rw (toldBy, isOther, eq-eqb k 0 h))
+
+pub told-above : {k : ℕ} (l n m : ℕ) → 6 < k → T.Refused 4 2 l ≡ toldBy k l n m
+unfolding toldBy isOther
+told-above {k} l n m h = sym (rw (toldBy, isOther, ne-eqb k 0 (λ z. omega arith), lt-ltb 6 k h))
+
+pub told-read : {k : ℕ} (l n m : ℕ) → (k ≡ 0 → ⊥) → k ≤ 6 → T.Read k n m ≡ toldBy k l n m
+unfolding toldBy isOther
+told-read {k} l n m h g = sym (rw (toldBy, isOther, ne-eqb k 0 h, le-ltb 6 k g))
+
+-- the statement that a kind stands for, of one statement of each kind
+module _ (l : ℕ) (s : Ast.Select) (d : Ast.Create) (e : Ast.Drop) (f : Ast.Delete) (g : Ast.Insert) (h : Ast.Update) where
+  abbrev ofKind : ℕ → Statement
+  ofKind k = coded (Ast.other l) (Ast.select s ∷ Ast.create d ∷ Ast.drop e ∷ Ast.delete f ∷ Ast.insert g ∷ Ast.update h ∷ []) 1 k
+
+  told-of-kind : (ts : Catalog) (k n m : ℕ) → n ≡ statementSize (ofKind k) → m ≡ length ts → told (notOther (ofKind k) >>= λ s′. ok (ts, s′)) ≡ toldBy k l n m
+  unfolding coded told toldBy isOther notOther kindOf _>>=_ refuse number textNumber
+  told-of-kind ts zero n m i j = refl
+  told-of-kind ts (suc zero) n m i j = rw (i, j)
+  told-of-kind ts (suc (suc zero)) n m i j = rw (i, j)
+  told-of-kind ts (suc (suc (suc zero))) n m i j = rw (i, j)
+  told-of-kind ts (suc (suc (suc (suc zero)))) n m i j = rw (i, j)
+  told-of-kind ts (suc (suc (suc (suc (suc zero))))) n m i j = rw (i, j)
+  told-of-kind ts (suc (suc (suc (suc (suc (suc zero)))))) n m i j = rw (i, j)
+  told-of-kind ts (suc (suc (suc (suc (suc (suc (suc k))))))) n m i j =
+      rw (coded-above (Ast.other l) (Ast.select s ∷ Ast.create d ∷ Ast.drop e ∷ Ast.delete f ∷ Ast.insert g ∷ Ast.update h ∷ []) 1 (suc (suc (suc (suc (suc (suc (suc k))))))) (omega arith))
+      (told-above {k = suc (suc (suc (suc (suc (suc (suc k))))))} l n m (omega arith))
+
+same-read : (ts : Catalog) (s : Statement) (x : Catalog × Statement) → (notOther s >>= λ s′. ok (ts, s′)) ≡ ok x → (ts, s) ≡ x
+unfolding notOther _>>=_ refuse
+same-read ts (Ast.select q) x e = cc
+same-read ts (Ast.create d) x e = cc
+same-read ts (Ast.drop d) x e = cc
+same-read ts (Ast.delete d) x e = cc
+same-read ts (Ast.insert d) x e = cc
+same-read ts (Ast.update d) x e = cc
+same-read ts (Ast.other l) x e = absurd (never e)
+
+tables-length : (c q : Bytes) (s : List ℕ) (i n : ℕ) → length (tablesAt c q s i n) ≡ n
+unfolding tablesAt
+tables-length c q s i zero = refl
+tables-length c q s i (suc n) = ap suc (tables-length c q s (suc i) n)
+
+-- the catalog was read, and neither text is too long
+pub record CatalogRead (c q : Bytes) (tables : List ℕ) (k : Rd.Read) : Type 0 where
+  pub short : length c ≤ mostBytes
+  pub shortStatement : length q ≤ mostBytes
+  pub is : catalogOf c q tables k ≡ catalogAnswer c
+
+-- the statement was read
+pub record StatementRead (c q : Bytes) (cells froms parts : List ℕ) (o : Oc.Outcome) : Type 0 where
+  pub is : statementOf c q cells froms parts o ≡ statementAnswer q
+  pub size : Counts (statementSize (statementAt c q cells froms parts)) o
+
+module _ {c q : Bytes} {tables : List ℕ} {k : Rd.Read} (g : CatalogRead c q tables k) where
+  both : readTexts c q ≡ bothOf c q
+  unfolding readTexts
+  both = rw (readTexts, le-ltb mostBytes (length c) (g .short), le-ltb mostBytes (length q) (g .shortStatement))
+
+  catalog-read : readCatalog c ≡ catalogOf c q tables k
+  unfolding catalogAnswer
+  catalog-read = sym (g .is ∙ rw (catalogAnswer, le-ltb mostBytes (length c) (g .short)))
+
+  module _ {cells froms parts : List ℕ} where
+    pub catalog-wrong : {l : ℕ} → k ≡ A.Wrong l → TextsRead c q tables cells froms parts (T.Refused 2 1 l)
+    unfolding bothOf _>>=_ catalogOf wrongAt number textNumber
+    catalog-wrong {l} z = refused-read (record { reason = wrongRecord; text = catalog; line = l }) (both ∙ rw (bothOf, catalog-read, z))
+
+    pub catalog-limit : {l : ℕ} → k ≡ A.Limit l → TextsRead c q tables cells froms parts (T.Refused 3 1 l)
+    unfolding bothOf _>>=_ catalogOf limitAt number textNumber
+    catalog-limit {l} z = refused-read (record { reason = limitPassed; text = catalog; line = l }) (both ∙ rw (bothOf, catalog-read, z))
+
+  module _ (z : k ≡ A.Done) {cells froms parts : List ℕ} {o : Oc.Outcome} (h : StatementRead c q cells froms parts o) where
+    statement-read : readStatement q ≡ statementOf c q cells froms parts o
+    unfolding statementAnswer
+    statement-read = sym (h .is ∙ rw (statementAnswer, le-ltb mostBytes (length q) (g .shortStatement)))
+
+    after : readTexts c q ≡ (statementOf c q cells froms parts o >>= λ s. notOther s >>= λ s′. ok (catalogAt c q tables, s′))
+    unfolding bothOf _>>=_ catalogOf
+    after = both ∙ rw (bothOf, catalog-read, z, statement-read)
+
+    pub statement-wrong : {l : ℕ} → o ≡ O.Wrong l → TextsRead c q tables cells froms parts (T.Refused 2 2 l)
+    unfolding _>>=_ statementOf wrongAt number textNumber
+    statement-wrong {l} y = refused-read (record { reason = wrongRecord; text = statement; line = l }) (after ∙ rw y)
+
+    pub statement-limit : {l : ℕ} → o ≡ O.Limit l → TextsRead c q tables cells froms parts (T.Refused 3 2 l)
+    unfolding _>>=_ statementOf limitAt number textNumber
+    statement-limit {l} y = refused-read (record { reason = limitPassed; text = statement; line = l }) (after ∙ rw y)
+
+    taken : {n : ℕ} → o ≡ O.Done n → readTexts c q ≡ (notOther (statementAt c q cells froms parts) >>= λ s′. ok (catalogAt c q tables, s′))
+    unfolding _>>=_ statementOf
+    taken y = after ∙ rw y
+
+    counted : {n : ℕ} → o ≡ O.Done n → n ≡ statementSize (statementAt c q cells froms parts)
+    unfolding Counts
+    counted y = rw y at (h .size)
+
+    pub texts-read : {n : ℕ} → o ≡ O.Done n → TextsRead c q tables cells froms parts (toldBy (getD parts 0 0) (getD parts 1 0) n (getD tables 0 0))
+    unfolding statementAt catalogAt
+    texts-read {n} y = record {
+      says = sym (ap told (taken y) ∙ told-of-kind _ _ _ _ _ _ _ (catalogAt c q tables) (getD parts 0 0) n (getD tables 0 0) (counted y) (sym (tables-length c q tables 0 (getD tables 0 0))));
+      stands = λ x e. same-read _ _ x (sym (taken y) ∙ e);
+    }

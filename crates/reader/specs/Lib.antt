@@ -1,0 +1,4 @@
+pub mod Texts
+pub mod Entry
+pub mod Reading
+pub mod Cases

@@ -1,0 +1,69 @@
+// Both texts read: the catalog and the statement as numbers, or document 01's 2, 3 or 4.
+ghost use mathlib.Core.Path.{_≡_};
+ghost use Rattle.reader.specs.Reading.{toldBy, TextsRead};
+use schema::NUMBERS;
+use schema::read::Read;
+use statement::CELL_NUMBERS;
+use statement::FROM_NUMBERS;
+use statement::Outcome;
+use statement::PART_NUMBERS;
+use statement::read_statement;
+
+// The texts' numbers.
+pub const CATALOG: u32 = 1;
+
+pub const STATEMENT: u32 = 2;
+
+// The last of the kinds of statements that can be planned (parts[0]).
+const LAST_KIND: u32 = 6;
+
+// Two texts: the statement's kind, how many expression cells it has and how many tables the catalog has; or a refusal's number, text and line.
+pub enum Texts {
+    Read(u32, u32, u32),
+    Refused(u32, u32, u32),
+}
+
+// A statement that was read, by its kind and line: 4 where it is none of the six.
+fn taken(kind: u32, line: u32, cells: u32, tables: u32) -> Texts
+    ensures { λ r. ⌜ r ≡ toldBy kind line cells tables ⌝ }
+{
+    if kind == 0 {
+        return Texts::Refused(4, STATEMENT, line);
+    }
+    if LAST_KIND < kind {
+        return Texts::Refused(4, STATEMENT, line);
+    }
+    Texts::Read(kind, cells, tables)
+}
+
+// Both texts, whatever they are. Where they are refused the numbers in the slices mean nothing.
+pub fn read_texts(
+    catalog: &[u8],
+    statement: &[u8],
+    tables: &mut [u32; NUMBERS],
+    cells: &mut [u32; CELL_NUMBERS],
+    froms: &mut [u32; FROM_NUMBERS],
+    parts: &mut [u32; PART_NUMBERS],
+) -> Texts
+    ensures { λ r. ⌜ TextsRead (now (catalog .entry)) (now (statement .entry)) (now (tables .exit)) (now (cells .exit)) (now (froms .exit)) (now (parts .exit)) r ⌝ }
+{
+    if (text::MOST_BYTES as usize) < catalog.len() {
+        return Texts::Refused(3, CATALOG, 0);
+    }
+    if (text::MOST_BYTES as usize) < statement.len() {
+        return Texts::Refused(3, STATEMENT, 0);
+    }
+    let c = schema::read::read_catalog(catalog, tables);
+    match c {
+        Read::Wrong(l) => Texts::Refused(2, CATALOG, l),
+        Read::Limit(l) => Texts::Refused(3, CATALOG, l),
+        Read::Done => {
+            let s = read_statement(statement, cells, froms, parts);
+            match s {
+                Outcome::Wrong(l) => Texts::Refused(2, STATEMENT, l),
+                Outcome::Limit(l) => Texts::Refused(3, STATEMENT, l),
+                Outcome::Done(n) => taken(parts[0], parts[1], n, tables[0]),
+            }
+        }
+    }
+}

@@ -1,0 +1,87 @@
+//! The call of the static library: two texts go over as slices, with the four slices of numbers that it fills.
+
+use texts::{Refusal, Text};
+
+use crate::{Answer, Kind, Read};
+
+#[repr(C)]
+struct Numbers {
+    number: u32,
+    text: u32,
+    line: u32,
+    kind: u32,
+    cells: u32,
+    tables: u32,
+}
+
+// SAFETY of the declaration: it is that of crates/reader_host/src/lib.rt, a `&[u8]` as a pointer and a length, a `&mut` of
+// an array as a pointer. The function takes all bytes, reads and writes no further than the slices, and keeps nothing.
+unsafe extern "C" {
+    fn reader_read_texts(
+        catalog: *const u8,
+        catalog_length: usize,
+        statement: *const u8,
+        statement_length: usize,
+        tables: *mut [u32; 16_545],
+        cells: *mut [u32; 4_096],
+        froms: *mut [u32; 248],
+        parts: *mut [u32; 3_863],
+    ) -> Numbers;
+}
+
+/// The slices that are lent for reading.
+pub struct Reader {
+    tables: Box<[u32; 16_545]>,
+    cells: Box<[u32; 4_096]>,
+    froms: Box<[u32; 248]>,
+    parts: Box<[u32; 3_863]>,
+}
+
+impl Default for Reader {
+    fn default() -> Self {
+        Reader {
+            tables: Box::new([0; 16_545]),
+            cells: Box::new([0; 4_096]),
+            froms: Box::new([0; 248]),
+            parts: Box::new([0; 3_863]),
+        }
+    }
+}
+
+impl Reader {
+    /// Reads a catalog and a statement.
+    pub fn read(&mut self, catalog: &[u8], statement: &[u8]) -> Answer {
+        // SAFETY: the pointers and lengths are those of slices and arrays that live through the call; those that are
+        // written are lent to nobody else.
+        let numbers = unsafe {
+            reader_read_texts(
+                catalog.as_ptr(),
+                catalog.len(),
+                statement.as_ptr(),
+                statement.len(),
+                &raw mut *self.tables,
+                &raw mut *self.cells,
+                &raw mut *self.froms,
+                &raw mut *self.parts,
+            )
+        };
+        answer(&numbers)
+    }
+}
+
+/// What the numbers say. Those that the library never gives are a fault.
+fn answer(numbers: &Numbers) -> Answer {
+    let Numbers { number, text, line, kind, cells, tables } = *numbers;
+    match (number, text) {
+        (0, 0) => {
+            let kind = Kind::ALL.into_iter().find(|known| *known as u32 == kind);
+            let kind = kind.unwrap_or_else(|| panic!("no statement has the kind {:?}", numbers.kind));
+            Answer::Read(Read { kind, cells: cells as usize, tables: tables as usize })
+        }
+        (2..=4, 1 | 2) => {
+            let text = if text == 1 { Text::Catalog } else { Text::Statement };
+            Answer::Refused(Refusal { number: number as u8, text, line: line as usize })
+        }
+        _ => panic!("reading gave the number {number} and the text {text}"),
+    }
+}
