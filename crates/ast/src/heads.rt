@@ -10,10 +10,11 @@ ghost use Rattle.rules.specs.Lists.{mapOption};
 ghost use Rattle.rules.specs.Schema.{Value};
 ghost use Rattle.rules.specs.Reader.{lineHere, oneOf, literals, word};
 ghost use Rattle.rules.specs.ReadExpression.{starHead, valueHead, operators, columnFields, callFields, heads};
-ghost use Rattle.text.specs.Lines.{field};
+ghost use Rattle.text.specs.Lines.{field, Fields};
 ghost use Rattle.text.specs.Reading.{place};
 ghost use Rattle.ast.specs.Says.{numbersOf, Says, Speaks, Inside, literalBy};
 use literal::Bits;
+use text::Line;
 use text::Number;
 use text::places::address;
 
@@ -297,12 +298,11 @@ fn literal_by(t: &[u8], k: usize, a: usize, n: usize) -> Literal
     no_literal()
 }
 
-// The literal record at a position.
-pub fn literal_at(t: &[u8], p: usize) -> Literal
-    requires { ⌜ (length (now t) ≤ 65536) × (p ≤ length (now t)) ⌝ }
+// The literal record at a position, by its fields.
+pub fn literal_at(t: &[u8], p: usize, f: Line) -> Literal
+    requires { ⌜ (length (now t) ≤ 65536) × (p ≤ length (now t)) ⌝ ∗ ⌜ Fields (now t) p f ⌝ }
     ensures { λ r. ⌜ ((l c k : ℕ) → Speaks (now (t .entry)) (oneOf literals (lineHere (place statement (now (t .entry)) p l c k))) r) ⌝ }
 {
-    let f = text::fields(t, p);
     let n = f.count;
     let k = text::which(b"null bool int float text ", t, f.starts[0], f.lens[0]);
     if k == 0 {
@@ -339,12 +339,11 @@ fn literal_row(v: Literal) -> Row
     }
 }
 
-// The expression record at a position.
-pub fn head(t: &[u8], p: usize) -> Row
-    requires { ⌜ (length (now t) ≤ 65536) × (p ≤ length (now t)) ⌝ }
+// The expression record at a position, by its fields.
+pub fn head(t: &[u8], p: usize, f: Line) -> Row
+    requires { ⌜ (length (now t) ≤ 65536) × (p ≤ length (now t)) ⌝ ∗ ⌜ Fields (now t) p f ⌝ }
     ensures { λ r. ⌜ ((l c k : ℕ) → Says (now (t .entry)) (oneOf heads (lineHere (place statement (now (t .entry)) p l c k))) r) ⌝ }
 {
-    let f = text::fields(t, p);
     let n = f.count;
     let k = text::which(b"op col fn star ", t, f.starts[0], f.lens[0]);
     if k == 0 {
@@ -374,5 +373,5 @@ pub fn head(t: &[u8], p: usize) -> Row
         }
         return plain_row(STAR, 0, 0);
     }
-    literal_row(literal_at(t, p))
+    literal_row(literal_at(t, p, f))
 }

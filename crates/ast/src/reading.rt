@@ -49,11 +49,12 @@ fn read_is(t: &[u8], p: usize, l: u32, d: u32, c: u32, line: u32, cells: &mut [u
     requires { ⌜ Position (now t) p l d ⌝ ∗ ⌜ (c < d) × (length (now cells) ≡ 4096) ⌝ }
     ensures { λ r. ⌜ ((k : ℕ) → Given literalHere (IsRow (now (t .entry)) c d line (now (cells .entry)) (now (cells .exit))) (now (t .entry)) p l d k r) ⌝ }
 {
-    let v = literal_at(t, p);
+    let f = text::fields(t, p);
+    let next = f.next;
+    let v = literal_at(t, p, f);
     if v.kind == 0 {
         return Read::Wrong(l);
     }
-    let next = text::line_end(t, p);
     let h = Row {
         kind: IS,
         code: v.kind,
@@ -101,7 +102,9 @@ fn read_deep(t: &[u8], p: usize, l: u32, c: u32, depth: u32, cells: &mut [u32]) 
     requires { ⌜ Position (now t) p l c ⌝ ∗ ⌜ (depth ≤ 32) × (length (now cells) ≡ 4096) ⌝ }
     ensures { λ r. ⌜ ((k : ℕ) → Given (deep depth) (λ c′ e. Rows (now (t .entry)) c (now (cells .entry)) (now (cells .exit)) depth c′ (cons e nil)) (now (t .entry)) p l c k r) ⌝ }
 {
-    let h = head(t, p);
+    let f = text::fields(t, p);
+    let next = f.next;
+    let h = head(t, p, f);
     if h.kind == 0 {
         return Read::Wrong(l);
     }
@@ -111,7 +114,6 @@ fn read_deep(t: &[u8], p: usize, l: u32, c: u32, depth: u32, cells: &mut [u32]) 
     if depth == 0 {
         return Read::Limit(l);
     }
-    let next = text::line_end(t, p);
     let r = read_times(t, next, l + 1, c + 1, depth - 1, h.operands, cells);
     match r {
         Read::Wrong(x) => Read::Wrong(x),

@@ -305,12 +305,11 @@ fn column(t: &[u8], p: usize, f: Line) -> Head
     column_head(w, a, m, address(c), d as u32)
 }
 
-// The record of a kind at a position, behind an entry whose name has this address and length (length 0: none).
-pub fn entry_head(t: &[u8], p: usize, kind: u32, last: u32, len: u32) -> Head
-    requires { ⌜ (length (now t) ≤ 65536) × (p ≤ length (now t)) × (kind ≤ 11) ⌝ }
+// The record of a kind at a position, by its fields, behind an entry whose name has this address and length (length 0: none).
+pub fn entry_head(t: &[u8], p: usize, f: Line, kind: u32, last: u32, len: u32) -> Head
+    requires { ⌜ LineAt (now t) p f ⌝ ∗ ⌜ kind ≤ 11 ⌝ }
     ensures { λ r. ⌜ ((l c k : ℕ) → Says (now (t .entry)) kind (lastName (now (t .entry)) last len) (here (now (t .entry)) p l c k) r) ⌝ }
 {
-    let f = text::fields(t, p);
     let k = text::which(
         b"item where group having order offset limit columns name row set column ",
         t,

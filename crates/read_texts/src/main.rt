@@ -6,6 +6,10 @@ ghost use Rattle.reader.specs.Texts.{readTexts};
 ghost use Rattle.read_texts.specs.Line.{printed};
 use input::Input;
 use input::SIZE;
+use schema::NUMBERS;
+use statement::CELL_NUMBERS;
+use statement::FROM_NUMBERS;
+use statement::PART_NUMBERS;
 
 mod input; // input.rt: a text from a file
 mod line; // line.rt: the line that is printed
@@ -14,10 +18,10 @@ mod line; // line.rt: the line that is printed
 fn answer(catalog: &[u8], statement: &[u8], out: &mut [u8; 64]) -> usize
     ensures { λ r. ⌜ Counts r (now (out .exit)) × (take r (now (out .exit)) ≡ printed (readTexts (now (catalog .entry)) (now (statement .entry)))) ⌝ }
 {
-    let mut tables = [0u32; 16545];
-    let mut cells = [0u32; 4096];
-    let mut froms = [0u32; 248];
-    let mut parts = [0u32; 3863];
+    let mut tables = [0u32; NUMBERS];
+    let mut cells = [0u32; CELL_NUMBERS];
+    let mut froms = [0u32; FROM_NUMBERS];
+    let mut parts = [0u32; PART_NUMBERS];
     let t = reader::read_texts(
         catalog,
         statement,

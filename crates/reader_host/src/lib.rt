@@ -8,6 +8,10 @@ ghost use Rattle.statement.specs.Layout.{statementAt};
 ghost use Rattle.reader.specs.Texts.{readTexts};
 ghost use Rattle.reader_host.specs.Numbers.{answered as answeredBy, answerOf};
 use reader::Texts;
+use schema::NUMBERS;
+use statement::CELL_NUMBERS;
+use statement::FROM_NUMBERS;
+use statement::PART_NUMBERS;
 
 // Document 01's number of a refusal, its text (1 catalog, 2 statement) and line; or 0, and the statement's kind, how many expression cells it has and how many tables the catalog has.
 #[repr(C)]
@@ -48,10 +52,10 @@ fn answered(t: Texts) -> Answer
 pub extern "C" fn reader_read_texts(
     catalog: &[u8],
     statement: &[u8],
-    tables: &mut [u32; 16545],
-    cells: &mut [u32; 4096],
-    froms: &mut [u32; 248],
-    parts: &mut [u32; 3863],
+    tables: &mut [u32; NUMBERS],
+    cells: &mut [u32; CELL_NUMBERS],
+    froms: &mut [u32; FROM_NUMBERS],
+    parts: &mut [u32; PART_NUMBERS],
 ) -> Answer
     ensures { λ r. ⌜ r ≡ answerOf (readTexts (now (catalog .entry)) (now (statement .entry))) ⌝ }
     ensures { λ _. ⌜ ((x : Catalog × Statement) → readTexts (now (catalog .entry)) (now (statement .entry)) ≡ rules.ok x → (catalogAt (now (catalog .entry)) (now (statement .entry)) (now (tables .exit)), statementAt (now (catalog .entry)) (now (statement .entry)) (now (cells .exit)) (now (froms .exit)) (now (parts .exit))) ≡ x) ⌝ }

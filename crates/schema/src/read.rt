@@ -73,14 +73,15 @@ fn read_column(
             if MOST_TABLE_COLUMNS <= n {
                 return ColumnStep::Limit(line);
             }
-            let d = default_record(catalog, e);
+            let f = text::fields(catalog, e);
+            let next = f.next;
+            let d = default_record(catalog, e, f);
             let DefaultRecord::Default(x, y, z) = d else {
                 return ColumnStep::Wrong(line + 1);
             };
             let i = COLUMNS + COLUMN_SIZE * (first + n as usize);
             put_four(tables, i, a, m, k, u);
             put_four(tables, i + 4, x, y, z, 0);
-            let next = text::line_end(catalog, e);
             ColumnStep::Column(next)
         }
     }

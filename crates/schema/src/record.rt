@@ -9,13 +9,14 @@ ghost use Rattle.rules.specs.Refusals as refusals;
 ghost use Rattle.rules.specs.Limits.{mostBytes};
 ghost use Rattle.rules.specs.Reader.{baseAddress, lineHere, oneOf, apply, literals};
 ghost use Rattle.rules.specs.ReadCatalog.{defaultRecords};
-ghost use Rattle.text.specs.Lines.{field};
+ghost use Rattle.text.specs.Lines.{field, Fields};
 ghost use Rattle.text.specs.Words.{nth};
 ghost use Rattle.schema.specs.Records.{Position, here, names, defaultSaid, ColumnLine, TableLine};
 use crate::TABLE_SIZE;
 use crate::TABLES;
 use literal::Bits;
 use numbers::number;
+use text::Line;
 use text::Number;
 
 // A column's record: the name's address and length, the type, 1 if it is nullable, and the position behind the line.
@@ -160,12 +161,11 @@ fn default_value(catalog: &[u8], k: usize, a: usize, n: usize) -> DefaultRecord
     DefaultRecord::Wrong
 }
 
-// The default's record at a position: a literal or `nodefault`.
-pub fn default_record(catalog: &[u8], at: usize) -> DefaultRecord
-    requires { ⌜ Position (now catalog) at ⌝ }
+// The default's record at a position, by its fields: a literal or `nodefault`.
+pub fn default_record(catalog: &[u8], at: usize, f: Line) -> DefaultRecord
+    requires { ⌜ Position (now catalog) at ⌝ ∗ ⌜ Fields (now catalog) at f ⌝ }
     ensures { λ r. ⌜ ((q : Bytes) (l : ℕ) → defaultSaid (now (catalog .entry)) q r ≡ oneOf (defaultRecords literals) (lineHere (here (now (catalog .entry)) at l))) ⌝ }
 {
-    let f = text::fields(catalog, at);
     let k = text::which(
         b"null bool int float text nodefault ",
         catalog,

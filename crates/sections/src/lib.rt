@@ -105,7 +105,9 @@ fn read_entry(
     requires { ⌜ EntryReady (now t) p l c kind n (now cells) (now parts) ⌝ }
     ensures { λ r. ⌜ ((k : ℕ) → EntryRead (now (t .entry)) p l c kind n last len (now (cells .entry)) (now (cells .exit)) (now (parts .entry)) (now (parts .exit)) k r) ⌝ }
 {
-    let h = entry_head(t, p, kind, last, len);
+    let f = text::fields(t, p);
+    let e = f.next;
+    let h = entry_head(t, p, f, kind, last, len);
     if h.state == 0 {
         return Step::End;
     }
@@ -116,7 +118,6 @@ fn read_entry(
     if most <= n {
         return Step::Limit(l);
     }
-    let e = text::line_end(t, p);
     let r = read_expressions(t, e, l + 1, c, h.expressions, cells);
     match r {
         Read::Wrong(x) => Step::Wrong(x),

@@ -22,6 +22,7 @@ use Rattle.ast.proofs.reading.read_is.Reads as read-is-reads
 use Rattle.text.proofs.line_end.Reads as line-end-reads
 use Rattle.ast.proofs.reading.+read_deep+read_times.{statement}
 use Rattle.ast.proofs.reading.+read_deep+read_times.Tie.{close}
+use Rattle.text.proofs.fields.Reads as fields-reads
 
 abbrev μ-read-deep : Measures 2 read-deep-kinds.ps ℕ
 μ-read-deep κs a = 2 * a .1 .1 .1 .1 .0
@@ -44,11 +45,25 @@ abbrev read-times-below : ℕ → In 2 read-times-kinds.ps
 read-times-below t =
     and 2 read-times-kinds.ps (falls 2 read-times-kinds.ps _<_ μ-read-times t) read-times.Pre
 
-read-deep-head-requires : (t : ℕ) → read-deep-lts.Need-head-requires (
+read-deep-fields-requires : (t : ℕ) → read-deep-lts.Need-fields-requires (
+  fields-reads.Asked,
+  fields-reads.Learnt,
   head-reads.Asked,
   head-reads.Learnt,
-  line-end-reads.Asked,
-  line-end-reads.Learnt,
+  read-times-below t,
+  read-times.Post,
+  read-is-reads.Asked,
+  read-is-reads.Learnt,
+  put-row-reads.Asked,
+  put-row-reads.Learnt,
+) (read-deep-at t) read-deep.Post
+read-deep-fields-requires t c κs = search needs
+
+read-deep-head-requires : (t : ℕ) → read-deep-lts.Need-head-requires (
+  fields-reads.Asked,
+  fields-reads.Learnt,
+  head-reads.Asked,
+  head-reads.Learnt,
   read-times-below t,
   read-times.Post,
   read-is-reads.Asked,
@@ -59,10 +74,10 @@ read-deep-head-requires : (t : ℕ) → read-deep-lts.Need-head-requires (
 read-deep-head-requires t c κs = search needs
 
 read-deep-returns : (t : ℕ) → read-deep-lts.Need-returns (
+  fields-reads.Asked,
+  fields-reads.Learnt,
   head-reads.Asked,
   head-reads.Learnt,
-  line-end-reads.Asked,
-  line-end-reads.Learnt,
   read-times-below t,
   read-times.Post,
   read-is-reads.Asked,
@@ -73,10 +88,10 @@ read-deep-returns : (t : ℕ) → read-deep-lts.Need-returns (
 read-deep-returns t c = λ k. no-record _ _ _ k (c .before .before .head .ensures) _ _ (c .if1 .taken)
 
 read-deep-returns-2 : (t : ℕ) → read-deep-lts.Need-returns-2 (
+  fields-reads.Asked,
+  fields-reads.Learnt,
   head-reads.Asked,
   head-reads.Learnt,
-  line-end-reads.Asked,
-  line-end-reads.Learnt,
   read-times-below t,
   read-times.Post,
   read-is-reads.Asked,
@@ -87,10 +102,10 @@ read-deep-returns-2 : (t : ℕ) → read-deep-lts.Need-returns-2 (
 read-deep-returns-2 t c = λ k. no-room _ _ _ k (c .before .before .before .head .ensures) _ _ (c .before .if1 .left) (omega (arith, c .if2 .taken))
 
 read-deep-returns-3 : (t : ℕ) → read-deep-lts.Need-returns-3 (
+  fields-reads.Asked,
+  fields-reads.Learnt,
   head-reads.Asked,
   head-reads.Learnt,
-  line-end-reads.Asked,
-  line-end-reads.Learnt,
   read-times-below t,
   read-times.Post,
   read-is-reads.Asked,
@@ -100,25 +115,11 @@ read-deep-returns-3 : (t : ℕ) → read-deep-lts.Need-returns-3 (
 ) (read-deep-at t) read-deep.Post
 read-deep-returns-3 t c = λ k. too-deep _ _ _ k (c .before .before .before .before .head .ensures) _ _ (c .before .before .if1 .left) (omega (arith, c .before .if2 .left)) (c .if3 .taken)
 
-read-deep-line-end-requires : (t : ℕ) → read-deep-lts.Need-line-end-requires (
-  head-reads.Asked,
-  head-reads.Learnt,
-  line-end-reads.Asked,
-  line-end-reads.Learnt,
-  read-times-below t,
-  read-times.Post,
-  read-is-reads.Asked,
-  read-is-reads.Learnt,
-  put-row-reads.Asked,
-  put-row-reads.Learnt,
-) (read-deep-at t) read-deep.Post
-read-deep-line-end-requires t c κs = search needs
-
 read-deep-add-read-times : (t : ℕ) → read-deep-lts.Need-add-read-times (
+  fields-reads.Asked,
+  fields-reads.Learnt,
   head-reads.Asked,
   head-reads.Learnt,
-  line-end-reads.Asked,
-  line-end-reads.Learnt,
   read-times-below t,
   read-times.Post,
   read-is-reads.Asked,
@@ -129,10 +130,10 @@ read-deep-add-read-times : (t : ℕ) → read-deep-lts.Need-add-read-times (
 read-deep-add-read-times t c = search needs
 
 read-deep-add-read-times-2 : (t : ℕ) → read-deep-lts.Need-add-read-times-2 (
+  fields-reads.Asked,
+  fields-reads.Learnt,
   head-reads.Asked,
   head-reads.Learnt,
-  line-end-reads.Asked,
-  line-end-reads.Learnt,
   read-times-below t,
   read-times.Post,
   read-is-reads.Asked,
@@ -143,10 +144,10 @@ read-deep-add-read-times-2 : (t : ℕ) → read-deep-lts.Need-add-read-times-2 (
 read-deep-add-read-times-2 t c = search needs
 
 read-deep-sub-read-times : (t : ℕ) → read-deep-lts.Need-sub-read-times (
+  fields-reads.Asked,
+  fields-reads.Learnt,
   head-reads.Asked,
   head-reads.Learnt,
-  line-end-reads.Asked,
-  line-end-reads.Learnt,
   read-times-below t,
   read-times.Post,
   read-is-reads.Asked,
@@ -157,10 +158,10 @@ read-deep-sub-read-times : (t : ℕ) → read-deep-lts.Need-sub-read-times (
 read-deep-sub-read-times t c = search needs
 
 read-deep-read-times-requires : (t : ℕ) → read-deep-lts.Need-read-times-requires (
+  fields-reads.Asked,
+  fields-reads.Learnt,
   head-reads.Asked,
   head-reads.Learnt,
-  line-end-reads.Asked,
-  line-end-reads.Learnt,
   read-times-below t,
   read-times.Post,
   read-is-reads.Asked,
@@ -168,13 +169,13 @@ read-deep-read-times-requires : (t : ℕ) → read-deep-lts.Need-read-times-requ
   put-row-reads.Asked,
   put-row-reads.Learnt,
 ) (read-deep-at t) read-deep.Post
-read-deep-read-times-requires t c κs = (omega (arith, c .before .before .before .before .before .before .before .before .before .pre .0, c .before .before .if3 .left), (operands-position (c .before .before .before .before .before .before .before .before .before .pre .1 .0) (c .before .before .before .before .before .before .head .ensures) (c .before .before .before .before .if1 .left) (omega (arith, c .before .before .before .if2 .left)) (c .before .line-end .ensures), (omega (arith, c .before .before .before .before .before .before .before .before .before .pre .1 .1 .0), c .before .before .before .before .before .before .head .ensures 0 0 0 .small, c .before .before .before .before .before .before .before .before .before .pre .1 .1 .1)))
+read-deep-read-times-requires t c κs = (omega (arith, c .before .before .before .before .before .before .before .before .before .pre .0, c .before .if3 .left), (operands-position (c .before .before .before .before .before .before .before .before .before .pre .1 .0) (c .before .before .before .before .before .head .ensures) (c .before .before .before .if1 .left) (omega (arith, c .before .before .if2 .left)) (c .before .before .before .before .before .before .fields .ensures .next), (omega (arith, c .before .before .before .before .before .before .before .before .before .pre .1 .1 .0), c .before .before .before .before .before .head .ensures 0 0 0 .small, c .before .before .before .before .before .before .before .before .before .pre .1 .1 .1)))
 
 read-deep-enum-known-r : (t : ℕ) → read-deep-lts.Need-enum-known-r (
+  fields-reads.Asked,
+  fields-reads.Learnt,
   head-reads.Asked,
   head-reads.Learnt,
-  line-end-reads.Asked,
-  line-end-reads.Learnt,
   read-times-below t,
   read-times.Post,
   read-is-reads.Asked,
@@ -185,10 +186,10 @@ read-deep-enum-known-r : (t : ℕ) → read-deep-lts.Need-enum-known-r (
 read-deep-enum-known-r t c = search needs
 
 read-deep-enum-known-r-2 : (t : ℕ) → read-deep-lts.Need-enum-known-r-2 (
+  fields-reads.Asked,
+  fields-reads.Learnt,
   head-reads.Asked,
   head-reads.Learnt,
-  line-end-reads.Asked,
-  line-end-reads.Learnt,
   read-times-below t,
   read-times.Post,
   read-is-reads.Asked,
@@ -199,10 +200,10 @@ read-deep-enum-known-r-2 : (t : ℕ) → read-deep-lts.Need-enum-known-r-2 (
 read-deep-enum-known-r-2 t c = search needs
 
 read-deep-enum-known-r-3 : (t : ℕ) → read-deep-lts.Need-enum-known-r-3 (
+  fields-reads.Asked,
+  fields-reads.Learnt,
   head-reads.Asked,
   head-reads.Learnt,
-  line-end-reads.Asked,
-  line-end-reads.Learnt,
   read-times-below t,
   read-times.Post,
   read-is-reads.Asked,
@@ -213,10 +214,10 @@ read-deep-enum-known-r-3 : (t : ℕ) → read-deep-lts.Need-enum-known-r-3 (
 read-deep-enum-known-r-3 t c = search needs
 
 read-deep-read-is-requires : (t : ℕ) → read-deep-lts.Need-read-is-requires (
+  fields-reads.Asked,
+  fields-reads.Learnt,
   head-reads.Asked,
   head-reads.Learnt,
-  line-end-reads.Asked,
-  line-end-reads.Learnt,
   read-times-below t,
   read-times.Post,
   read-is-reads.Asked,
@@ -227,10 +228,10 @@ read-deep-read-is-requires : (t : ℕ) → read-deep-lts.Need-read-is-requires (
 read-deep-read-is-requires t c κs = let w = (given-done _ _ _ _ _ _ 0 _ _ _ (c .before .before .before .before .before .before .before .before .read-times .ensures 0) (c .before .before .before .before .r3 .given .1)) in (w .position, (omega (arith, w .more), rows-length (w .holds) ∙ c .before .before .before .before .before .before .before .before .before .before .before .before .before .before .before .before .before .before .pre .1 .1 .1))
 
 read-deep-same-length : (t : ℕ) → read-deep-lts.Need-same-length (
+  fields-reads.Asked,
+  fields-reads.Learnt,
   head-reads.Asked,
   head-reads.Learnt,
-  line-end-reads.Asked,
-  line-end-reads.Learnt,
   read-times-below t,
   read-times.Post,
   read-is-reads.Asked,
@@ -241,10 +242,10 @@ read-deep-same-length : (t : ℕ) → read-deep-lts.Need-same-length (
 read-deep-same-length t c = search needs
 
 read-deep-returns-4 : (t : ℕ) → read-deep-lts.Need-returns-4 (
+  fields-reads.Asked,
+  fields-reads.Learnt,
   head-reads.Asked,
   head-reads.Learnt,
-  line-end-reads.Asked,
-  line-end-reads.Learnt,
   read-times-below t,
   read-times.Post,
   read-is-reads.Asked,
@@ -252,13 +253,13 @@ read-deep-returns-4 : (t : ℕ) → read-deep-lts.Need-returns-4 (
   put-row-reads.Asked,
   put-row-reads.Learnt,
 ) (read-deep-at t) read-deep.Post
-read-deep-returns-4 t c = λ k. deep-is _ _ _ k (c .before .before .before .before .before .before .before .before .before .before .before .before .before .before .before .before .before .before .head .ensures) _ (c .before .before .before .before .before .before .before .before .before .before .before .before .before .before .before .before .if1 .left) (omega (arith, c .before .before .before .before .before .before .before .before .before .before .before .before .before .before .before .if2 .left)) (c .before .before .before .before .before .before .before .before .before .before .before .before .before .before .if3 .left) (c .before .before .before .before .before .before .before .before .before .before .before .before .before .line-end .ensures) _ _ (c .before .before .before .before .before .before .before .before .before .before .before .read-times .ensures k) _ _ _ (c .before .before .before .before .before .before .before .r3 .given .1) (c .before .before .before .before .if4 .taken) _ _ (c .before .before .read-is .ensures k)
+read-deep-returns-4 t c = λ k. deep-is _ _ _ k (c .before .before .before .before .before .before .before .before .before .before .before .before .before .before .before .before .before .head .ensures) _ (c .before .before .before .before .before .before .before .before .before .before .before .before .before .before .before .if1 .left) (omega (arith, c .before .before .before .before .before .before .before .before .before .before .before .before .before .before .if2 .left)) (c .before .before .before .before .before .before .before .before .before .before .before .before .before .if3 .left) (c .before .before .before .before .before .before .before .before .before .before .before .before .before .before .before .before .before .before .fields .ensures .next) _ _ (c .before .before .before .before .before .before .before .before .before .before .before .read-times .ensures k) _ _ _ (c .before .before .before .before .before .before .before .r3 .given .1) (c .before .before .before .before .if4 .taken) _ _ (c .before .before .read-is .ensures k)
 
 read-deep-sub-put-row : (t : ℕ) → read-deep-lts.Need-sub-put-row (
+  fields-reads.Asked,
+  fields-reads.Learnt,
   head-reads.Asked,
   head-reads.Learnt,
-  line-end-reads.Asked,
-  line-end-reads.Learnt,
   read-times-below t,
   read-times.Post,
   read-is-reads.Asked,
@@ -269,10 +270,10 @@ read-deep-sub-put-row : (t : ℕ) → read-deep-lts.Need-sub-put-row (
 read-deep-sub-put-row t c = let w = (given-done _ _ _ _ _ _ 0 _ _ _ (c .before .before .before .before .before .before .before .before .read-times .ensures 0) (c .before .before .before .before .r3 .given .1)) in omega (arith, w .more)
 
 read-deep-put-row-requires : (t : ℕ) → read-deep-lts.Need-put-row-requires (
+  fields-reads.Asked,
+  fields-reads.Learnt,
   head-reads.Asked,
   head-reads.Learnt,
-  line-end-reads.Asked,
-  line-end-reads.Learnt,
   read-times-below t,
   read-times.Post,
   read-is-reads.Asked,
@@ -280,13 +281,13 @@ read-deep-put-row-requires : (t : ℕ) → read-deep-lts.Need-put-row-requires (
   put-row-reads.Asked,
   put-row-reads.Learnt,
 ) (read-deep-at t) read-deep.Post
-read-deep-put-row-requires t c κs = let w = (given-done _ _ _ _ _ _ 0 _ _ _ (c .before .before .before .before .before .before .before .before .read-times .ensures 0) (c .before .before .before .before .r3 .given .1)) in (omega (arith, c .before .before .before .before .before .before .before .before .before .before .before .before .if2 .left), rows-length (w .holds) ∙ c .before .before .before .before .before .before .before .before .before .before .before .before .before .before .before .before .before .before .pre .1 .1 .1)
+read-deep-put-row-requires t c κs = let w = (given-done _ _ _ _ _ _ 0 _ _ _ (c .before .before .before .before .before .before .before .before .read-times .ensures 0) (c .before .before .before .before .r3 .given .1)) in (omega (arith, c .before .before .before .before .before .before .before .before .before .before .before .if2 .left), rows-length (w .holds) ∙ c .before .before .before .before .before .before .before .before .before .before .before .before .before .before .before .before .before .before .pre .1 .1 .1)
 
 read-deep-same-length-2 : (t : ℕ) → read-deep-lts.Need-same-length-2 (
+  fields-reads.Asked,
+  fields-reads.Learnt,
   head-reads.Asked,
   head-reads.Learnt,
-  line-end-reads.Asked,
-  line-end-reads.Learnt,
   read-times-below t,
   read-times.Post,
   read-is-reads.Asked,
@@ -297,10 +298,10 @@ read-deep-same-length-2 : (t : ℕ) → read-deep-lts.Need-same-length-2 (
 read-deep-same-length-2 t c = search needs
 
 read-deep-returns-5 : (t : ℕ) → read-deep-lts.Need-returns-5 (
+  fields-reads.Asked,
+  fields-reads.Learnt,
   head-reads.Asked,
   head-reads.Learnt,
-  line-end-reads.Asked,
-  line-end-reads.Learnt,
   read-times-below t,
   read-times.Post,
   read-is-reads.Asked,
@@ -308,13 +309,13 @@ read-deep-returns-5 : (t : ℕ) → read-deep-lts.Need-returns-5 (
   put-row-reads.Asked,
   put-row-reads.Learnt,
 ) (read-deep-at t) read-deep.Post
-read-deep-returns-5 t c = λ k. operands-wrong _ _ _ k (c .before .before .before .before .before .before .before .before .before .before .before .before .head .ensures) _ _ (c .before .before .before .before .before .before .before .before .before .before .if1 .left) (omega (arith, c .before .before .before .before .before .before .before .before .before .if2 .left)) (c .before .before .before .before .before .before .before .before .if3 .left) (c .before .before .before .before .before .before .before .line-end .ensures) _ (c .before .before .before .before .before .read-times .ensures k) _ (c .before .r .given .1)
+read-deep-returns-5 t c = λ k. operands-wrong _ _ _ k (c .before .before .before .before .before .before .before .before .before .before .before .head .ensures) _ _ (c .before .before .before .before .before .before .before .before .before .if1 .left) (omega (arith, c .before .before .before .before .before .before .before .before .if2 .left)) (c .before .before .before .before .before .before .before .if3 .left) (c .before .before .before .before .before .before .before .before .before .before .before .before .fields .ensures .next) _ (c .before .before .before .before .before .read-times .ensures k) _ (c .before .r .given .1)
 
 read-deep-same-length-3 : (t : ℕ) → read-deep-lts.Need-same-length-3 (
+  fields-reads.Asked,
+  fields-reads.Learnt,
   head-reads.Asked,
   head-reads.Learnt,
-  line-end-reads.Asked,
-  line-end-reads.Learnt,
   read-times-below t,
   read-times.Post,
   read-is-reads.Asked,
@@ -325,10 +326,10 @@ read-deep-same-length-3 : (t : ℕ) → read-deep-lts.Need-same-length-3 (
 read-deep-same-length-3 t c = search needs
 
 read-deep-returns-6 : (t : ℕ) → read-deep-lts.Need-returns-6 (
+  fields-reads.Asked,
+  fields-reads.Learnt,
   head-reads.Asked,
   head-reads.Learnt,
-  line-end-reads.Asked,
-  line-end-reads.Learnt,
   read-times-below t,
   read-times.Post,
   read-is-reads.Asked,
@@ -336,13 +337,13 @@ read-deep-returns-6 : (t : ℕ) → read-deep-lts.Need-returns-6 (
   put-row-reads.Asked,
   put-row-reads.Learnt,
 ) (read-deep-at t) read-deep.Post
-read-deep-returns-6 t c = λ k. operands-limit _ _ _ k (c .before .before .before .before .before .before .before .before .before .before .before .before .head .ensures) _ _ (c .before .before .before .before .before .before .before .before .before .before .if1 .left) (omega (arith, c .before .before .before .before .before .before .before .before .before .if2 .left)) (c .before .before .before .before .before .before .before .before .if3 .left) (c .before .before .before .before .before .before .before .line-end .ensures) _ (c .before .before .before .before .before .read-times .ensures k) _ (c .before .r2 .given .1)
+read-deep-returns-6 t c = λ k. operands-limit _ _ _ k (c .before .before .before .before .before .before .before .before .before .before .before .head .ensures) _ _ (c .before .before .before .before .before .before .before .before .before .if1 .left) (omega (arith, c .before .before .before .before .before .before .before .before .if2 .left)) (c .before .before .before .before .before .before .before .if3 .left) (c .before .before .before .before .before .before .before .before .before .before .before .before .fields .ensures .next) _ (c .before .before .before .before .before .read-times .ensures k) _ (c .before .r2 .given .1)
 
 read-deep-same-length-4 : (t : ℕ) → read-deep-lts.Need-same-length-4 (
+  fields-reads.Asked,
+  fields-reads.Learnt,
   head-reads.Asked,
   head-reads.Learnt,
-  line-end-reads.Asked,
-  line-end-reads.Learnt,
   read-times-below t,
   read-times.Post,
   read-is-reads.Asked,
@@ -353,10 +354,10 @@ read-deep-same-length-4 : (t : ℕ) → read-deep-lts.Need-same-length-4 (
 read-deep-same-length-4 t c = search needs
 
 read-deep-returns-7 : (t : ℕ) → read-deep-lts.Need-returns-7 (
+  fields-reads.Asked,
+  fields-reads.Learnt,
   head-reads.Asked,
   head-reads.Learnt,
-  line-end-reads.Asked,
-  line-end-reads.Learnt,
   read-times-below t,
   read-times.Post,
   read-is-reads.Asked,
@@ -364,7 +365,7 @@ read-deep-returns-7 : (t : ℕ) → read-deep-lts.Need-returns-7 (
   put-row-reads.Asked,
   put-row-reads.Learnt,
 ) (read-deep-at t) read-deep.Post
-read-deep-returns-7 t c = λ k. deep-done _ _ _ k (c .before .before .before .before .before .before .before .before .before .before .before .before .before .before .before .before .before .before .head .ensures) _ (c .before .before .before .before .before .before .before .before .before .before .before .before .before .before .before .before .if1 .left) (omega (arith, c .before .before .before .before .before .before .before .before .before .before .before .before .before .before .before .if2 .left)) (c .before .before .before .before .before .before .before .before .before .before .before .before .before .before .if3 .left) (c .before .before .before .before .before .before .before .before .before .before .before .before .before .line-end .ensures) _ _ (c .before .before .before .before .before .before .before .before .before .before .before .read-times .ensures k) _ _ _ (c .before .before .before .before .before .before .before .r3 .given .1) _ (c .before .before .before .before .if4 .left) (c .before .before .put-row .ensures)
+read-deep-returns-7 t c = λ k. deep-done _ _ _ k (c .before .before .before .before .before .before .before .before .before .before .before .before .before .before .before .before .before .head .ensures) _ (c .before .before .before .before .before .before .before .before .before .before .before .before .before .before .before .if1 .left) (omega (arith, c .before .before .before .before .before .before .before .before .before .before .before .before .before .before .if2 .left)) (c .before .before .before .before .before .before .before .before .before .before .before .before .before .if3 .left) (c .before .before .before .before .before .before .before .before .before .before .before .before .before .before .before .before .before .before .fields .ensures .next) _ _ (c .before .before .before .before .before .before .before .before .before .before .before .read-times .ensures k) _ _ _ (c .before .before .before .before .before .before .before .r3 .given .1) _ (c .before .before .before .before .if4 .left) (c .before .before .put-row .ensures)
 
 abbrev read-times-Inv-loop : read-times-lts.InvT-loop
 read-times-Inv-loop t p l c depth n cells₀ q₀ m₀ d₀ left₀ cells q m d left = (k : ℕ) → Loop t (deep depth) depth n p l c cells₀ k q m d left cells
@@ -478,10 +479,10 @@ read-times-returns-3 t c = λ k. loop-end (c .before .loop .inv k) (c .loop-test
 
 pub +read-deep+read-times-spec : {M : Type 1} → statement M
 +read-deep+read-times-spec = close μ-read-deep μ-read-times (λ t. read-deep-lts.spec (
+  fields-reads.Asked,
+  fields-reads.Learnt,
   head-reads.Asked,
   head-reads.Learnt,
-  line-end-reads.Asked,
-  line-end-reads.Learnt,
   read-times-below t,
   read-times.Post,
   read-is-reads.Asked,
@@ -491,11 +492,11 @@ pub +read-deep+read-times-spec : {M : Type 1} → statement M
 )
     (read-deep-at t)
     read-deep.Post
+    (read-deep-fields-requires t)
     (read-deep-head-requires t)
     (read-deep-returns t)
     (read-deep-returns-2 t)
     (read-deep-returns-3 t)
-    (read-deep-line-end-requires t)
     (read-deep-add-read-times t)
     (read-deep-add-read-times-2 t)
     (read-deep-sub-read-times t)
