@@ -14,7 +14,8 @@ use Rattle.rules.specs.Schema.{Value, null, bool, int, float, text}
 use Rattle.rules.specs.Equality.{spellValue}
 use Rattle.ast.specs.Table.{isOne, integerAt, valueAt}
 use Rattle.ast.specs.Codes.{orLeast, countFrom, coded-map, coded-least, coded-at, least-kept}
-use Rattle.ast.proofs.Spelling.{no-true, same-true, same-self, valueKind, value-kind, meet}
+use Rattle.text.specs.Order.{same-true, same-self}
+use Rattle.ast.proofs.Spelling.{no-true, valueKind, value-kind, meet}
 
 module _ (c q : Bytes) where
   value-code : (k a b : ℕ) → valueKind (valueAt c q k a b) ≡ orLeast 1 5 k

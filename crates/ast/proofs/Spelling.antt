@@ -13,6 +13,7 @@ use Rattle.rules.specs.Lists.{Bytes, same, sameAll}
 use Rattle.rules.specs.Schema.{Value, null, bool, int, float, text}
 use Rattle.rules.specs.Ast.{Unary, not, fact, ident, neg, sqrt, and, or, eq, gt, lt, add, div, pow, mul, rem, sub, like, Binary, plain, ge, le, ne, Expr, star, column, literal, call, unary, binary, is, Exprs, nil, cons}
 use Rattle.rules.specs.Equality.{Spelling, unaryCode, plainCode, binaryCode, spellValue, spell, spellAll, equal}
+use Rattle.text.specs.Order.{same-true, same-self}
 use Rattle.ast.specs.Table.{coded}
 use Rattle.ast.specs.Operands.{kindOf}
 
@@ -31,18 +32,6 @@ both false c e = absurd (never e)
 pub meet : (x y : Bool) → elim x [ true ↦ y | false ↦ false ] ≡ (x && y)
 meet true y = refl
 meet false y = refl
-
-pub same-true : (xs ys : Bytes) → same xs ys ≡ true → xs ≡ ys
-unfolding same
-same-true [] [] e = refl
-same-true [] (y ∷ ys) e = absurd (never e)
-same-true (x ∷ xs) [] e = absurd (never e)
-same-true (x ∷ xs) (y ∷ ys) e = let h = eqb-true x y (both (eqb x y) (same xs ys) e .0) in let t = same-true xs ys (both (eqb x y) (same xs ys) e .1) in cc
-
-pub same-self : (xs : Bytes) → same xs xs ≡ true
-unfolding same
-same-self [] = refl
-same-self (x ∷ xs) = rw (eq-eqb x x refl, same) (same-self xs)
 
 same-all-true : (xs ys : Spelling) → sameAll xs ys ≡ true → xs ≡ ys
 unfolding sameAll

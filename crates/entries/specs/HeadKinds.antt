@@ -5,14 +5,13 @@ use mathlib.Core.Path.{_≡_, refl, sym, ap, _∙_}
 use mathlib.Core.Bool.{Bool, true, false}
 use mathlib.Core.List.{List, [], _∷_}
 use mathlib.Core.Option.{Option, none}
-use lib.Dec.{eqb}
 use lib.ListN.{length, getD, take, drop}
-use borrow.Author.Tests.{eqb-true, eq-eqb}
 use Rattle.rules.specs.Refusals.{statement}
 use Rattle.rules.specs.Lists.{Bytes, same}
 use Rattle.rules.specs.Lines.{Word, bytes}
 use Rattle.rules.specs.Reader.{at}
 use Rattle.text.specs.Lines.{Fields}
+use Rattle.text.specs.Order.{same-true, same-self}
 use Rattle.text.specs.Words.{find, wordsOf, push}
 use Rattle.text.specs.Reading.{at-is}
 use Rattle.text.specs.declared.Line.{Line}
@@ -23,25 +22,6 @@ use Rattle.entries.specs.HeadFields.{SaidHere, clauseFields, said-as, sa
 use Rattle.entries.specs.declared.Head.{Head}
 
 -- KEYWORDS
-never : false ≡ true → ⊥
-never e = let z : _≡_ {A = ℕ} 0 1 = cc in omega arith
-
-same-true : (xs ys : Bytes) → same xs ys ≡ true → xs ≡ ys
-unfolding same
-same-true [] [] e = refl
-same-true [] (y ∷ ys) e = absurd (never e)
-same-true (x ∷ xs) [] e = absurd (never e)
-same-true (x ∷ xs) (y ∷ ys) e = go (eqb x y) refl e (same-true xs ys)
-  where
-    go : (b : Bool) → eqb x y ≡ b → elim b [ true ↦ same xs ys | false ↦ false ] ≡ true → (same xs ys ≡ true → xs ≡ ys) → x ∷ xs ≡ y ∷ ys
-    go true h s ih = let f = eqb-true x y h in let t = ih s in cc
-    go false h s ih = absurd (never s)
-
-same-self : (xs : Bytes) → same xs xs ≡ true
-unfolding same
-same-self [] = refl
-same-self (x ∷ xs) = rw (same, eq-eqb x x refl) (same-self xs)
-
 -- the word that was found
 found : (ws : List Bytes) (k : Bytes) (n : ℕ) → n ≡ find ws k → n < length ws → getD ws n [] ≡ k
 unfolding find

@@ -27,7 +27,7 @@ const WRONG: u32 = 1;
 
 const FITS: u32 = 2;
 
-// a and b are the address and the length of its name, c and d those of its reference. State 0: no record of the kind stands there, 1: its fields do not fit, 2: it says these numbers.
+// What a record says, by its state: a and b are the address and the length of its name, c and d those of its reference.
 pub struct Head {
     pub state: u32,
     pub expressions: u32,

@@ -22,8 +22,7 @@ use Rattle.text.specs.declared.Line.{Line}
 use Rattle.ast.specs.Says.{Inside}
 use Rattle.ast.specs.Heads.{field-length, field-fits}
 use Rattle.ast.specs.Reading.{here}
-use Rattle.ast.specs.Names.{flagNumber}
-use Rattle.ast.specs.Names.{nameNumbers, NameFits}
+use Rattle.ast.specs.Names.{flagNumber, nameNumbers, NameFits}
 use Rattle.from.specs.Records.{joinNumber, tableFields, joinFields, fromNumbers, FromFits, numbersOf, FromSays}
 use Rattle.from.specs.declared.record.FromRecord.{FromRecord}
 

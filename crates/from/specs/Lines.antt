@@ -14,6 +14,7 @@ use Rattle.rules.specs.Lines as rules
 use Rattle.rules.specs.Ast.{Join}
 use Rattle.rules.specs.Reader.{baseAddress, lineHere, keyOf, restOf, apply, oneOf, word, both, twoFields, nameAlias}
 use Rattle.rules.specs.ReadStatement.{FromHead, tableHead, joinHead, joins, predicates, fromHeads}
+use Rattle.text.specs.Order.{same-true}
 use Rattle.text.specs.Lines.{lineEnd}
 use Rattle.text.specs.Reading.{place-line}
 use Rattle.ast.specs.Reading.{here}
@@ -113,15 +114,7 @@ bytes-of o xs h = go (closed xs) refl
 
 -- WORDS OF A TABLE
 same-length : (x y : Bytes) → same x y ≡ true → length x ≡ length y
-unfolding same
-same-length [] [] e = refl
-same-length [] (y ∷ ys) e = absurd (let z : _≡_ {A = ℕ} 0 1 = cc in omega arith)
-same-length (x ∷ xs) [] e = absurd (let z : _≡_ {A = ℕ} 0 1 = cc in omega arith)
-same-length (x ∷ xs) (y ∷ ys) e = go (eqb x y) refl (same-length xs ys)
-  where
-    go : (b : Bool) → eqb x y ≡ b → (same xs ys ≡ true → length xs ≡ length ys) → length (x ∷ xs) ≡ length (y ∷ ys)
-    go true h rec = ap suc (rec (rw (same, h) at e))
-    go false h rec = absurd (let y : false ≡ true = (rw (same, h) at e) in let z : _≡_ {A = ℕ} 0 1 = cc in omega arith)
+same-length x y e = ap length (same-true x y e)
 
 -- each word has n bytes at least
 unfoldable Least : {A : Type 0} → ℕ → List (Bytes × A) → Type 0

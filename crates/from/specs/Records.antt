@@ -11,8 +11,7 @@ use Rattle.rules.specs.Ast.{Join, cross, inner, left, right}
 use Rattle.rules.specs.Reader.{word, twoFields, nameAlias}
 use Rattle.rules.specs.ReadStatement.{FromHead, tableHead, joinHead, joins, predicates}
 use Rattle.ast.specs.Fits.{WordFits}
-use Rattle.ast.specs.Names.{flagNumber}
-use Rattle.ast.specs.Names.{nameNumbers, NameFits}
+use Rattle.ast.specs.Names.{flagNumber, nameNumbers, NameFits}
 use Rattle.from.specs.declared.record.FromRecord.{FromRecord}
 
 -- the kind of a join's row

@@ -12,9 +12,7 @@ use Rattle.rules.specs.Places.{wordAt}
 use Rattle.rules.specs.Ast.{Join}
 use Rattle.rules.specs.ReadStatement.{FromHead, tableHead, joinHead}
 use Rattle.ast.specs.Fits.{WordFits}
-use Rattle.ast.specs.Names.{flagNumber}
-use Rattle.ast.specs.Names.{nameNumbers, NameFits}
-use Rattle.ast.specs.Names.{nameAt}
+use Rattle.ast.specs.Names.{flagNumber, nameNumbers, NameFits, nameAt}
 use Rattle.from.specs.Records.{joinNumber, fromNumbers, FromFits, numbersOf, FromSays}
 use Rattle.from.specs.Stack.{join-small}
 use Rattle.from.specs.declared.record.FromRecord.{FromRecord}

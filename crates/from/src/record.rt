@@ -17,7 +17,8 @@ ghost use Rattle.from.specs.Records.{tableFields, joinFields, FromSays};
 // The kind of a table's row; those of joins are 2 to 5, and 0 stands for a wrong record.
 pub const TABLE: u32 = 1;
 
-// A FROM record: its kind, whether a predicate follows a join (1), the table's address and length, the alias's (0 0 where there is none), and the position behind it.
+// A FROM record: its kind, whether a predicate follows a join (1), the table's address and length in a and b, the alias's in c and d
+// (0 0 where there is none), and the position behind it.
 pub struct FromRecord {
     pub kind: u32,
     pub on: u32,

@@ -13,7 +13,8 @@ use statement::CELL_NUMBERS;
 use statement::FROM_NUMBERS;
 use statement::PART_NUMBERS;
 
-// Document 01's number of a refusal, its text (1 catalog, 2 statement) and line; or 0, and the statement's kind, how many expression cells it has and how many tables the catalog has.
+// Document 01's number of a refusal, its text (1 catalog, 2 statement) and line; or 0, and the statement's kind, how many
+// expression cells it has and how many tables the catalog has.
 #[repr(C)]
 pub struct Answer {
     pub number: u32,

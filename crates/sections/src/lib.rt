@@ -41,7 +41,8 @@ const ONCE: [bool; 12] = [
 // How many numbers an entry has.
 const ENTRY_SIZE: usize = 12;
 
-// One entry: read, with the position behind it, its line, the rows so far, and its name's address and length; or none stands there, or 2 or 3 at a line.
+// One entry: read, with the position behind it, its line, the rows so far, and its name's address and length; or none stands
+// there, or 2 or 3 at a line.
 enum Step {
     Entry(usize, u32, u32, u32, u32),
     End,

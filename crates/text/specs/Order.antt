@@ -7,7 +7,7 @@ use mathlib.Core.Bool.{Bool, true, false}
 use mathlib.Core.List.{[], _∷_}
 use lib.Dec.{eqb}
 use lib.ListN.{length, getD, drop, drop-of-length-le}
-use borrow.Author.Tests.{eq-eqb, ne-eqb, lt-ltb, le-ltb}
+use borrow.Author.Tests.{eqb-true, eq-eqb, ne-eqb, lt-ltb, le-ltb}
 use Rattle.rules.specs.Lists.{Bytes, same, before}
 use Rattle.text.specs.Bytes.{step}
 use Rattle.text.specs.declared.Order.{Order}
@@ -21,6 +21,26 @@ orderBy false false = After
 
 unfoldable pub orderOf : Bytes → Bytes → Order
 orderOf x y = orderBy (before x y) (same x y)
+
+-- EQUALITY
+never : false ≡ true → ⊥
+never e = let z : _≡_ {A = ℕ} 0 1 = cc in omega arith
+
+pub same-true : (xs ys : Bytes) → same xs ys ≡ true → xs ≡ ys
+unfolding same
+same-true [] [] e = refl
+same-true [] (y ∷ ys) e = absurd (never e)
+same-true (x ∷ xs) [] e = absurd (never e)
+same-true (x ∷ xs) (y ∷ ys) e = go (eqb x y) refl e (same-true xs ys)
+  where
+    go : (b : Bool) → eqb x y ≡ b → elim b [ true ↦ same xs ys | false ↦ false ] ≡ true → (same xs ys ≡ true → xs ≡ ys) → x ∷ xs ≡ y ∷ ys
+    go true h s ih = let f = eqb-true x y h in let t = ih s in cc
+    go false h s ih = absurd (never s)
+
+pub same-self : (xs : Bytes) → same xs xs ≡ true
+unfolding same
+same-self [] = refl
+same-self (x ∷ xs) = rw (same, eq-eqb x x refl) (same-self xs)
 
 -- THE FIRST BYTES
 module _ (x y : ℕ) (xs ys : Bytes) where
