@@ -7,11 +7,10 @@ use mathlib.Core.List.{List}
 use borrow.Author.Tests.{eqb-true}
 use Rattle.rules.specs.Lists.{Bytes}
 use Rattle.rules.specs.Ast.{Expr}
-use Rattle.rules.specs.Equality.{equal}
+use Rattle.rules.specs.Equality.{equal, equalAll}
 use Rattle.ast.specs.Table.{rowsAt, argumentsAt, treeAt}
 use Rattle.ast.specs.Operands.{operandsAt, tree-deep, arguments-none, arguments-more}
-use Rattle.ast.proofs.Spelling.{never}
-use Rattle.ast.proofs.Equal.{equalAll, stars, equal-at}
+use Rattle.ast.proofs.Equal.{stars, equal-at}
 use Rattle.ast.proofs.Roots.{stars-count}
 
 -- equal roots have as many operands
@@ -21,7 +20,7 @@ same-operands c q t i j h = eqb-true _ _ (sym (stars-count c q t i j (operandsAt
   where
     other : (x y : Bool) → x ≡ (x && y) → x ≡ true → y ≡ true
     other true y e h = sym e
-    other false y e h = absurd (never h)
+    other false y e h = cc
 
 -- trees cut to nothing are equal
 pub equal-cut : (c q : Bytes) (t : List ℕ) (d i j : ℕ) → d ≡ 0 → equal (treeAt c q t d i) (treeAt c q t d j) ≡ true
@@ -40,13 +39,13 @@ module _ (c q : Bytes) (t : List ℕ) (d i j : ℕ) (ne : d ≡ 0 → ⊥) where
 
 module _ (f : ℕ → Expr) (t : List ℕ) (n p r : ℕ) where
   pub equal-end : n ≤ 0 → equalAll (argumentsAt f t n p) (argumentsAt f t n r) ≡ true
-  unfolding equalAll
+  unfolding equal
   equal-end h = rw (arguments-none f t n p h, arguments-none f t n r h)
 
   pub equal-more : 0 < n → equal (f p) (f r) ≡ true → equalAll (argumentsAt f t (n - 1) (p + rowsAt t p)) (argumentsAt f t (n - 1) (r + rowsAt t r)) ≡ equalAll (argumentsAt f t n p) (argumentsAt f t n r)
-  unfolding equalAll
+  unfolding equal
   equal-more h e = rw (arguments-more f t n p h, arguments-more f t n r h, e)
 
   pub equal-stop : 0 < n → equal (f p) (f r) ≡ false → equalAll (argumentsAt f t n p) (argumentsAt f t n r) ≡ false
-  unfolding equalAll
+  unfolding equal
   equal-stop h e = rw (arguments-more f t n p h, arguments-more f t n r h, e)

@@ -1,5 +1,4 @@
 -- Laws that the proofs of several functions use.
-mod Spelling
 mod Equal
 mod Literals
 mod Roots

@@ -2,7 +2,7 @@
 use Prim.Native.Nat.{ℕ, suc, _+_, _*_, _-_, _^_, _<_}
 use native.Mathlib.Omega.{arith}
 use mathlib.Core.Path.{_≡_, refl, sym, ap, _∙_}
-use mathlib.Core.Bool.{Bool, true, false, not, and-true}
+use mathlib.Core.Bool.{Bool, true, false, not}
 use mathlib.Core.List.{List, headD}
 use lib.Dec.{eqb, ltb}
 use lib.IntN.{ℤ, pos, negsuc}
@@ -11,11 +11,32 @@ use borrow.Author.Tests.{eqb-true, eqb-false, eq-eqb, ne-eqb}
 use Rattle.rules.specs.Lists.{Bytes, same}
 use Rattle.rules.specs.Places.{wordAt}
 use Rattle.rules.specs.Schema.{Value, null, bool, int, float, text}
-use Rattle.rules.specs.Equality.{spellValue}
+use Rattle.rules.specs.Equality.{contents, sameValue}
 use Rattle.ast.specs.Table.{isOne, integerAt, valueAt}
 use Rattle.ast.specs.Codes.{orLeast, countFrom, coded-map, coded-least, coded-at, least-kept}
 use Rattle.text.specs.Order.{same-true, same-self}
-use Rattle.ast.proofs.Spelling.{no-true, valueKind, value-kind, meet}
+
+no-true : (b : Bool) → (b ≡ true → ⊥) → b ≡ false
+no-true true h = absurd (h refl)
+no-true false h = refl
+
+-- a literal's kind, by the table's numbers, is the first number of its contents
+unfoldable valueKind : Value → ℕ
+valueKind null = 1
+valueKind (bool b) = 2
+valueKind (int n) = 3
+valueKind (float b) = 4
+valueKind (text w) = 5
+
+value-kind : (v : Value) → headD (contents v) 0 ≡ valueKind v
+unfolding contents valueKind headD
+value-kind null = refl
+value-kind (bool true) = refl
+value-kind (bool false) = refl
+value-kind (int (pos n)) = refl
+value-kind (int (negsuc n)) = refl
+value-kind (float b) = refl
+value-kind (text w) = refl
 
 module _ (c q : Bytes) where
   value-code : (k a b : ℕ) → valueKind (valueAt c q k a b) ≡ orLeast 1 5 k
@@ -23,10 +44,11 @@ module _ (c q : Bytes) where
   value-code k a b = coded-map valueKind _ _ 1 k ∙ coded-least 4 1 k
 
   -- of two kinds
-  pub values-apart : (k a b l x y : ℕ) → (orLeast 1 5 k ≡ orLeast 1 5 l → ⊥) → same (spellValue (valueAt c q k a b)) (spellValue (valueAt c q l x y)) ≡ false
+  pub values-apart : (k a b l x y : ℕ) → (orLeast 1 5 k ≡ orLeast 1 5 l → ⊥) → sameValue (valueAt c q k a b) (valueAt c q l x y) ≡ false
+  unfolding sameValue
   values-apart k a b l x y h = no-true _ (λ e. h (sym (kind-of k a b) ∙ ap (λ (r : List ℕ). headD r 0) (same-true _ _ e) ∙ kind-of l x y))
     where
-      kind-of : (k a b : ℕ) → headD (spellValue (valueAt c q k a b)) 0 ≡ orLeast 1 5 k
+      kind-of : (k a b : ℕ) → headD (contents (valueAt c q k a b)) 0 ≡ orLeast 1 5 k
       kind-of k a b = value-kind (valueAt c q k a b) ∙ value-code k a b
 
   -- of one
@@ -44,7 +66,8 @@ module _ (c q : Bytes) where
   value-null : (k a b v : ℕ) → orLeast 1 5 k ≡ v → (v ≡ 2 → ⊥) → (v ≡ 3 → ⊥) → (v ≡ 4 → ⊥) → (v ≡ 5 → ⊥) → valueAt c q k a b ≡ null
   value-null k a b v e = rw (← e, ← value-code k a b) (null-only (valueAt c q k a b))
 
-  pub both-null : (k a b l x y v : ℕ) → orLeast 1 5 k ≡ v → orLeast 1 5 l ≡ v → (v ≡ 2 → ⊥) → (v ≡ 3 → ⊥) → (v ≡ 4 → ⊥) → (v ≡ 5 → ⊥) → same (spellValue (valueAt c q k a b)) (spellValue (valueAt c q l x y)) ≡ true
+  pub both-null : (k a b l x y v : ℕ) → orLeast 1 5 k ≡ v → orLeast 1 5 l ≡ v → (v ≡ 2 → ⊥) → (v ≡ 3 → ⊥) → (v ≡ 4 → ⊥) → (v ≡ 5 → ⊥) → sameValue (valueAt c q k a b) (valueAt c q l x y) ≡ true
+  unfolding sameValue
   both-null k a b l x y v hk hl n2 n3 n4 n5 = rw (value-null k a b v hk n2 n3 n4 n5, value-null l x y v hl n2 n3 n4 n5) (same-self _)
 
   pub value-bool : (k a b : ℕ) → orLeast 1 5 k ≡ 2 → valueAt c q k a b ≡ bool (isOne a)
@@ -64,18 +87,18 @@ module _ (c q : Bytes) where
   value-text k a b h = coded-at _ _ 4 1 k (number k 3 h)
 
 -- BOOLEANS
-bools : (b d : Bool) → same (spellValue (bool b)) (spellValue (bool d)) ≡ elim b [ true ↦ d | false ↦ not d ]
-unfolding spellValue same
+bools : (b d : Bool) → sameValue (bool b) (bool d) ≡ elim b [ true ↦ d | false ↦ not d ]
+unfolding sameValue contents same
 bools true true = refl
 bools true false = refl
 bools false true = refl
 bools false false = refl
 
-pub bool-one : (a x : ℕ) → a ≡ 1 → same (spellValue (bool (isOne a))) (spellValue (bool (isOne x))) ≡ eqb x 1
+pub bool-one : (a x : ℕ) → a ≡ 1 → sameValue (bool (isOne a)) (bool (isOne x)) ≡ eqb x 1
 unfolding isOne
 bool-one a x h = rw (eq-eqb a 1 h) (bools true (eqb x 1))
 
-pub bool-other : (a x : ℕ) → (a ≡ 1 → ⊥) → same (spellValue (bool (isOne a))) (spellValue (bool (isOne x))) ≡ not (eqb x 1)
+pub bool-other : (a x : ℕ) → (a ≡ 1 → ⊥) → sameValue (bool (isOne a)) (bool (isOne x)) ≡ not (eqb x 1)
 unfolding isOne
 bool-other a x h = rw (ne-eqb a 1 h) (bools false (eqb x 1))
 
@@ -93,32 +116,37 @@ bits-at a b h = pick (ltb (a + b * 2 ^ 32) (2 ^ 63)) refl
     pick true e = refl
     pick false e = omega arith
 
--- the same of a spelling
-unfoldable bitsSpelled : List ℕ → ℕ
-bitsSpelled r = elim (eqb (getD r 1 0) 0) [ true ↦ getD r 2 0 | false ↦ 2 ^ 64 - suc (getD r 2 0) ]
+-- the same of its contents
+unfoldable bitsIn : List ℕ → ℕ
+bitsIn r = elim (eqb (getD r 1 0) 0) [ true ↦ getD r 2 0 | false ↦ 2 ^ 64 - suc (getD r 2 0) ]
 
-bits-spelled : (z : ℤ) → bitsSpelled (spellValue (int z)) ≡ bitsOf z
-unfolding bitsSpelled spellValue bitsOf
-bits-spelled (pos n) = refl
-bits-spelled (negsuc n) = refl
+bits-in : (z : ℤ) → bitsIn (contents (int z)) ≡ bitsOf z
+unfolding bitsIn contents bitsOf
+bits-in (pos n) = refl
+bits-in (negsuc n) = refl
 
 integer-same : (a b x y : ℕ) → a + b * 2 ^ 32 ≡ x + y * 2 ^ 32 → integerAt a b ≡ integerAt x y
 unfolding integerAt
 integer-same a b x y = ap (λ (n : ℕ). elim (ltb n (2 ^ 63)) as (λ _. ℤ) [ true ↦ pos n | false ↦ negsuc (2 ^ 64 - suc n) ])
 
-pub ints : (a b x y : ℕ) → a + b * 2 ^ 32 < 2 ^ 64 → x + y * 2 ^ 32 < 2 ^ 64 → same (spellValue (int (integerAt a b))) (spellValue (int (integerAt x y))) ≡ eqb (a + b * 2 ^ 32) (x + y * 2 ^ 32)
+pub ints : (a b x y : ℕ) → a + b * 2 ^ 32 < 2 ^ 64 → x + y * 2 ^ 32 < 2 ^ 64 → sameValue (int (integerAt a b)) (int (integerAt x y)) ≡ eqb (a + b * 2 ^ 32) (x + y * 2 ^ 32)
+unfolding sameValue
 ints a b x y h l = pick (eqb (a + b * 2 ^ 32) (x + y * 2 ^ 32)) refl
   where
-    spelled : (a b : ℕ) → a + b * 2 ^ 32 < 2 ^ 64 → bitsSpelled (spellValue (int (integerAt a b))) ≡ a + b * 2 ^ 32
-    spelled a b h = bits-spelled (integerAt a b) ∙ bits-at a b h
+    bits : (a b : ℕ) → a + b * 2 ^ 32 < 2 ^ 64 → bitsIn (contents (int (integerAt a b))) ≡ a + b * 2 ^ 32
+    bits a b h = bits-in (integerAt a b) ∙ bits-at a b h
 
-    pick : (t : Bool) → eqb (a + b * 2 ^ 32) (x + y * 2 ^ 32) ≡ t → same (spellValue (int (integerAt a b))) (spellValue (int (integerAt x y))) ≡ t
-    pick true e = ap (λ (z : ℤ). same (spellValue (int z)) (spellValue (int (integerAt x y)))) (integer-same a b x y (eqb-true _ _ e)) ∙ same-self _
-    pick false e = no-true _ (λ s. eqb-false _ _ e (sym (spelled a b h) ∙ ap bitsSpelled (same-true _ _ s) ∙ spelled x y l))
+    pick : (t : Bool) → eqb (a + b * 2 ^ 32) (x + y * 2 ^ 32) ≡ t → sameValue (int (integerAt a b)) (int (integerAt x y)) ≡ t
+    pick true e = ap (λ (z : ℤ). sameValue (int z) (int (integerAt x y))) (integer-same a b x y (eqb-true _ _ e)) ∙ same-self (contents (int (integerAt x y)))
+    pick false e = no-true _ (λ s. eqb-false _ _ e (sym (bits a b h) ∙ ap bitsIn (same-true _ _ s) ∙ bits x y l))
 
-pub floats : (m n : ℕ) → same (spellValue (float m)) (spellValue (float n)) ≡ eqb m n
-unfolding spellValue same
-floats m n = meet (eqb m n) true ∙ and-true _
+pub floats : (m n : ℕ) → sameValue (float m) (float n) ≡ eqb m n
+unfolding sameValue contents same
+floats m n = pick (eqb m n)
+  where
+    pick : (b : Bool) → elim b [ true ↦ true | false ↦ false ] ≡ b
+    pick true = refl
+    pick false = refl
 
 -- two numbers of 64 bits by their halves
 pub low-differ : (a b x y : ℕ) → a < 2 ^ 32 → x < 2 ^ 32 → (a ≡ x → ⊥) → eqb (a + b * 2 ^ 32) (x + y * 2 ^ 32) ≡ false

@@ -12,7 +12,6 @@ use Rattle.rules.specs.BuildAggregate.{isAggregate, walkFree, anyFree}
 use Rattle.ast.specs.Table.{rowsAt, argumentsAt, treeAt}
 use Rattle.ast.specs.Operands.{operandsOf, kindOf, kindAt, operandsAt, kind-at, operands-at, tree-deep, arguments-none, arguments-more}
 use Rattle.ast.specs.Walk.{isAggregateCall, call-at}
-use Rattle.ast.proofs.Spelling.{never}
 
 -- the operands' walks: any of them, or all
 unfoldable pub walked : Bool → Exprs → Bool
@@ -21,7 +20,7 @@ walked false nil = true
 walked false (cons a as′) = walkFree a && walked false as′
 
 passed : (b x : Bool) → b ≡ false → elim b [ true ↦ false | false ↦ x ] ≡ x
-passed true x h = absurd (never (sym h))
+passed true x h = cc
 passed false x h = refl
 
 by-root : (e : Expr) → isAggregateCall e ≡ false → walkFree e ≡ walked (eqb (kindOf e) 4) (operandsOf e)
@@ -37,7 +36,7 @@ by-root (is l a v) h = sym (and-true _)
 
 stopped : (b x : Bool) → b ≡ true → elim b [ true ↦ false | false ↦ x ] ≡ false
 stopped true x h = refl
-stopped false x h = absurd (never h)
+stopped false x h = cc
 
 at-aggregate : (e : Expr) → isAggregateCall e ≡ true → walkFree e ≡ false
 unfolding walkFree isAggregateCall
@@ -45,9 +44,9 @@ at-aggregate (star l) h = sym h
 at-aggregate (column l t n) h = sym h
 at-aggregate (literal l v) h = sym h
 at-aggregate (call l n as′) h = stopped (isAggregate (n .bytes)) (anyFree as′) h
-at-aggregate (unary l o a) h = absurd (never h)
-at-aggregate (binary l o a b) h = absurd (never h)
-at-aggregate (is l a v) h = absurd (never h)
+at-aggregate (unary l o a) h = cc
+at-aggregate (binary l o a b) h = cc
+at-aggregate (is l a v) h = cc
 
 pub walk-cut : (c q : Bytes) (t : List ℕ) (d r : ℕ) → d ≡ 0 → walkFree (treeAt c q t d r) ≡ true
 unfolding treeAt walkFree
@@ -65,13 +64,13 @@ unfolding walked anyFree
 next-walk true a as′ = pick (walkFree a)
   where
     pick : (w : Bool) → Bool·beq w true ≡ false → anyFree as′ ≡ (w || anyFree as′)
-    pick true e = absurd (never (sym e))
+    pick true e = cc
     pick false e = refl
 next-walk false a as′ = pick (walkFree a)
   where
     pick : (w : Bool) → Bool·beq w false ≡ false → walked false as′ ≡ (w && walked false as′)
     pick true e = refl
-    pick false e = absurd (never (sym e))
+    pick false e = cc
 
 last-walk : (any : Bool) (a : Expr) (as′ : Exprs) → Bool·beq (walkFree a) any ≡ true → walked any (cons a as′) ≡ any
 unfolding walked anyFree
@@ -79,11 +78,11 @@ last-walk true a as′ = pick (walkFree a)
   where
     pick : (w : Bool) → Bool·beq w true ≡ true → (w || anyFree as′) ≡ true
     pick true e = refl
-    pick false e = absurd (never e)
+    pick false e = cc
 last-walk false a as′ = pick (walkFree a)
   where
     pick : (w : Bool) → Bool·beq w false ≡ true → (w && walked false as′) ≡ false
-    pick true e = absurd (never e)
+    pick true e = cc
     pick false e = refl
 
 module _ (f : ℕ → Expr) (t : List ℕ) (any : Bool) (n p : ℕ) where

@@ -116,20 +116,3 @@ coded-least m n k = low (ltb k n) refl
     low : (t : Bool) → ltb k n ≡ t → coded n (countFrom n (suc m)) n k ≡ elim t [ true ↦ n | false ↦ elim (ltb (n + m) k) [ true ↦ n | false ↦ k ] ]
     low true e = coded-below n (countFrom n (suc m)) n k (ltb-true k n e)
     low false e = high (ltb (n + m) k) (ltb-false k n e) refl
-
-coded-first : {A : Type 0} (x : A) (xs : List A) (n : ℕ) → coded x (x ∷ xs) n n ≡ x
-unfolding coded
-coded-first x xs n = rw (eq-eqb n n refl, coded)
-
--- where the default is the list's first, the least code does for those of no list
-pub coded-kept : {A : Type 0} (x : A) (xs : List A) (n k : ℕ) → coded x (x ∷ xs) n k ≡ coded x (x ∷ xs) n (orLeast n (n + length xs) k)
-unfolding orLeast
-coded-kept x xs n k = low (ltb k n) refl
-  where
-    high : (t : Bool) → ltb (n + length xs) k ≡ t → coded x (x ∷ xs) n k ≡ coded x (x ∷ xs) n (elim t [ true ↦ n | false ↦ k ])
-    high true e = coded-above x (x ∷ xs) n k (omega (arith, ltb-true (n + length xs) k e)) ∙ sym (coded-first x xs n)
-    high false e = refl
-
-    low : (t : Bool) → ltb k n ≡ t → coded x (x ∷ xs) n k ≡ coded x (x ∷ xs) n (elim t [ true ↦ n | false ↦ elim (ltb (n + length xs) k) [ true ↦ n | false ↦ k ] ])
-    low true e = coded-below x (x ∷ xs) n k (ltb-true k n e) ∙ sym (coded-first x xs n)
-    low false e = high (ltb (n + length xs) k) refl

@@ -9,7 +9,7 @@ use lib.ListN.{length, length-append}
 use lib.IntN.{ℤ, pos, negsuc}
 use Rattle.rules.specs.Lines.{Word}
 use Rattle.rules.specs.Schema.{Value, null, bool, int, float, text}
-use Rattle.rules.specs.Equality.{unaryCode, binaryCode}
+use Rattle.rules.specs.Codes.{unaryCode, binaryCode}
 use Rattle.rules.specs.Ast.{Expr, star, column, literal, call, unary, binary, is, Exprs, nil, cons, size, sizeAll}
 use Rattle.rules.specs.ReadExpression.{Head, starHead, isHead, columnHead, valueHead, callHead, unaryHead, binaryHead}
 

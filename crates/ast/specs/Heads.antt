@@ -11,7 +11,7 @@ use Rattle.rules.specs.Limits.{mostBytes, mostCells}
 use Rattle.rules.specs.Lists.{Bytes, same, named, mapOption}
 use Rattle.rules.specs.Lines.{Word, decimal}
 use Rattle.rules.specs.Places.{wordAt}
-use Rattle.rules.specs.Reader.{baseAddress, name, both, twoFields, count}
+use Rattle.rules.specs.Reader.{baseAddress, name, both, twoFields, countField}
 use Rattle.rules.specs.ReadExpression.{Head, starHead, isHead, columnHead, valueHead, callHead, unaryHead, binaryHead, columnFields, callFields}
 use Rattle.text.specs.Bytes.{part-length}
 use Rattle.text.specs.Lines.{field}
@@ -61,26 +61,26 @@ module _ (t : Bytes) (a n : ℕ) (i : Inside t a n) where
     unfolding callFields twoFields both mapOption
     call-unnamed h = rw (field-none h)
 
-    counted-as : (v : Option ℕ) → ((o : ℕ) → v ≡ count (record { bytes = take m (drop b t); start = o })) → count (field mostBytes t b m) ≡ v
+    counted-as : (v : Option ℕ) → ((o : ℕ) → v ≡ countField (record { bytes = take m (drop b t); start = o })) → countField (field mostBytes t b m) ≡ v
     unfolding field
     counted-as v g = sym (g (mostBytes + b))
 
-    pub call-uncounted : (x : Number) → isName n ≡ true → ((o : ℕ) → valueOf x ≡ count (record { bytes = take m (drop b t); start = o })) → x ≡ Wrong → callFields (field mostBytes t a n ∷ field mostBytes t b m ∷ []) ≡ none
+    pub call-uncounted : (x : Number) → isName n ≡ true → ((o : ℕ) → valueOf x ≡ countField (record { bytes = take m (drop b t); start = o })) → x ≡ Wrong → callFields (field mostBytes t a n ∷ field mostBytes t b m ∷ []) ≡ none
     unfolding callFields twoFields both mapOption valueOf
-    call-uncounted x h g e = let w : count (field mostBytes t b m) ≡ none = counted-as (valueOf x) g ∙ rw e in rw (field-name h, w)
+    call-uncounted x h g e = let w : countField (field mostBytes t b m) ≡ none = counted-as (valueOf x) g ∙ rw e in rw (field-name h, w)
 
-    pub count-small : (x : Number) (k : ℕ) → ((o : ℕ) → valueOf x ≡ count (record { bytes = take m (drop b t); start = o })) → x ≡ Value k → k ≤ mostCells + 1
-    unfolding valueOf count mapOption
+    pub count-small : (x : Number) (k : ℕ) → ((o : ℕ) → valueOf x ≡ countField (record { bytes = take m (drop b t); start = o })) → x ≡ Value k → k ≤ mostCells + 1
+    unfolding valueOf countField mapOption
     count-small x k g e = go (decimal (take m (drop b t))) (ap valueOf (sym e) ∙ g 0)
       where
         go : (o : Option ℕ) → some k ≡ mapOption (min (suc mostCells)) o → k ≤ mostCells + 1
         go none f = let z : _≡_ {A = ℕ} 0 1 = cc in absurd (omega arith)
         go (some j) f = let z : k ≡ min (suc mostCells) j = cc in omega (arith, min-le-left (suc mostCells) j)
 
-    pub call-some : (x : Number) (k : ℕ) (r : Row) → isName n ≡ true → ((o : ℕ) → valueOf x ≡ count (record { bytes = take m (drop b t); start = o })) → x ≡ Value k
+    pub call-some : (x : Number) (k : ℕ) (r : Row) → isName n ≡ true → ((o : ℕ) → valueOf x ≡ countField (record { bytes = take m (drop b t); start = o })) → x ≡ Value k
         → numbersOf r ≡ 4 ∷ k ∷ (mostBytes + a) ∷ n ∷ 0 ∷ 0 ∷ [] → r .operands ≡ k → Says t (callFields (field mostBytes t a n ∷ field mostBytes t b m ∷ [])) r
     unfolding callFields twoFields both mapOption valueOf
-    call-some x k r h g f e o = let w : count (field mostBytes t b m) ≡ some k = counted-as (valueOf x) g ∙ rw f in rw (field-name h, w) (record {
+    call-some x k r h g f e o = let w : countField (field mostBytes t b m) ≡ some k = counted-as (valueOf x) g ∙ rw f in rw (field-name h, w) (record {
       is = unfold headNumbers field in rw field-length (sym e);
       many = unfold arity in o;
       small = omega (arith, count-small x k g f);

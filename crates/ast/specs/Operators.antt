@@ -8,7 +8,7 @@ use lib.ListN.{length, getD, take, drop}
 use Rattle.rules.specs.Limits.{mostBytes}
 use Rattle.rules.specs.Lists.{Bytes}
 use Rattle.rules.specs.Lines.{bytes}
-use Rattle.rules.specs.Equality.{unaryCode, plainCode, binaryCode}
+use Rattle.rules.specs.Codes.{unaryCode, plainCode, binaryCode}
 use Rattle.rules.specs.Ast.{Unary, not, fact, ident, neg, Plain, and, or, eq, gt, lt, add, div, pow, mul, rem, sub, like, Binary, plain, ge, le, ne}
 use Rattle.rules.specs.Reader.{word}
 use Rattle.rules.specs.ReadExpression.{Head, starHead, isHead, unaryHead, binaryHead, operators}

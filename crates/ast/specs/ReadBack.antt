@@ -12,7 +12,7 @@ use Rattle.rules.specs.Lists.{Bytes}
 use Rattle.rules.specs.Lines.{Word}
 use Rattle.rules.specs.Places.{wordAt}
 use Rattle.rules.specs.Schema.{Value, null, bool, int, float, text}
-use Rattle.rules.specs.Equality.{unaryCode, plainCode, binaryCode}
+use Rattle.rules.specs.Codes.{unaryCode, plainCode, binaryCode}
 use Rattle.rules.specs.Ast.{Unary, not, fact, ident, neg, sqrt, Plain, and, or, eq, gt, lt, add, div, pow, mul, rem, sub, like, Binary, plain, ge, le, ne}
 use Rattle.rules.specs.Ast.{Expr, star, column, literal, call, unary, binary, is, Exprs, nil, cons, size, sizeAll}
 use Rattle.rules.specs.ReadExpression.{Head, starHead, isHead, columnHead, valueHead, callHead, unaryHead, binaryHead}

@@ -11,7 +11,7 @@ use Rattle.rules.specs.Refusals.{statement}
 use Rattle.rules.specs.Lists.{Bytes, same, named, mapOption}
 use Rattle.rules.specs.Lines.{Word, bytes}
 use Rattle.rules.specs.Schema.{Value, null}
-use Rattle.rules.specs.Reader.{Place, baseAddress, key, rest, keyOf, restOf, lineHere, apply, oneOf, noField, oneField, twoFields, name, count, word, literals}
+use Rattle.rules.specs.Reader.{Place, baseAddress, key, rest, keyOf, restOf, lineHere, apply, oneOf, noField, oneField, twoFields, name, countField, word, literals}
 use Rattle.rules.specs.ReadExpression.{Head, starHead, valueHead, operators, columnFields, callFields, valueHeads, heads}
 use Rattle.text.specs.Lines.{field, keptFields, Fields}
 use Rattle.text.specs.Words.{find, wordsOf, push, keys, nth, named-by, nth-none, find-most}
@@ -151,7 +151,7 @@ module _ (t : Bytes) (p l c n : ℕ) (r : Line) (f : Fields t p r) where
 
     pub head-call-not : k ≡ 2 → (r .count ≡ 3 → ⊥) → oneOf heads (lineHere (here t p l c n)) ≡ none
     unfolding callFields mapOption
-    head-call-not z m = at-call z ∙ rw (two-fields name count _ (without 2 (omega arith) m))
+    head-call-not z m = at-call z ∙ rw (two-fields name countField _ (without 2 (omega arith) m))
 
     at-star : k ≡ 3 → oneOf heads (lineHere (here t p l c n)) ≡ mapOption (λ u. starHead) (noField (rest (here t p l c n)))
     at-star z = head-by (λ ws. mapOption (λ u. starHead) (noField ws)) (unfold others nth in rw z)

@@ -4,7 +4,7 @@ ghost use Prim.Native.Nat.{_+_, _<_};
 ghost use lib.Dec.{eqb};
 ghost use Rattle.rules.specs.Lists.{same};
 ghost use Rattle.rules.specs.Places.{bytesAt};
-ghost use Rattle.rules.specs.Equality.{spellValue, equal};
+ghost use Rattle.rules.specs.Equality.{sameValue, equal};
 ghost use Rattle.ast.specs.Table.{at, valueAt, treeAt};
 ghost use Rattle.ast.specs.Codes.{orLeast};
 use crate::rows::at;
@@ -45,7 +45,7 @@ pub fn same_value(
     x: u32,
     y: u32,
 ) -> bool
-    ensures { λ r. ⌜ r ≡ same (spellValue (valueAt (now (catalog .entry)) (now (statement .entry)) k a b)) (spellValue (valueAt (now (catalog .entry)) (now (statement .entry)) l x y)) ⌝ }
+    ensures { λ r. ⌜ r ≡ sameValue (valueAt (now (catalog .entry)) (now (statement .entry)) k a b) (valueAt (now (catalog .entry)) (now (statement .entry)) l x y) ⌝ }
 {
     let v = or_least(1, 5, k);
     let w = or_least(1, 5, l);
@@ -78,7 +78,7 @@ pub fn same_value(
 
 // Whether the literals of two rows are.
 fn same_literal(catalog: &[u8], statement: &[u8], table: &[u32], i: usize, j: usize) -> bool
-    ensures { λ r. ⌜ r ≡ same (spellValue (valueAt (now (catalog .entry)) (now (statement .entry)) (at (now (table .entry)) i 3) (at (now (table .entry)) i 4) (at (now (table .entry)) i 5))) (spellValue (valueAt (now (catalog .entry)) (now (statement .entry)) (at (now (table .entry)) j 3) (at (now (table .entry)) j 4) (at (now (table .entry)) j 5))) ⌝ }
+    ensures { λ r. ⌜ r ≡ sameValue (valueAt (now (catalog .entry)) (now (statement .entry)) (at (now (table .entry)) i 3) (at (now (table .entry)) i 4) (at (now (table .entry)) i 5)) (valueAt (now (catalog .entry)) (now (statement .entry)) (at (now (table .entry)) j 3) (at (now (table .entry)) j 4) (at (now (table .entry)) j 5)) ⌝ }
 {
     let k = at(table, i, 3);
     let a = at(table, i, 4);

@@ -1,8 +1,11 @@
--- The area speaks: cells and nodes are read back from its numbers.
+-- The area speaks: the whole plan is read back from its numbers.
+pub mod Readings
 pub mod ReadArea
 pub mod ReadingLaws
 pub mod Readable
 pub mod AreaSpeaks
+pub mod ReadPlan
+pub mod PlanSpeaks
 pub mod NodeTree
 pub mod AreaExit
 pub mod Proper

@@ -5,7 +5,9 @@ pub mod Unfold
 pub mod UnfoldPlan
 pub mod Roots
 pub mod Operands
+pub mod Comparisons
 pub mod Blocks
 pub mod Order
 pub mod Reach
+pub mod Pairs
 pub mod Sharing

@@ -2,7 +2,6 @@
 pub mod Totals
 pub mod Sums
 pub mod Costs
-pub mod From
 pub mod Within
 pub mod Stars
 pub mod Select

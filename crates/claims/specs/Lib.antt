@@ -6,9 +6,12 @@ pub mod Cells
 pub mod Count
 pub mod Reading
 pub mod Building
+pub mod Order
+pub mod Refused
 pub mod Words
 pub mod Area
 pub mod Room
 pub mod Values
 pub mod Numbers32
+pub mod Form
 pub mod Demands

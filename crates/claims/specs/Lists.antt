@@ -39,14 +39,7 @@ unfolding given Given All
 all-given Q none h = tt
 all-given Q (some x) h = h .0
 
--- an entry has what all have
-pub entry-has : {A : Type 0} (Q : A → Type 0) (as′ : List A) (i : ℕ) (a : A) → All Q as′ → entryAfter i as′ ≡ some a → Q a
-unfolding entryAfter All
-entry-has Q [] i a h e = absurd (let z : _≡_ {A = ℕ} 0 1 = cc in omega arith)
-entry-has Q (x ∷ xs) zero a h e = let p : x ≡ a = cc in rw (← p) (h .0)
-entry-has Q (x ∷ xs) (suc i) a h e = entry-has Q xs i a (h .1) e
-
--- its position is below the length
+-- the position of an entry is below the length
 pub entry-below : {A : Type 0} (as′ : List A) (i : ℕ) (a : A) → entryAfter i as′ ≡ some a → i < length as′
 unfolding entryAfter
 entry-below [] i a e = absurd (let z : _≡_ {A = ℕ} 0 1 = cc in omega arith)

@@ -3,4 +3,5 @@ pub mod Equality
 pub mod Powers
 pub mod Outcomes
 pub mod Values
+pub mod Constant
 pub mod Impossible

@@ -12,7 +12,7 @@ use Rattle.rules.specs.Lists.{Bytes, mapOption}
 use Rattle.rules.specs.Lines.{Word, bytes}
 use Rattle.rules.specs.Schema.{Datatype, boolean, integer, floating, string}
 use Rattle.rules.specs.Ast.{Exprs}
-use Rattle.rules.specs.Reader.{Place, Read, give, _>>=_, at, name, word, count, noField, oneField, optionalName, recordWithin, atLeastOne}
+use Rattle.rules.specs.Reader.{Place, Read, give, _>>=_, at, name, word, countField, noField, oneField, optionalName, recordWithin, atLeastOne}
 use Rattle.rules.specs.ReadExpression.{times, expression}
 use Rattle.rules.specs.ReadColumn.{ColumnHead, newColumnFields}
 use Rattle.rules.specs.ReadStatement.{directions, risingSet}
@@ -111,7 +111,7 @@ fieldsOf k b r =
     ∷ mapOption (λ u. plainHead 1) (noField r)
     ∷ mapOption (λ u. plainHead 0) (noField r)
     ∷ mapOption (λ w. namedHead 0 (some w)) (oneField name r)
-    ∷ mapOption plainHead (oneField count r)
+    ∷ mapOption plainHead (oneField countField r)
     ∷ mapOption setHead (risingSet b r)
     ∷ mapOption columnHead (newColumnFields r)
     ∷ []

@@ -10,7 +10,7 @@ use Rattle.rules.specs.Limits.{mostBytes, mostCells}
 use Rattle.rules.specs.Refusals.{statement}
 use Rattle.rules.specs.Lists.{Bytes, mapOption}
 use Rattle.rules.specs.Lines.{Word, bytes}
-use Rattle.rules.specs.Reader.{baseAddress, name, word, count, noField, oneField, optionalName}
+use Rattle.rules.specs.Reader.{baseAddress, name, word, countField, noField, oneField, optionalName}
 use Rattle.rules.specs.ReadStatement.{directions}
 use Rattle.text.specs.Lines.{field, keptFields}
 use Rattle.text.specs.Words.{find, wordsOf, push, keys, nth, named-by, nth-none}
@@ -46,7 +46,7 @@ name-fields : (w : Word) → fieldsOf 8 none (w ∷ []) ≡ nameHead 0 w
 unfolding fieldsOf oneField nameHead
 name-fields w = refl
 
-row-fields : (w : Word) → fieldsOf 9 none (w ∷ []) ≡ mapOption plainHead (count w)
+row-fields : (w : Word) → fieldsOf 9 none (w ∷ []) ≡ mapOption plainHead (countField w)
 unfolding fieldsOf oneField
 row-fields w = refl
 
@@ -84,7 +84,7 @@ module _ (t : Bytes) (p : ℕ) (f : Line) (g : LineAt t p f) where
     without i j h n e d w s l c k = said-none t _ r (w _ (rest-other statement t p l c k f (g .fields) i h e) (rest-other statement t p l c k f (g .fields) j n d)) s
 
   -- a count is 513 at most
-  pub row-small : (x : Number) (k : ℕ) → f .count ≡ 2 → ((o : ℕ) → valueOf x ≡ count (record { bytes = take (getD (f .lens) 1 0) (drop (getD (f .starts) 1 0) t); start = o })) → x ≡ Value k → k ≤ suc mostCells
+  pub row-small : (x : Number) (k : ℕ) → f .count ≡ 2 → ((o : ℕ) → valueOf x ≡ countField (record { bytes = take (getD (f .lens) 1 0) (drop (getD (f .starts) 1 0) t); start = o })) → x ≡ Value k → k ≤ suc mostCells
   row-small x k n e d = omega (arith, count-small t _ _ (field-at 1 (omega (arith, n))) (getD (f .starts) 1 0) (getD (f .lens) 1 0) x k e d)
 
   module _ (r : Head) where
@@ -134,17 +134,17 @@ module _ (t : Bytes) (p : ℕ) (f : Line) (g : LineAt t p f) where
 
     -- rows
     pub row-no : (f .count ≡ 2 → ⊥) → r .state ≡ 1 → SaidHere t p (fieldsOf 9 none) r
-    row-no n s = without r (fieldsOf 9 none) 1 1 (omega arith) (omega arith) n n (λ ws x y. unfold fieldsOf mapOption in rw (one-field count ws x)) s
+    row-no n s = without r (fieldsOf 9 none) 1 1 (omega arith) (omega arith) n n (λ ws x y. unfold fieldsOf mapOption in rw (one-field countField ws x)) s
 
-    module _ (n : f .count ≡ 2) (x : Number) (e : (o : ℕ) → valueOf x ≡ count (record { bytes = take (getD (f .lens) 1 0) (drop (getD (f .starts) 1 0) t); start = o })) where
-      count-is : count first ≡ valueOf x
+    module _ (n : f .count ≡ 2) (x : Number) (e : (o : ℕ) → valueOf x ≡ countField (record { bytes = take (getD (f .lens) 1 0) (drop (getD (f .starts) 1 0) t); start = o })) where
+      count-is : countField first ≡ valueOf x
       unfolding field
       count-is = sym (e (mostBytes + getD (f .starts) 1 0))
 
       pub row-wrong : x ≡ Wrong → r .state ≡ 1 → SaidHere t p (fieldsOf 9 none) r
       unfolding valueOf
-      row-wrong d s = let w : count first ≡ none = count-is ∙ ap valueOf d in with-one r (fieldsOf 9 none) n (said-none t _ r (row-fields first ∙ rw w (unfold mapOption in refl)) s)
+      row-wrong d s = let w : countField first ≡ none = count-is ∙ ap valueOf d in with-one r (fieldsOf 9 none) n (said-none t _ r (row-fields first ∙ rw w (unfold mapOption in refl)) s)
 
       pub row-yes : (k : ℕ) → x ≡ Value k → (r .state ≡ 2) × (r .expressions ≡ k) × (numbersOf r ≡ 0 ∷ 0 ∷ 0 ∷ 0 ∷ 0 ∷ 0 ∷ 0 ∷ 0 ∷ 0 ∷ []) → SaidHere t p (fieldsOf 9 none) r
       unfolding valueOf
-      row-yes k d s = let w : count first ≡ some k = count-is ∙ ap valueOf d in with-one r (fieldsOf 9 none) n (said-as t _ (some (plainHead k)) r (row-fields first ∙ rw w (unfold mapOption in refl)) (said-plain t (plainHead k) r (unfold plainHead in refl) (unfold plainHead in refl) (unfold plainHead in s) (unfold plainHead in row-small x k n e d)))
+      row-yes k d s = let w : countField first ≡ some k = count-is ∙ ap valueOf d in with-one r (fieldsOf 9 none) n (said-as t _ (some (plainHead k)) r (row-fields first ∙ rw w (unfold mapOption in refl)) (said-plain t (plainHead k) r (unfold plainHead in refl) (unfold plainHead in refl) (unfold plainHead in s) (unfold plainHead in row-small x k n e d)))

@@ -43,7 +43,7 @@ pub enum Constant {
 
 // Document 01's number of a reason.
 pub fn number(n: Reason) -> u32
-    ensures { λ r. ⌜ r ≡ refusals.number (reasonOf n) ⌝ }
+    ensures { λ r. ⌜ r ≡ refusals.refusalNumber (reasonOf n) ⌝ }
 {
     match n {
         Reason::ConstantOnly => 10,

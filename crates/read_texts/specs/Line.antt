@@ -3,7 +3,7 @@ use Prim.Native.Nat.{ℕ, zero, suc}
 use mathlib.Core.Path.{_≡_, refl}
 use mathlib.Core.List.{[], _∷_, _++_}
 use lib.ListN.{length, getD}
-use Rattle.rules.specs.Refusals.{Text, catalog, statement, Refusal, Answer, ok, refused, number}
+use Rattle.rules.specs.Refusals.{Text, catalog, statement, Refusal, Answer, ok, refused}
 use Rattle.rules.specs.Lists.{Bytes}
 use Rattle.rules.specs.Lines.{bytes}
 use Rattle.rules.specs.Schema.{Catalog}
@@ -11,7 +11,7 @@ use Rattle.rules.specs.Ast.{Statement}
 use Rattle.rules.specs.Ast as Ast
 use Rattle.rules.specs.Sizes.{statementSize}
 use Rattle.rules.specs.Entry.{textNumber}
-use Rattle.rules.specs.Print.{decimalOf, tabbed, textName, showAnswer}
+use Rattle.rules.specs.Print.{decimalOf, tabbed, showLines, textName, showRefusal, showAnswer}
 use Rattle.reader.specs.Texts.{kindOf}
 use Rattle.reader.specs.Reading.{told}
 use Rattle.reader.specs.declared.Texts as Tx
@@ -76,7 +76,7 @@ text-word catalog = refl
 text-word statement = refl
 
 refused-line : (r : Refusal) → lineOf (told (refused r)) ≡ printed (refused r)
-unfolding lineOf told printed showAnswer
+unfolding lineOf told printed showAnswer showLines showRefusal
 refused-line r = rw (text-word (r .text))
 
 -- what is answered is printed so

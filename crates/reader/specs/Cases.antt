@@ -5,7 +5,7 @@ use mathlib.Core.Path.{_≡_, refl, sym, ap, _∙_}
 use mathlib.Core.List.{List, [], _∷_}
 use lib.ListN.{length, getD}
 use borrow.Author.Tests.{lt-ltb, le-ltb, eq-eqb, ne-eqb}
-use Rattle.rules.specs.Refusals.{catalog, statement, number, Refusal, ok, refused, refuse, wrongRecord, limitPassed, _>>=_}
+use Rattle.rules.specs.Refusals.{catalog, statement, refusalNumber, Refusal, ok, refused, refuse, wrongRecord, limitPassed, _>>=_}
 use Rattle.rules.specs.Limits.{mostBytes}
 use Rattle.rules.specs.Lists.{Bytes}
 use Rattle.rules.specs.Schema.{Catalog}
@@ -35,16 +35,16 @@ never : {A : Type 0} {ρ : Refusal} {x : A} → refused ρ ≡ ok x → ⊥
 never e = let z : _≡_ {A = ℕ} 0 1 = cc in omega arith
 
 module _ {c q : Bytes} {tables cells froms parts : List ℕ} where
-  refused-read : (ρ : Refusal) → readTexts c q ≡ refused ρ → TextsRead c q tables cells froms parts (T.Refused (number (ρ .reason)) (textNumber (ρ .text)) (ρ .line))
+  refused-read : (ρ : Refusal) → readTexts c q ≡ refused ρ → TextsRead c q tables cells froms parts (T.Refused (refusalNumber (ρ .reason)) (textNumber (ρ .text)) (ρ .line))
   unfolding told
   refused-read ρ e = record { says = sym (ap told e); stands = λ x z. absurd (never (sym e ∙ z)) }
 
   pub catalog-long : mostBytes < length c → TextsRead c q tables cells froms parts (T.Refused 3 1 0)
-  unfolding readTexts number textNumber
+  unfolding readTexts refusalNumber textNumber
   catalog-long h = refused-read (record { reason = limitPassed; text = catalog; line = 0 }) (rw (readTexts, lt-ltb mostBytes (length c) h))
 
   pub statement-long : length c ≤ mostBytes → mostBytes < length q → TextsRead c q tables cells froms parts (T.Refused 3 2 0)
-  unfolding readTexts number textNumber
+  unfolding readTexts refusalNumber textNumber
   statement-long h g = refused-read (record { reason = limitPassed; text = statement; line = 0 }) (rw (readTexts, le-ltb mostBytes (length c) h, lt-ltb mostBytes (length q) g))
 
 -- READ
@@ -67,7 +67,7 @@ module _ (l : ℕ) (s : Ast.Select) (d : Ast.Create) (e : Ast.Drop) (f : Ast.Del
   ofKind k = coded (Ast.other l) (Ast.select s ∷ Ast.create d ∷ Ast.drop e ∷ Ast.delete f ∷ Ast.insert g ∷ Ast.update h ∷ []) 1 k
 
   told-of-kind : (ts : Catalog) (k n m : ℕ) → n ≡ statementSize (ofKind k) → m ≡ length ts → told (notOther (ofKind k) >>= λ s′. ok (ts, s′)) ≡ toldBy k l n m
-  unfolding coded told toldBy isOther notOther kindOf _>>=_ refuse number textNumber
+  unfolding coded told toldBy isOther notOther kindOf _>>=_ refuse refusalNumber textNumber
   told-of-kind ts zero n m i j = refl
   told-of-kind ts (suc zero) n m i j = rw (i, j)
   told-of-kind ts (suc (suc zero)) n m i j = rw (i, j)
@@ -116,11 +116,11 @@ module _ {c q : Bytes} {tables : List ℕ} {k : Rd.Read} (g : CatalogRead c q ta
 
   module _ {cells froms parts : List ℕ} where
     pub catalog-wrong : {l : ℕ} → k ≡ A.Wrong l → TextsRead c q tables cells froms parts (T.Refused 2 1 l)
-    unfolding bothOf _>>=_ catalogOf wrongAt number textNumber
+    unfolding bothOf _>>=_ catalogOf wrongAt refusalNumber textNumber
     catalog-wrong {l} z = refused-read (record { reason = wrongRecord; text = catalog; line = l }) (both ∙ rw (bothOf, catalog-read, z))
 
     pub catalog-limit : {l : ℕ} → k ≡ A.Limit l → TextsRead c q tables cells froms parts (T.Refused 3 1 l)
-    unfolding bothOf _>>=_ catalogOf limitAt number textNumber
+    unfolding bothOf _>>=_ catalogOf limitAt refusalNumber textNumber
     catalog-limit {l} z = refused-read (record { reason = limitPassed; text = catalog; line = l }) (both ∙ rw (bothOf, catalog-read, z))
 
   module _ (z : k ≡ A.Done) {cells froms parts : List ℕ} {o : Oc.Outcome} (h : StatementRead c q cells froms parts o) where
@@ -133,11 +133,11 @@ module _ {c q : Bytes} {tables : List ℕ} {k : Rd.Read} (g : CatalogRead c q ta
     after = both ∙ rw (bothOf, catalog-read, z, statement-read)
 
     pub statement-wrong : {l : ℕ} → o ≡ O.Wrong l → TextsRead c q tables cells froms parts (T.Refused 2 2 l)
-    unfolding _>>=_ statementOf wrongAt number textNumber
+    unfolding _>>=_ statementOf wrongAt refusalNumber textNumber
     statement-wrong {l} y = refused-read (record { reason = wrongRecord; text = statement; line = l }) (after ∙ rw y)
 
     pub statement-limit : {l : ℕ} → o ≡ O.Limit l → TextsRead c q tables cells froms parts (T.Refused 3 2 l)
-    unfolding _>>=_ statementOf limitAt number textNumber
+    unfolding _>>=_ statementOf limitAt refusalNumber textNumber
     statement-limit {l} y = refused-read (record { reason = limitPassed; text = statement; line = l }) (after ∙ rw y)
 
     taken : {n : ℕ} → o ≡ O.Done n → readTexts c q ≡ (notOther (statementAt c q cells froms parts) >>= λ s′. ok (catalogAt c q tables, s′))

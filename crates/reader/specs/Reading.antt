@@ -5,7 +5,7 @@ use mathlib.Core.Bool.{Bool, true, false, _||_}
 use mathlib.Core.List.{List}
 use lib.Dec.{eqb, ltb}
 use lib.ListN.{length}
-use Rattle.rules.specs.Refusals.{number, Answer, ok, refused}
+use Rattle.rules.specs.Refusals.{refusalNumber, Answer, ok, refused}
 use Rattle.rules.specs.Lists.{Bytes}
 use Rattle.rules.specs.Schema.{Catalog}
 use Rattle.rules.specs.Ast.{Statement}
@@ -20,7 +20,7 @@ use Rattle.reader.specs.declared.Texts.the-variants as T
 -- the numbers of an answer: document 01's number of the refusal, its text and line
 unfoldable pub told : Answer (Catalog × Statement) → Tx.Texts
 told (ok x) = T.Read (kindOf (x .1)) (statementSize (x .1)) (length (x .0))
-told (refused r) = T.Refused (number (r .reason)) (textNumber (r .text)) (r .line)
+told (refused r) = T.Refused (refusalNumber (r .reason)) (textNumber (r .text)) (r .line)
 
 -- no kind of a statement that can be planned
 unfoldable pub isOther : ℕ → Bool

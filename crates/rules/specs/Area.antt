@@ -1,5 +1,5 @@
 -- The plan as numbers of 32 bits (docs/PLAN.md): the header, the cells, the nodes, and the statement's own numbers.
-use Prim.Native.Nat.{ℕ, zero, suc, _+_, _*_, _-_, _/_, _%_, _^_}
+use Prim.Native.Nat.{ℕ, suc, _+_, _-_, _/_, _%_, _^_}
 use mathlib.Core.Bool.{Bool, true, false}
 use mathlib.Core.List.{List, [], _∷_, _++_, map}
 use mathlib.Core.Option.{Option, none, some}
@@ -7,12 +7,14 @@ use lib.ListN.{length}
 use lib.IntN.{ℤ, pos, negsuc}
 use Rattle.rules.specs.Lists.{concat}
 use Rattle.rules.specs.Lines.{Word}
-use Rattle.rules.specs.Schema.{Value, null, bool, int, float, text, Datatype, boolean, integer, floating, string, Table}
-use Rattle.rules.specs.Equality.{unaryCode, plainCode}
-use Rattle.rules.specs.Plan.{Built, Aggregate, avg, count, max, min, sum, Node, Made, Plan}
+use Rattle.rules.specs.Schema.{Value, null, bool, int, float, text, Datatype, boolean, integer, floating, string}
+use Rattle.rules.specs.Codes.{unaryCode, plainCode}
+use Rattle.rules.specs.Plan.{Built, Aggregate, avg, count, max, min, sum, cindex, vindex, Mapping, Made}
+use Rattle.rules.specs.Plan.{Plan}
 use Rattle.rules.specs.Plan as P
 use Rattle.rules.specs.Cells.{Cell, constant, column, unary, binary, is, planCells, numberPlan}
-use Rattle.rules.specs.Nodes.{NodeRecord, scan, values, join, filter, aggregate, project, order, offset, limit, remap, planRecords}
+use Rattle.rules.specs.Nodes.{NodeRecord, scan, values, join, filter, aggregate, project, order, offset, limit}
+use Rattle.rules.specs.Nodes.{remap, planRecords}
 
 -- 64 bits, low half first
 unfoldable pub halves : ℕ → List ℕ
@@ -92,7 +94,7 @@ unfoldable pub sized : ℕ → List ℕ → List ℕ
 sized k r = k ∷ length r ∷ r
 
 unfoldable pub recordNumbers : NodeRecord → List ℕ
-recordNumbers (scan k t a x) = sized 1 (k ∷ optionNumber x ∷ optionSpan a)
+recordNumbers (scan t a x) = sized 1 (span (t .name) ++ (optionNumber x ∷ optionSpan a))
 recordNumbers (values rs) = sized 2 (rowNumbers rs)
 recordNumbers (join a b x o) = sized 3 (a ∷ b ∷ flag o ∷ optionNumber x ∷ [])
 recordNumbers (filter n x) = sized 4 (n ∷ x ∷ [])
@@ -104,14 +106,18 @@ recordNumbers (limit n k) = sized 9 (n ∷ halves k)
 recordNumbers (remap n ts) = sized 10 (n ∷ map optionNumber ts)
 
 -- THE STATEMENT'S OWN NUMBERS
-unfoldable pub pairs : List (ℕ × ℕ) → List ℕ
-pairs [] = []
-pairs (x ∷ xs) = x .0 ∷ x .1 ∷ pairs xs
+unfoldable pub mappingNumbers : Mapping → List ℕ
+mappingNumbers m = elim (m .column) [ cindex i ↦ elim (m .value) [ vindex j ↦ i ∷ j ∷ [] ] ]
 
 -- no map, or one more than its length and the map
-unfoldable pub mapNumbers : Option (List (ℕ × ℕ)) → List ℕ
+unfoldable pub mapNumbers : Option (List Mapping) → List ℕ
 mapNumbers none = 0 ∷ []
-mapNumbers (some m) = (length m + 1) ∷ pairs m
+mapNumbers (some m) = (length m + 1) ∷ concat (map mappingNumbers m)
+
+-- the table position and the cell of each set
+unfoldable pub setNumbers : List (ℕ × ℕ) → List ℕ
+setNumbers [] = []
+setNumbers (x ∷ xs) = x .0 ∷ x .1 ∷ setNumbers xs
 
 unfoldable pub typeCode : Datatype → ℕ
 typeCode boolean = 1
@@ -124,24 +130,27 @@ defaultNumbers none = 0 ∷ 0 ∷ 0 ∷ 0 ∷ []
 defaultNumbers (some v) = valueNumbers v
 
 unfoldable pub madeNumbers : Made → List ℕ
-madeNumbers c = span (c .name) ++ (typeCode (c .type) ∷ flag (c .nullable) ∷ flag (c .unique) ∷ flag (c .index) ∷ (optionSpan (c .reference) ++ defaultNumbers (c .default)))
+madeNumbers c =
+    span (c .name)
+    ++ (typeCode (c .type) ∷ flag (c .nullable) ∷ flag (c .unique) ∷ flag (c .index)
+    ∷ (optionSpan (c .reference) ++ defaultNumbers (c .default)))
 
 unfoldable pub ownNumbers : Plan ℕ → List ℕ
 ownNumbers (P.select n) = []
 ownNumbers (P.create n k cs) = span n ++ (k ∷ length cs ∷ concat (map madeNumbers cs))
 ownNumbers (P.drop n y) = span n ++ (flag y ∷ [])
-ownNumbers (P.delete i t n) = i ∷ t .key ∷ []
-ownNumbers (P.insert i t m n) = i ∷ mapNumbers m
-ownNumbers (P.update i t n xs) = i ∷ t .key ∷ length xs ∷ pairs xs
+ownNumbers (P.delete t n) = span (t .name) ++ (t .key ∷ [])
+ownNumbers (P.insert t m n) = span (t .name) ++ mapNumbers m
+ownNumbers (P.update t n xs) = span (t .name) ++ (t .key ∷ length xs ∷ setNumbers xs)
 
 -- THE WHOLE
 unfoldable pub planCode : {E : Type 0} → Plan E → ℕ
 planCode (P.select n) = 1
 planCode (P.create n k cs) = 2
 planCode (P.drop n y) = 3
-planCode (P.delete i t n) = 4
-planCode (P.insert i t m n) = 5
-planCode (P.update i t n xs) = 6
+planCode (P.delete t n) = 4
+planCode (P.insert t m n) = 5
+planCode (P.update t n xs) = 6
 
 -- the number that names this layout
 abbrev pub layout : ℕ
@@ -162,7 +171,9 @@ ownStart p = headerSize + length (cellPart p) + length (nodePart p)
 
 -- layout, statement, cells, nodes, where the own numbers start, and how many numbers there are in all
 unfoldable pub header : Plan Built → List ℕ
-header p = layout ∷ planCode p ∷ length (planCells p) ∷ length (planRecords (numberPlan p)) ∷ ownStart p ∷ (ownStart p + length (ownNumbers (numberPlan p))) ∷ []
+header p =
+    layout ∷ planCode p ∷ length (planCells p) ∷ length (planRecords (numberPlan p))
+    ∷ ownStart p ∷ (ownStart p + length (ownNumbers (numberPlan p))) ∷ []
 
 unfoldable pub planNumbers : Plan Built → List ℕ
 planNumbers p = header p ++ (cellPart p ++ (nodePart p ++ ownNumbers (numberPlan p)))

@@ -1,6 +1,6 @@
 -- Checked arithmetic (value.rs, checked_add .. checked_sub): a value, or why there is none.
 use Prim.Native.Nat.{ℕ, zero, suc, _*_, _%_, _^_}
-use mathlib.Core.Bool.{Bool, true, false, _&&_}
+use mathlib.Core.Bool.{true, false, _&&_}
 use lib.Dec.{eqb, ltb, leb}
 use lib.IntN.{ℤ, pos, negsuc, negℤ, natAbs, _+ℤ_, _-ℤ_, _*ℤ_}
 use lib.Signed.{mag, quotZ, remZ}
@@ -51,9 +51,9 @@ factorial (pos n) = fitted (pos (product n 1 1))
 factorial (negsuc n) = fails wrongOperand
 
 -- FLOATS are held by their bits
-unfoldable pub number : ℕ → Float
+unfoldable pub floatOf : ℕ → Float
 unfolding Ieee.ofBits
-number b = Ieee.ofBits binary64 b
+floatOf b = Ieee.ofBits binary64 b
 
 -- every NaN that an operator gives is 7ff8000000000000
 unfoldable pub floating : Float → Worked
@@ -82,12 +82,12 @@ numbers (bool a) v = unlike
 numbers (int m) null = absent
 numbers (int m) (bool b) = unlike
 numbers (int m) (int n) = integers m n
-numbers (int m) (float y) = floats (rounded m) (number y)
+numbers (int m) (float y) = floats (rounded m) (floatOf y)
 numbers (int m) (text t) = unlike
 numbers (float x) null = absent
 numbers (float x) (bool b) = unlike
-numbers (float x) (int n) = floats (number x) (rounded n)
-numbers (float x) (float y) = floats (number x) (number y)
+numbers (float x) (int n) = floats (floatOf x) (rounded n)
+numbers (float x) (float y) = floats (floatOf x) (floatOf y)
 numbers (float x) (text t) = unlike
 numbers (text s) v = unlike
 

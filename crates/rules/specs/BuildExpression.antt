@@ -1,12 +1,13 @@
 -- Expressions resolved over a scope (planner.rs, build_expression and build_constant_value).
 use Prim.Native.Nat.{ℕ, _%_, _^_}
-use mathlib.Core.Bool.{Bool, true, false}
+use mathlib.Core.Bool.{Bool, true, false, not}
 use mathlib.Core.List.{List, [], _∷_}
 use mathlib.Core.Option.{Option, none, some}
 use lib.Dec.{ltb}
-use Rattle.rules.specs.Refusals.{Answer, ok, _>>=_, refuse, unsupportedStar, unknownFunction, invalidIs}
+use Rattle.rules.specs.Refusals.{Answer, ok, _>>=_, _>>_, refuse, refuseIf, unsupportedStar, unknownFunction}
+use Rattle.rules.specs.Refusals.{invalidIs}
 use Rattle.rules.specs.Lists.{same, mapOption}
-use Rattle.rules.specs.Lines.{Word, bytes}
+use Rattle.rules.specs.Lines.{bytes}
 use Rattle.rules.specs.Schema.{Value, null, bool, int, float, text}
 use Rattle.rules.specs.Ast.{Expr, star, column, literal, call, unary, binary, is, Exprs, nil, cons, Clause}
 use Rattle.rules.specs.Ast as Ast
@@ -29,30 +30,19 @@ unfoldable pub orMatched : Scope → Expr → Answer Built → Answer Built
 orMatched s e r = pickMatched (matched s e) r
 
 -- what `is` compares with: null, or a NaN
-unfoldable pub isValue : Value → Bool
-isValue null = true
-isValue (bool b) = false
-isValue (int n) = false
-isValue (float b) = ltb 0x7ff0000000000000 (b % 2 ^ 63)
-isValue (text w) = false
+unfoldable pub isNullOrNan : Value → Bool
+isNullOrNan null = true
+isNullOrNan (bool b) = false
+isNullOrNan (int n) = false
+isNullOrNan (float b) = ltb 0x7ff0000000000000 (b % 2 ^ 63)
+isNullOrNan (text w) = false
 
--- `sqrt` takes one argument
-unfoldable pub sqrtOf : ℕ → Exprs → Answer Built → Answer Built
-sqrtOf l nil r = do
-  x ← r
-  ok (P.unary Ast.sqrt x)
-sqrtOf l (cons a as′) r = refuse unknownFunction l
+-- no second argument is taken
+unfoldable pub onlyArgument : ℕ → Exprs → Answer Built → Answer Built
+onlyArgument l nil r = r
+onlyArgument l (cons b bs) r = refuse unknownFunction l
 
--- the function's name tested before its arguments
-unfoldable pub isSqrt : Bool → ℕ → Answer Built → Answer Built
-isSqrt true l r = r
-isSqrt false l r = refuse unknownFunction l
-
-unfoldable pub isOf : Bool → ℕ → Value → Built → Answer Built
-isOf true l v x = ok (P.is x v)
-isOf false l v x = refuse invalidIs l
-
--- build_expression; `ge`, `le` and `ne` stay, to be taken apart by `expand`
+-- build_expression; `ge`, `le` and `ne` stay, for `desugar` and for the shared cells
 unfoldable mutual
   pub build : Scope → Expr → Answer Built
   build s (star l) = orMatched s (star l) (refuse unsupportedStar l)
@@ -60,7 +50,10 @@ unfoldable mutual
     i ← found l (lookup s t n)
     ok (P.column i)
   build s (literal l v) = orMatched s (literal l v) (ok (P.constant v))
-  build s (call l n as′) = orMatched s (call l n as′) (isSqrt (same (n .bytes) (bytes "sqrt")) l (buildSqrt s l as′))
+  build s (call l n as′) = orMatched s (call l n as′) do
+    refuseIf (not (same (n .bytes) (bytes "sqrt"))) unknownFunction l
+    x ← buildArgument s l as′
+    ok (P.unary Ast.sqrt x)
   build s (unary l o a) = orMatched s (unary l o a) do
     x ← build s a
     ok (P.unary o x)
@@ -70,11 +63,13 @@ unfoldable mutual
     ok (P.binary o x y)
   build s (is l a v) = orMatched s (is l a v) do
     x ← build s a
-    isOf (isValue v) l v x
+    refuseIf (not (isNullOrNan v)) invalidIs l
+    ok (P.is x v)
 
-  pub buildSqrt : Scope → ℕ → Exprs → Answer Built
-  buildSqrt s l nil = refuse unknownFunction l
-  buildSqrt s l (cons a as′) = sqrtOf l as′ (build s a)
+  -- the one argument of `sqrt`
+  pub buildArgument : Scope → ℕ → Exprs → Answer Built
+  buildArgument s l nil = refuse unknownFunction l
+  buildArgument s l (cons a as′) = onlyArgument l as′ (build s a)
 
 -- each in turn, up to the first refusal
 unfoldable pub each : {A B : Type 0} → (A → Answer B) → List A → Answer (List B)
@@ -93,7 +88,7 @@ buildOption s (some e) = do
 unfoldable pub clauseExpr : Option Clause → Option Expr
 clauseExpr c = mapOption (λ (d : Clause). d .expr) c
 
--- build_constant_value
+-- build_constant_value. The Rust works out what it built; that this is the same is the claim `constant-built`.
 unfoldable pub constant : Expr → Answer Value
 constant e = do
   x ← build empty e

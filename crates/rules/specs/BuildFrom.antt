@@ -4,19 +4,20 @@ use mathlib.Core.Bool.{Bool, true, false}
 use mathlib.Core.List.{List, [], _∷_, _++_}
 use mathlib.Core.Option.{Option, none, some}
 use lib.Dec.{ltb}
-use Rattle.rules.specs.Refusals.{Answer, ok, _>>=_, refuse, limitPassed, duplicateTable}
+use Rattle.rules.specs.Refusals.{Answer, ok, _>>=_, _>>_, refuseIf, limitPassed, duplicateTable}
 use Rattle.rules.specs.Limits.{mostColumns}
 use Rattle.rules.specs.Lists.{orElse}
 use Rattle.rules.specs.Lines.{Word}
-use Rattle.rules.specs.Schema.{Catalog, mustGetTable}
+use Rattle.rules.specs.Schema.{Table, Catalog, mustGetTable}
 use Rattle.rules.specs.Ast.{Expr, Join, cross, inner, left, right, From}
 use Rattle.rules.specs.Ast as Ast
 use Rattle.rules.specs.Plan.{Built, Node}
 use Rattle.rules.specs.Plan as P
 use Rattle.rules.specs.Scope.{Scope, empty, width, fromTable, shares, merge, remap}
 use Rattle.rules.specs.BuildExpression.{buildOption}
+use Rattle.rules.specs.Stage.{Stage}
 
--- what a FROM item gives: its node, its scope and the line of its record
+-- a built FROM item: its node, its own scope and the line of its record
 pub record Source : Type 0 where
   pub node : Node Built
   pub scope : Scope
@@ -24,10 +25,44 @@ pub record Source : Type 0 where
 
 -- Scope::merge: 6 a table name already held, then 3 the width
 unfoldable pub mergeInto : Scope → Source → Answer Scope
-mergeInto s f = elim (shares (s .tables) (f .scope .tables)) [
-  | true ↦ refuse duplicateTable (f .line)
-  | false ↦ elim (ltb mostColumns (width s + width (f .scope))) [ true ↦ refuse limitPassed (f .line) | false ↦ ok (merge s (f .scope)) ]
-]
+mergeInto s f = do
+  refuseIf (shares (s .tables) (f .scope .tables)) duplicateTable (f .line)
+  refuseIf (ltb mostColumns (width s + width (f .scope))) limitPassed (f .line)
+  ok (merge s (f .scope))
+
+-- JOINS
+-- JoinType::is_outer
+unfoldable pub isOuter : Join → Bool
+isOuter cross = false
+isOuter inner = false
+isOuter left = true
+isOuter right = true
+
+unfoldable pub isRight : Join → Bool
+isRight cross = false
+isRight inner = false
+isRight left = false
+isRight right = true
+
+-- the two sides of a join, the first built before the second, with the predicate that reads both
+pub record Sides : Type 0 where
+  pub first : Source
+  pub second : Source
+  pub scope : Scope
+  pub predicate : Option Built
+
+-- the sides, each merged into the join's own scope as soon as it is built, then the predicate
+unfoldable pub buildSides : Option Expr → Answer Source → Answer Source → Answer Sides
+buildSides p first′ second′ = do
+  a ← first′
+  s ← mergeInto empty a
+  b ← second′
+  t ← mergeInto s b
+  x ← buildOption t p
+  ok (record { first = a; second = b; scope = t; predicate = x })
+
+unfoldable pub joinNode : Bool → Sides → Node Built
+joinNode outer d = P.join (d .first .node) (d .second .node) (d .predicate) outer
 
 -- n targets from i on
 unfoldable pub rising : ℕ → ℕ → List (Option ℕ)
@@ -38,50 +73,56 @@ rising i (suc n) = some i ∷ rising (i + 1) n
 unfoldable pub swapped : ℕ → ℕ → List (Option ℕ)
 swapped a b = rising b a ++ rising 0 b
 
--- a join of two built sides, the first of them built first
-unfoldable pub joinSides : ℕ → Bool → Option Expr → Answer Source → Answer Source → Answer (Source × ℕ × ℕ)
-joinSides l outer p left′ right′ = do
-  a ← left′
-  s ← mergeInto empty a
-  b ← right′
-  t ← mergeInto s b
-  x ← buildOption t p
-  ok (record { node = P.join (a .node) (b .node) x outer; scope = t; line = l }, width (a .scope), width (b .scope))
+unfoldable pub swapTargets : Sides → List (Option ℕ)
+swapTargets d = swapped (width (d .first .scope)) (width (d .second .scope))
 
-unfoldable pub joinRule : Join → ℕ → Option Expr → Answer Source → Answer Source → Answer Source
-joinRule cross l p a b = do
-  r ← joinSides l false p a b
-  ok (r .0)
-joinRule inner l p a b = do
-  r ← joinSides l false p a b
-  ok (r .0)
-joinRule left l p a b = do
-  r ← joinSides l true p a b
-  ok (r .0)
--- a right join is a left join of the swapped sides, its columns then swapped back
-joinRule right l p a b = do
-  r ← joinSides l true p b a
-  let targets = swapped (r .1) (r .2)
-  ok (record { node = P.remap (r .0 .node) targets; scope = remap (r .0 .scope) targets; line = l })
+-- the sides in the order in which the statement has them
+unfoldable pub joinInOrder : ℕ → Bool → Sides → Source
+joinInOrder l outer d = record { node = joinNode outer d; scope = d .scope; line = l }
+
+-- the sides in the other order, and the columns of their join swapped back
+unfoldable pub joinSwapped : ℕ → Bool → Sides → Source
+joinSwapped l outer d = record {
+  node = P.remap (joinNode outer d) (swapTargets d);
+  scope = remap (d .scope) (swapTargets d);
+  line = l;
+}
+
+-- A right join is a left join of the swapped sides, its right side built first: `t RIGHT JOIN u` of 2 and 3 columns
+-- scans u, then t, joins them outer, and puts the columns at 2 3 4 0 1.
+unfoldable pub buildJoin : ℕ → Join → Option Expr → Answer Source → Answer Source → Answer Source
+buildJoin l j p a b = elim (isRight j) [
+  | false ↦ do
+    d ← buildSides p a b
+    ok (joinInOrder l (isOuter j) d)
+  | true ↦ do
+    d ← buildSides p b a
+    ok (joinSwapped l (isOuter j) d)
+]
+
+-- FROM
+unfoldable pub scanOf : ℕ → Option Word → Table → Source
+scanOf l a t = record { node = P.scan t a none; scope = fromTable (orElse a (t .name)) t; line = l }
 
 -- build_from
 unfoldable pub buildFrom : Catalog → From → Answer Source
 buildFrom c (Ast.table l n a) = do
-  t ← mustGetTable c l (n .bytes)
-  ok (record { node = P.scan (t .0) (t .1) a none; scope = fromTable (orElse a (t .1 .name)) (t .1); line = l })
-buildFrom c (Ast.join l j a b p) = joinRule j l p (buildFrom c a) (buildFrom c b)
+  t ← mustGetTable c l n
+  ok (scanOf l a t)
+buildFrom c (Ast.join l j a b p) = buildJoin l j p (buildFrom c a) (buildFrom c b)
 
--- build_from_clause, the later items
-unfoldable pub buildLaterItems : Catalog → List From → Node Built → Scope → Answer (Node Built × Scope)
-buildLaterItems c [] n s = ok (n, s)
-buildLaterItems c (f ∷ fs) n s = do
-  r ← buildFrom c f
-  t ← mergeInto s r
-  buildLaterItems c fs (P.join n (r .node) none false) t
+-- build_from_clause, the items behind the first: `FROM a, b` is an inner join with no predicate
+unfoldable pub buildLaterItems : Catalog → List From → Stage → Answer Stage
+buildLaterItems c [] r = ok r
+buildLaterItems c (f ∷ fs) r = do
+  g ← buildFrom c f
+  t ← mergeInto (r .scope) g
+  buildLaterItems c fs (record { node = P.join (r .node) (g .node) none false; scope = t })
 
-unfoldable pub buildFromClause : Catalog → List From → Answer (Node Built × Scope)
-buildFromClause c [] = ok (P.values ([] ∷ []), empty)
+-- build_from_clause; with no FROM there is one row of no columns to project with
+unfoldable pub buildFromClause : Catalog → List From → Answer Stage
+buildFromClause c [] = ok (record { node = P.values ([] ∷ []); scope = empty })
 buildFromClause c (f ∷ fs) = do
-  r ← buildFrom c f
-  t ← mergeInto empty r
-  buildLaterItems c fs (r .node) t
+  g ← buildFrom c f
+  t ← mergeInto empty g
+  buildLaterItems c fs (record { node = g .node; scope = t })

@@ -1,42 +1,60 @@
 -- DELETE, INSERT, UPDATE, CREATE and DROP (planner.rs, build and the functions it calls).
-use Prim.Native.Nat.{ℕ, zero, suc}
+use Prim.Native.Nat.{ℕ, suc}
 use mathlib.Core.Bool.{Bool, true, false, _&&_, _||_, not}
 use mathlib.Core.List.{List, [], _∷_, _++_}
 use mathlib.Core.Option.{Option, none, some}
 use lib.Dec.{eqb}
-use Rattle.rules.specs.Refusals.{Answer, ok, _>>=_, refuse, otherStatement, noPrimaryKey, multiplePrimaryKeys, unknownInsertColumn, repeatedInsertColumn, noDefault}
+use Rattle.rules.specs.Refusals.{Answer, ok, _>>=_, _>>_, refuse, refuseIf, otherStatement, noPrimaryKey}
+use Rattle.rules.specs.Refusals.{multiplePrimaryKeys, unknownInsertColumn, repeatedInsertColumn, noDefault}
 use Rattle.rules.specs.Lists.{any, isSome, orElse}
 use Rattle.rules.specs.Lines.{Word}
-use Rattle.rules.specs.Schema.{Value, null, Column, Catalog, mustGetTable, columnAt, defaultAt}
-use Rattle.rules.specs.Ast.{Expr, Clause, Delete, Named, Insert, Update, NewColumn, Create, Statement}
+use Rattle.rules.specs.Schema.{Value, null, Column, Table, Catalog, mustGetTable, columnAt, defaultAt}
+use Rattle.rules.specs.Ast.{Expr, Delete, Named, Insert, Update, NewColumn, Create, Statement}
 use Rattle.rules.specs.Ast as Ast
-use Rattle.rules.specs.Plan.{Built, Made, Plan}
+use Rattle.rules.specs.Plan.{Built, TablePosition, cindex, ValuePosition, vindex, Mapping, Made, Plan}
 use Rattle.rules.specs.Plan as P
 use Rattle.rules.specs.Scope.{Scope, empty, lookup, fromTable}
 use Rattle.rules.specs.BuildExpression.{found, build, each, buildOption, clauseExpr, constant}
 use Rattle.rules.specs.BuildSelect.{buildSelect}
 
--- build_delete
+-- the columns of a table that DELETE or UPDATE names
+unfoldable pub tableScope : Table → Scope
+tableScope t = fromTable (t .name) t
+
+-- DELETE (build_delete)
 unfoldable pub buildDelete : Catalog → Delete → Answer (Plan Built)
 buildDelete c d = do
-  t ← mustGetTable c (d .line) (d .table .bytes)
-  w ← buildOption (fromTable (t .1 .name) (t .1)) (clauseExpr (d .filter))
-  ok (P.delete (t .0) (t .1) (P.scan (t .0) (t .1) none w))
+  t ← mustGetTable c (d .line) (d .table)
+  w ← buildOption (tableScope t) (clauseExpr (d .filter))
+  ok (P.delete t (P.scan t none w))
 
--- build_insert
+-- INSERT (build_insert)
+unfoldable pub samePosition : TablePosition → TablePosition → Bool
+samePosition (cindex i) (cindex j) = eqb i j
+
+-- whether a column is in the map
+unfoldable pub mapped : TablePosition → List Mapping → Bool
+mapped c m = any (λ (e : Mapping). samePosition (e .column) c) m
+
+unfoldable pub tablePosition : List Column → Word → Option TablePosition
+tablePosition cs n = elim (columnAt 0 cs (n .bytes)) [ some i ↦ some (cindex i) | none ↦ none ]
+
 -- 22 no such column, 23 one given before
-unfoldable pub mapOne : ℕ → Option ℕ → ℕ → List (ℕ × ℕ) → Answer (List (ℕ × ℕ))
-mapOne l none v m = refuse unknownInsertColumn l
-mapOne l (some c) v m = elim (any (λ (e : ℕ × ℕ). eqb (e .0) c) m) [ true ↦ refuse repeatedInsertColumn l | false ↦ ok (m ++ ((c, v) ∷ [])) ]
+unfoldable pub mapColumn : ℕ → Option TablePosition → ValuePosition → List Mapping → Answer (List Mapping)
+mapColumn l none v m = refuse unknownInsertColumn l
+mapColumn l (some c) v m = do
+  refuseIf (mapped c m) repeatedInsertColumn l
+  ok (m ++ (record { column = c; value = v } ∷ []))
 
 -- the column map behind v names
-unfoldable pub mapFrom : List Column → List Named → ℕ → List (ℕ × ℕ) → Answer (List (ℕ × ℕ))
+unfoldable pub mapFrom : List Column → List Named → ℕ → List Mapping → Answer (List Mapping)
 mapFrom cs [] v m = ok m
 mapFrom cs (n ∷ ns) v m = do
-  m₁ ← mapOne (n .line) (columnAt 0 cs (n .name .bytes)) v m
+  m₁ ← mapColumn (n .line) (tablePosition cs (n .name)) (vindex v) m
   mapFrom cs ns (suc v) m₁
 
-unfoldable pub columnMap : List Column → Option (List Named) → Answer (Option (List (ℕ × ℕ)))
+-- a map of no names is not no map
+unfoldable pub columnMap : List Column → Option (List Named) → Answer (Option (List Mapping))
 columnMap cs none = ok none
 columnMap cs (some ns) = do
   m ← mapFrom cs ns 0 []
@@ -44,12 +62,12 @@ columnMap cs (some ns) = do
 
 unfoldable pub buildInsert : Catalog → Insert → Answer (Plan Built)
 buildInsert c d = do
-  t ← mustGetTable c (d .line) (d .table .bytes)
-  m ← columnMap (t .1 .columns) (d .columns)
+  t ← mustGetTable c (d .line) (d .table)
+  m ← columnMap (t .columns) (d .columns)
   rs ← each (each (build empty)) (d .rows)
-  ok (P.insert (t .0) (t .1) m (P.values rs))
+  ok (P.insert t m (P.values rs))
 
--- build_update
+-- UPDATE (build_update)
 unfoldable pub orDefault : ℕ → Option Value → Answer Built
 orDefault l none = refuse noDefault l
 orDefault l (some v) = ok (P.constant v)
@@ -66,23 +84,30 @@ setBuilt s cs x = do
 
 unfoldable pub buildUpdate : Catalog → Update → Answer (Plan Built)
 buildUpdate c d = do
-  t ← mustGetTable c (d .line) (d .table .bytes)
-  let s = fromTable (t .1 .name) (t .1)
-  w ← buildOption s (clauseExpr (d .filter))
-  xs ← each (setBuilt s (t .1 .columns)) (d .sets)
-  ok (P.update (t .0) (t .1) (P.scan (t .0) (t .1) none w) xs)
+  t ← mustGetTable c (d .line) (d .table)
+  w ← buildOption (tableScope t) (clauseExpr (d .filter))
+  xs ← each (setBuilt (tableScope t) (t .columns)) (d .sets)
+  ok (P.update t (P.scan t none w) xs)
 
--- build_create_table
--- the position, from i, and the line of each key column
-unfoldable pub keyColumns : ℕ → List NewColumn → List (ℕ × ℕ)
+-- CREATE (build_create_table)
+-- a column given as primary key: its position and the line of its record
+pub record KeyColumn : Type 0 where
+  pub position : ℕ
+  pub line : ℕ
+
+-- those of the columns, from position i
+unfoldable pub keyColumns : ℕ → List NewColumn → List KeyColumn
 keyColumns i [] = []
-keyColumns i (c ∷ cs) = elim (c .key) [ true ↦ (i, c .line) ∷ keyColumns (suc i) cs | false ↦ keyColumns (suc i) cs ]
+keyColumns i (c ∷ cs) = elim (c .key) [
+  | true ↦ record { position = i; line = c .line } ∷ keyColumns (suc i) cs
+  | false ↦ keyColumns (suc i) cs
+]
 
 -- the position of the only one
-unfoldable pub primaryKey : ℕ → List (ℕ × ℕ) → Answer ℕ
+unfoldable pub primaryKey : ℕ → List KeyColumn → Answer ℕ
 primaryKey l [] = refuse noPrimaryKey l
-primaryKey l (k ∷ []) = ok (k .0)
-primaryKey l (k ∷ (m ∷ r)) = refuse multiplePrimaryKeys (m .1)
+primaryKey l (k ∷ []) = ok (k .position)
+primaryKey l (k ∷ (m ∷ r)) = refuse multiplePrimaryKeys (m .line)
 
 -- a column that may be null has a null default
 unfoldable pub nullDefault : Bool → Option Value

@@ -1,5 +1,5 @@
 -- Comparisons (expression.rs, Equal, GreaterThan and LessThan of evaluate).
-use mathlib.Core.Bool.{Bool, true, false, _&&_, _||_, not}
+use mathlib.Core.Bool.{Bool, true, false, _&&_, not}
 use lib.IntN.{ℤ}
 use lib.Signed.{ltZ}
 use lib.Ieee.{Float}
@@ -8,7 +8,7 @@ use Rattle.rules.specs.Refusals.{wrongOperand}
 use Rattle.rules.specs.Lists.{same, before}
 use Rattle.rules.specs.Lines.{Word}
 use Rattle.rules.specs.Schema.{Value, null, bool, int, float, text}
-use Rattle.rules.specs.Arithmetic.{Worked, gives, fails, number, rounded}
+use Rattle.rules.specs.Arithmetic.{Worked, gives, fails, floatOf, rounded}
 
 -- `unordered` is a NaN with any float
 pub data Order : Type 0 where
@@ -53,12 +53,12 @@ compare (bool a) (text t) = incomparable
 compare (int m) null = unknown
 compare (int m) (bool b) = incomparable
 compare (int m) (int n) = ordered (orderIntegers m n)
-compare (int m) (float y) = ordered (orderFloats (rounded m) (number y))
+compare (int m) (float y) = ordered (orderFloats (rounded m) (floatOf y))
 compare (int m) (text t) = incomparable
 compare (float x) null = unknown
 compare (float x) (bool b) = incomparable
-compare (float x) (int n) = ordered (orderFloats (number x) (rounded n))
-compare (float x) (float y) = ordered (orderFloats (number x) (number y))
+compare (float x) (int n) = ordered (orderFloats (floatOf x) (rounded n))
+compare (float x) (float y) = ordered (orderFloats (floatOf x) (floatOf y))
 compare (float x) (text t) = incomparable
 compare (text s) null = unknown
 compare (text s) (bool b) = incomparable

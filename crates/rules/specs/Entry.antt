@@ -1,10 +1,11 @@
 -- The entry ("Entry", and "The planner's contracts"): from both texts and the area to the answer and the area at exit.
 use Prim.Native.Nat.{ℕ, _-_}
 use mathlib.Core.Bool.{Bool, true, false}
-use mathlib.Core.List.{List, [], _∷_, _++_}
+use mathlib.Core.List.{List, _++_}
 use lib.Dec.{ltb}
 use lib.ListN.{length, replicate}
-use Rattle.rules.specs.Refusals.{Text, catalog, statement, Reason, number, shortArea, limitPassed, Refusal, Answer, ok, refused, _>>=_}
+use Rattle.rules.specs.Refusals.{Text, catalog, statement, refusalNumber, shortArea, limitPassed}
+use Rattle.rules.specs.Refusals.{Answer, ok, refused, _>>=_}
 use Rattle.rules.specs.Limits.{mostBytes, leastArea}
 use Rattle.rules.specs.Lists.{Bytes}
 use Rattle.rules.specs.ReadCatalog.{readCatalog}
@@ -61,7 +62,7 @@ outcome a (ok p) = record {
   area = planNumbers p ++ replicate (length a - length (planNumbers p)) 0;
 }
 outcome a (refused r) = record {
-  number = number (r .reason);
+  number = refusalNumber (r .reason);
   text = textNumber (r .text);
   line = r .line;
   count = 0;

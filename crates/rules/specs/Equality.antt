@@ -1,72 +1,65 @@
--- Equality of expressions (ast.rs, PartialEq of Expression and Literal): lines and places do not count, floats go by bits.
+-- Equality of expressions (ast.rs, PartialEq of Expression and Literal): by structure. Lines and places do not count,
+-- and floats go by their bits, as in `Literal`'s Hash and Eq.
 use Prim.Native.Nat.{ℕ}
-use mathlib.Core.Bool.{Bool, true, false}
-use mathlib.Core.List.{List, [], _∷_, _++_}
+use mathlib.Core.Bool.{Bool, true, false, _&&_}
+use mathlib.Core.List.{List, [], _∷_}
 use mathlib.Core.Option.{Option, none, some}
-use lib.IntN.{ℤ, pos, negsuc}
-use Rattle.rules.specs.Lists.{sameAll}
+use lib.Dec.{eqb}
+use lib.IntN.{pos, negsuc}
+use Rattle.rules.specs.Lists.{same, isSome}
 use Rattle.rules.specs.Lines.{Word}
 use Rattle.rules.specs.Schema.{Value, null, bool, int, float, text}
-use Rattle.rules.specs.Ast.{Unary, not, fact, ident, neg, sqrt, Plain, and, or, eq, gt, lt, add, div, pow, mul, rem, sub, like, Binary, plain, ge, le, ne}
 use Rattle.rules.specs.Ast.{Expr, star, column, literal, call, unary, binary, is, Exprs, nil, cons}
+use Rattle.rules.specs.Views.{asStar, asColumn, asLiteral, asCall, asUnary, asBinary, asIs}
+use Rattle.rules.specs.Codes.{unaryCode, binaryCode}
 
--- codes of the operators, in the spelling and in the area
-unfoldable pub unaryCode : Unary → ℕ
-unaryCode not = 8
-unaryCode fact = 9
-unaryCode ident = 10
-unaryCode neg = 11
-unaryCode sqrt = 12
+unfoldable pub sameName : Word → Word → Bool
+sameName v w = same (v .bytes) (w .bytes)
 
-unfoldable pub plainCode : Plain → ℕ
-plainCode and = 16
-plainCode or = 17
-plainCode eq = 18
-plainCode gt = 19
-plainCode lt = 20
-plainCode add = 21
-plainCode div = 22
-plainCode pow = 23
-plainCode mul = 24
-plainCode rem = 25
-plainCode sub = 26
-plainCode like = 27
+unfoldable pub sameOptionalName : Option Word → Option Word → Bool
+sameOptionalName none none = true
+sameOptionalName none (some w) = false
+sameOptionalName (some v) none = false
+sameOptionalName (some v) (some w) = sameName v w
 
-unfoldable pub binaryCode : Binary → ℕ
-binaryCode (plain o) = plainCode o
-binaryCode ge = 28
-binaryCode le = 29
-binaryCode ne = 30
+-- a literal's kind and contents, as numbers
+unfoldable pub contents : Value → List ℕ
+contents null = 1 ∷ []
+contents (bool false) = 2 ∷ 0 ∷ []
+contents (bool true) = 2 ∷ 1 ∷ []
+contents (int (pos n)) = 3 ∷ 0 ∷ n ∷ []
+contents (int (negsuc n)) = 3 ∷ 1 ∷ n ∷ []
+contents (float b) = 4 ∷ b ∷ []
+contents (text w) = 5 ∷ w .bytes
 
--- An expression's spelling: a list of numbers for each record, root first, without lines and places. Two expressions are
--- equal when their spellings are.
-abbrev pub Spelling : Type 0
-Spelling = List (List ℕ)
-
-unfoldable pub spellValue : Value → List ℕ
-spellValue null = 1 ∷ []
-spellValue (bool false) = 2 ∷ 0 ∷ []
-spellValue (bool true) = 2 ∷ 1 ∷ []
-spellValue (int (pos n)) = 3 ∷ 0 ∷ n ∷ []
-spellValue (int (negsuc n)) = 3 ∷ 1 ∷ n ∷ []
-spellValue (float b) = 4 ∷ b ∷ []
-spellValue (text w) = 5 ∷ w .bytes
+unfoldable pub sameValue : Value → Value → Bool
+sameValue v w = same (contents v) (contents w)
 
 unfoldable mutual
-  pub spell : Expr → Spelling
-  spell (star l) = (31 ∷ []) ∷ []
-  spell (column l none n) = (32 ∷ n .bytes) ∷ []
-  spell (column l (some t) n) = (33 ∷ t .bytes) ∷ (n .bytes ∷ [])
-  spell (literal l v) = spellValue v ∷ []
-  spell (call l n as′) = (34 ∷ n .bytes) ∷ spellAll as′
-  spell (unary l o a) = (unaryCode o ∷ []) ∷ spell a
-  spell (binary l o a b) = (binaryCode o ∷ []) ∷ (spell a ++ spell b)
-  spell (is l a v) = (35 ∷ []) ∷ (spellValue v ∷ spell a)
+  pub equal : Expr → Expr → Bool
+  equal (star l) e = isSome (asStar e)
+  equal (column l t n) e = elim (asColumn e) [
+    | some c ↦ sameOptionalName t (c .table) && sameName n (c .name)
+    | none ↦ false
+  ]
+  equal (literal l v) e = elim (asLiteral e) [ some w ↦ sameValue v w | none ↦ false ]
+  equal (call l n as′) e = elim (asCall e) [
+    | some c ↦ sameName n (c .name) && equalAll as′ (c .arguments)
+    | none ↦ false
+  ]
+  equal (unary l o a) e = elim (asUnary e) [
+    | some u ↦ eqb (unaryCode o) (unaryCode (u .operator)) && equal a (u .operand)
+    | none ↦ false
+  ]
+  equal (binary l o a b) e = elim (asBinary e) [
+    | some u ↦ eqb (binaryCode o) (binaryCode (u .operator)) && equal a (u .left) && equal b (u .right)
+    | none ↦ false
+  ]
+  equal (is l a v) e = elim (asIs e) [ some u ↦ sameValue v (u .value) && equal a (u .operand) | none ↦ false ]
 
-  -- the arguments, each announced, and their end
-  pub spellAll : Exprs → Spelling
-  spellAll nil = (36 ∷ []) ∷ []
-  spellAll (cons a as′) = (37 ∷ []) ∷ (spell a ++ spellAll as′)
-
-unfoldable pub equal : Expr → Expr → Bool
-equal a b = sameAll (spell a) (spell b)
+  -- arguments one by one, and as many
+  pub equalAll : Exprs → Exprs → Bool
+  equalAll nil nil = true
+  equalAll nil (cons b bs) = false
+  equalAll (cons a as′) nil = false
+  equalAll (cons a as′) (cons b bs) = equal a b && equalAll as′ bs

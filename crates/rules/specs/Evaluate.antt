@@ -1,6 +1,7 @@
 -- The value of a constant expression (expression.rs, evaluate), or a refusal at the line of the operator or function.
 use Prim.Native.Nat.{ℕ}
-use Rattle.rules.specs.Refusals.{Answer, ok, refused, _>>=_, refuse, unsupportedStar, constantOnly, unknownFunction}
+use Rattle.rules.specs.Refusals.{Answer, ok, _>>=_, refuse, unsupportedStar, constantOnly}
+use Rattle.rules.specs.Refusals.{unknownFunction}
 use Rattle.rules.specs.Schema.{Value}
 use Rattle.rules.specs.Ast.{Expr, star, column, literal, call, unary, binary, is, Exprs, nil, cons}
 use Rattle.rules.specs.Arithmetic.{Worked, gives, fails}
@@ -10,8 +11,8 @@ unfoldable pub workedAt : ℕ → Worked → Answer Value
 workedAt l (gives v) = ok v
 workedAt l (fails n) = refuse n l
 
--- Both operands are worked out, the left one first. A bare literal keeps its bits. A star, a column and a call other than
--- `sqrt` of one argument were refused before, by build_expression over an empty scope; they are given its reasons.
+-- Both operands are worked out, the left one first. A bare literal keeps its bits. A star, a column and a call other
+-- than `sqrt` of one argument were refused before, by build_expression over an empty scope; they are given its reasons.
 unfoldable mutual
   pub evaluate : Expr → Answer Value
   evaluate (star l) = refuse unsupportedStar l

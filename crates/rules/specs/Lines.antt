@@ -1,9 +1,9 @@
 -- The line texts: fields, decimals, hexadecimal.
-use Prim.Native.Nat.{ℕ, zero, suc, _+_, _*_, _-_, _^_}
+use Prim.Native.Nat.{ℕ, zero, suc, _+_, _*_, _-_}
 use Prim.Native.String.{String}
 use Prim.Native.String as S
-use Prim.Native.Char.{Char, code}
-use mathlib.Core.Bool.{Bool, true, false, _&&_}
+use Prim.Native.Char.{code}
+use mathlib.Core.Bool.{true, false, _&&_}
 use mathlib.Core.List.{List, [], _∷_}
 use mathlib.Core.Option.{Option, none, some}
 use lib.Dec.{eqb, leb}
@@ -33,8 +33,8 @@ empty o = record { bytes = []; start = o }
 abbrev pub Line : Type 0
 Line = List Word
 
--- The fields of the line that a text starts with, its first byte at o. A tab ends a field, an LF the line. Where the text
--- ends first the record is wrong: two empty fields behind the last, which no record has.
+-- The fields of the line that a text starts with, its first byte at o. A tab ends a field, an LF the line. Where the
+-- text ends first the record is wrong: two empty fields behind the last, which no record has.
 unfoldable pub fields : ℕ → Bytes → Line
 fields o [] = empty o ∷ empty o ∷ empty o ∷ []
 fields o (x ∷ xs) = elim (eqb x 10) [

@@ -20,13 +20,10 @@ unfoldable pub before : Bytes → Bytes → Bool
 before [] [] = false
 before [] (y ∷ ys) = true
 before (x ∷ xs) [] = false
-before (x ∷ xs) (y ∷ ys) = elim (ltb x y) [ true ↦ true | false ↦ elim (eqb x y) [ true ↦ before xs ys | false ↦ false ] ]
-
-unfoldable pub sameAll : List Bytes → List Bytes → Bool
-sameAll [] [] = true
-sameAll [] (y ∷ ys) = false
-sameAll (x ∷ xs) [] = false
-sameAll (x ∷ xs) (y ∷ ys) = elim (same x y) [ true ↦ sameAll xs ys | false ↦ false ]
+before (x ∷ xs) (y ∷ ys) = elim (ltb x y) [
+  | true ↦ true
+  | false ↦ elim (eqb x y) [ true ↦ before xs ys | false ↦ false ]
+]
 
 -- what a table of words has under a word: the first
 unfoldable pub named : {A : Type 0} → List (Bytes × A) → Bytes → Option A

@@ -1,5 +1,5 @@
 -- The plan's nodes in order, sources before their user, each with the numbers of its sources and cells.
-use Prim.Native.Nat.{ℕ, zero, suc, _+_, pred}
+use Prim.Native.Nat.{ℕ, _+_, pred}
 use mathlib.Core.Bool.{Bool}
 use mathlib.Core.List.{List, [], _∷_, _++_}
 use mathlib.Core.Option.{Option, none, some}
@@ -9,7 +9,7 @@ use Rattle.rules.specs.Plan.{Aggregate, Node, Plan}
 use Rattle.rules.specs.Plan as P
 
 pub data NodeRecord : Type 0 where
-  scan : ℕ → Table → Option Word → Option ℕ → NodeRecord
+  scan : Table → Option Word → Option ℕ → NodeRecord
   values : List (List ℕ) → NodeRecord
   join : ℕ → ℕ → Option ℕ → Bool → NodeRecord
   filter : ℕ → ℕ → NodeRecord
@@ -21,7 +21,7 @@ pub data NodeRecord : Type 0 where
 
 -- how many nodes a node is, its sources among them
 unfoldable pub nodes : {E : Type 0} → Node E → ℕ
-nodes (P.scan i t a x) = 1
+nodes (P.scan t a x) = 1
 nodes (P.values rs) = 1
 nodes (P.join a b x o) = nodes a + nodes b + 1
 nodes (P.filter n x) = nodes n + 1
@@ -38,9 +38,11 @@ last i n = pred (i + nodes n)
 
 -- the records of a node and its sources, the first of them i
 unfoldable pub records : ℕ → Node ℕ → List NodeRecord
-records i (P.scan k t a x) = scan k t a x ∷ []
+records i (P.scan t a x) = scan t a x ∷ []
 records i (P.values rs) = values rs ∷ []
-records i (P.join a b x o) = records i a ++ (records (i + nodes a) b ++ (join (last i a) (last (i + nodes a) b) x o ∷ []))
+records i (P.join a b x o) =
+    let j = i + nodes a in
+    records i a ++ (records j b ++ (join (last i a) (last j b) x o ∷ []))
 records i (P.filter n x) = records i n ++ (filter (last i n) x ∷ [])
 records i (P.aggregate n gs fs) = records i n ++ (aggregate (last i n) gs fs ∷ [])
 records i (P.project n xs) = records i n ++ (project (last i n) xs ∷ [])
@@ -52,9 +54,9 @@ records i (P.remap n ts) = records i n ++ (remap (last i n) ts ∷ [])
 -- the node of a plan, if it has one
 unfoldable pub nodeOf : {E : Type 0} → Plan E → Option (Node E)
 nodeOf (P.select n) = some n
-nodeOf (P.delete i t n) = some n
-nodeOf (P.insert i t m n) = some n
-nodeOf (P.update i t n xs) = some n
+nodeOf (P.delete t n) = some n
+nodeOf (P.insert t m n) = some n
+nodeOf (P.update t n xs) = some n
 nodeOf (P.create n k cs) = none
 nodeOf (P.drop n y) = none
 

@@ -1,12 +1,15 @@
 -- What each operator gives of values (expression.rs, evaluate).
 use mathlib.Core.Bool.{Bool, true, false, _&&_, _||_}
 use mathlib.Core.Bool.{not as not′}
-use lib.IntN.{ℤ, pos, negsuc, negℤ}
+use lib.IntN.{pos, negsuc, negℤ}
 use lib.Ieee as Ieee
 use Rattle.rules.specs.Refusals.{wrongOperand, notWorkedOut, invalidIs}
 use Rattle.rules.specs.Schema.{Value, null, bool, int, float, text}
-use Rattle.rules.specs.Ast.{Unary, not, fact, ident, neg, sqrt, Plain, and, or, eq, gt, lt, add, div, pow, mul, rem, sub, like, Binary, plain, ge, le, ne}
-use Rattle.rules.specs.Arithmetic.{Worked, gives, fails, fitted, factorial, number, floating, numbers, sumOf, differenceOf, productOf, quotientOf, remainderOf, powerOf}
+use Rattle.rules.specs.Ast.{Unary, not, fact, ident, neg, sqrt}
+use Rattle.rules.specs.Ast.{Plain, and, or, eq, gt, lt, add, div, pow, mul, rem, sub, like}
+use Rattle.rules.specs.Ast.{Binary, plain, ge, le, ne}
+use Rattle.rules.specs.Arithmetic.{Worked, gives, fails, fitted, factorial, floatOf, floating, numbers, sumOf}
+use Rattle.rules.specs.Arithmetic.{differenceOf, productOf, quotientOf, remainderOf, powerOf}
 use Rattle.rules.specs.Comparison.{compare, compared, isLess, isSame, isGreater}
 
 -- AND, OR: null stands for an unknown truth
@@ -90,7 +93,7 @@ unfoldable pub identityOf : Value → Worked
 identityOf null = gives null
 identityOf (bool a) = fails wrongOperand
 identityOf (int n) = gives (int n)
-identityOf (float x) = floating (number x)
+identityOf (float x) = floating (floatOf x)
 identityOf (text t) = fails wrongOperand
 
 unfoldable pub negationOf : Value → Worked
@@ -98,7 +101,7 @@ unfolding Ieee.neg
 negationOf null = gives null
 negationOf (bool a) = fails wrongOperand
 negationOf (int n) = fitted (negℤ n)
-negationOf (float x) = floating (Ieee.neg (number x))
+negationOf (float x) = floating (Ieee.neg (floatOf x))
 negationOf (text t) = fails wrongOperand
 
 -- a root is not worked out
@@ -130,7 +133,7 @@ unfolding Ieee.isNan
 isNan null = gives null
 isNan (bool a) = fails wrongOperand
 isNan (int n) = fails wrongOperand
-isNan (float x) = gives (bool (Ieee.isNan (number x)))
+isNan (float x) = gives (bool (Ieee.isNan (floatOf x)))
 isNan (text t) = fails wrongOperand
 
 -- by the literal behind `is`: a null, or a NaN; another one was 29 before

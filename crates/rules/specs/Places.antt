@@ -1,8 +1,7 @@
--- Places in the two texts: an address and a length (docs/PLAN.md). The catalog's bytes have the addresses from 0 on, the
--- statement's those from 65,536 on.
+-- Places in the two texts: an address and a length (docs/PLAN.md). The catalog's bytes have the addresses from 0 on,
+-- the statement's those from 65,536 on.
 use Prim.Native.Nat.{ℕ, _-_}
-use mathlib.Core.Bool.{Bool, true, false}
-use mathlib.Core.List.{List}
+use mathlib.Core.Bool.{true, false}
 use lib.Dec.{ltb}
 use lib.ListN.{take, drop}
 use Rattle.rules.specs.Limits.{mostBytes}

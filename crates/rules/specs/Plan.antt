@@ -1,7 +1,7 @@
 -- The plan (plan.rs; expression.rs, Expression), over the kind of its expressions.
 use Prim.Native.Nat.{ℕ, zero, suc, _+_, _-_}
 use mathlib.Core.Bool.{Bool, true, false}
-use mathlib.Core.List.{List, [], _∷_, _++_, map}
+use mathlib.Core.List.{List, [], _∷_, map}
 use mathlib.Core.Option.{Option, none, some}
 use lib.Dec.{eqb, ltb}
 use lib.ListN.{length}
@@ -26,28 +26,27 @@ Built = Tree Binary
 abbrev pub Expression : Type 0
 Expression = Tree Plain
 
--- `ge` is greater or equal, `le` less or equal, `ne` not equal
-unfoldable pub apart : Binary → Expression → Expression → Expression
-apart (plain o) a b = binary o a b
-apart ge a b = binary or (binary gt a b) (binary eq a b)
-apart le a b = binary or (binary lt a b) (binary eq a b)
-apart ne a b = unary not (binary eq a b)
+-- build_expression's last step: `a >= b` is `a > b OR a = b`, `a <= b` is `a < b OR a = b`, `a != b` is `NOT a = b`
+unfoldable pub desugarBinary : Binary → Expression → Expression → Expression
+desugarBinary (plain o) a b = binary o a b
+desugarBinary ge a b = binary or (binary gt a b) (binary eq a b)
+desugarBinary le a b = binary or (binary lt a b) (binary eq a b)
+desugarBinary ne a b = unary not (binary eq a b)
 
--- the plan's expression for a resolved one
-unfoldable pub expand : Built → Expression
-expand (constant v) = constant v
-expand (column i) = column i
-expand (unary o a) = unary o (expand a)
-expand (binary o a b) = apart o (expand a) (expand b)
-expand (is a v) = is (expand a) v
+unfoldable pub desugar : Built → Expression
+desugar (constant v) = constant v
+desugar (column i) = column i
+desugar (unary o a) = unary o (desugar a)
+desugar (binary o a b) = desugarBinary o (desugar a) (desugar b)
+desugar (is a v) = is (desugar a) v
 
 pub data Aggregate : Type 0 where
   avg count max min sum : Aggregate
 
--- A scanned table stands with its position in the catalog, and a created one with its columns. A join is outer or inner, a
--- projected expression has its alias, an order key is descending or not.
+-- A scanned table is named where the statement names it. A join is outer or inner, a projected expression has its
+-- alias, an order key is descending or not, a remap has a target, or none, for each column of its source.
 pub data Node (E : Type 0) : Type 0 where
-  scan : ℕ → Table → Option Word → Option E → Node E
+  scan : Table → Option Word → Option E → Node E
   values : List (List E) → Node E
   join : Node E → Node E → Option E → Bool → Node E
   filter : Node E → E → Node E
@@ -68,12 +67,24 @@ pub record Made : Type 0 where
   pub index : Bool
   pub reference : Option Word
 
--- An insert's map takes a table position to a value position. An update has a table position and an expression a set.
+-- Two kinds of position that INSERT must not confuse: of a column in its table, and of a value in its row.
+pub data TablePosition : Type 0 where
+  cindex : ℕ → TablePosition
+
+pub data ValuePosition : Type 0 where
+  vindex : ℕ → ValuePosition
+
+-- an entry of INSERT's column map: the column, and the value that it takes
+pub record Mapping : Type 0 where
+  pub column : TablePosition
+  pub value : ValuePosition
+
+-- An update has a table position and an expression a set.
 pub data Plan (E : Type 0) : Type 0 where
   select : Node E → Plan E
-  delete : ℕ → Table → Node E → Plan E
-  insert : ℕ → Table → Option (List (ℕ × ℕ)) → Node E → Plan E
-  update : ℕ → Table → Node E → List (ℕ × E) → Plan E
+  delete : Table → Node E → Plan E
+  insert : Table → Option (List Mapping) → Node E → Plan E
+  update : Table → Node E → List (ℕ × E) → Plan E
   create : Word → ℕ → List Made → Plan E
   drop : Word → Bool → Plan E
 
@@ -87,7 +98,7 @@ mapSecond f [] = []
 mapSecond f (x ∷ xs) = (x .0, f (x .1)) ∷ mapSecond f xs
 
 unfoldable pub mapNode : {E F : Type 0} → (E → F) → Node E → Node F
-mapNode f (scan i t a x) = scan i t a (mapOption f x)
+mapNode f (scan t a x) = scan t a (mapOption f x)
 mapNode f (values rs) = values (map (map f) rs)
 mapNode f (join a b x o) = join (mapNode f a) (mapNode f b) (mapOption f x) o
 mapNode f (filter n x) = filter (mapNode f n) (f x)
@@ -101,17 +112,17 @@ mapNode f (remap n ts) = remap (mapNode f n) ts
 -- and of a plan
 unfoldable pub mapPlan : {E F : Type 0} → (E → F) → Plan E → Plan F
 mapPlan f (select n) = select (mapNode f n)
-mapPlan f (delete i t n) = delete i t (mapNode f n)
-mapPlan f (insert i t m n) = insert i t m (mapNode f n)
-mapPlan f (update i t n xs) = update i t (mapNode f n) (mapSecond f xs)
+mapPlan f (delete t n) = delete t (mapNode f n)
+mapPlan f (insert t m n) = insert t m (mapNode f n)
+mapPlan f (update t n xs) = update t (mapNode f n) (mapSecond f xs)
 mapPlan f (create n k cs) = create n k cs
 mapPlan f (drop n y) = drop n y
 
--- the plan that the Rust builds, with `ge`, `le` and `ne` taken apart
-unfoldable pub unshared : Plan Built → Plan Expression
-unshared p = mapPlan expand p
+-- the plan that the Rust builds
+unfoldable pub desugarPlan : Plan Built → Plan Expression
+desugarPlan p = mapPlan desugar p
 
--- Node::columns
+-- WIDTH
 unfoldable pub firstRow : {E : Type 0} → List (List E) → ℕ
 firstRow [] = 0
 firstRow (r ∷ rs) = length r
@@ -122,17 +133,18 @@ targetCount [] = 0
 targetCount (none ∷ r) = targetCount r
 targetCount (some t ∷ r) = Prim.Native.Nat.max (t + 1) (targetCount r)
 
-unfoldable pub columns : {E : Type 0} → Node E → ℕ
-columns (scan i t a x) = length (t .columns)
-columns (values rs) = firstRow rs
-columns (join a b x o) = columns a + columns b
-columns (filter n x) = columns n
-columns (aggregate n gs fs) = length gs + length fs
-columns (project n xs) = length xs
-columns (order n xs) = columns n
-columns (offset n k) = columns n
-columns (limit n k) = columns n
-columns (remap n ts) = targetCount ts
+-- Node::columns
+unfoldable pub columnCount : {E : Type 0} → Node E → ℕ
+columnCount (scan t a x) = length (t .columns)
+columnCount (values rs) = firstRow rs
+columnCount (join a b x o) = columnCount a + columnCount b
+columnCount (filter n x) = columnCount n
+columnCount (aggregate n gs fs) = length gs + length fs
+columnCount (project n xs) = length xs
+columnCount (order n xs) = columnCount n
+columnCount (offset n k) = columnCount n
+columnCount (limit n k) = columnCount n
+columnCount (remap n ts) = targetCount ts
 
 -- REMAP
 -- the last source, from i, that a remap puts at target t
@@ -192,9 +204,12 @@ remapLabel (some i) f = f i
 
 -- Node::column_label
 unfoldable pub columnLabel : Node Built → ℕ → Label
-columnLabel (scan i t a x) k = scanLabel (orElse a (t .name)) (entryAfter k (t .columns))
+columnLabel (scan t a x) k = scanLabel (orElse a (t .name)) (entryAfter k (t .columns))
 columnLabel (values rs) k = nameless
-columnLabel (join a b x o) k = elim (ltb k (columns a)) [ true ↦ columnLabel a k | false ↦ columnLabel b (k - columns a) ]
+columnLabel (join a b x o) k = elim (ltb k (columnCount a)) [
+  | true ↦ columnLabel a k
+  | false ↦ columnLabel b (k - columnCount a)
+]
 columnLabel (filter n x) k = columnLabel n k
 columnLabel (aggregate n gs fs) k = groupLabel (entryAfter k gs) (columnLabel n)
 columnLabel (project n xs) k = projectLabel (entryAfter k xs) (columnLabel n)
@@ -210,4 +225,4 @@ labelsFrom m i (suc n) = columnLabel m i ∷ labelsFrom m (suc i) n
 
 -- the labels of all its columns
 unfoldable pub labels : Node Built → List Label
-labels m = labelsFrom m 0 (columns m)
+labels m = labelsFrom m 0 (columnCount m)

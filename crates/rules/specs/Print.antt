@@ -6,15 +6,19 @@ use mathlib.Core.Option.{Option, none, some}
 use lib.Dec.{ltb}
 use lib.ListN.{length}
 use lib.IntN.{ℤ, pos, negsuc}
-use Rattle.rules.specs.Refusals.{Text, catalog, statement, number, Answer, ok, refused}
+use Rattle.rules.specs.Refusals.{Text, catalog, statement, refusalNumber, Refusal, Answer, ok, refused}
 use Rattle.rules.specs.Lists.{Bytes}
 use Rattle.rules.specs.Lines.{Word, bytes}
-use Rattle.rules.specs.Schema.{Value, null, bool, int, float, text, Datatype, boolean, integer, floating, string, Table}
-use Rattle.rules.specs.Ast.{Unary, not, fact, ident, neg, sqrt, Plain, and, or, eq, gt, lt, add, div, pow, mul, rem, sub, like}
-use Rattle.rules.specs.Plan.{Built, Aggregate, avg, count, max, min, sum, Made, Plan}
+use Rattle.rules.specs.Schema.{Value, null, bool, int, float, text, Datatype, boolean, integer, floating, string}
+use Rattle.rules.specs.Schema.{Table}
+use Rattle.rules.specs.Ast.{Unary, not, fact, ident, neg, sqrt}
+use Rattle.rules.specs.Ast.{Plain, and, or, eq, gt, lt, add, div, pow, mul, rem, sub, like}
+use Rattle.rules.specs.Plan.{Built, Aggregate, avg, count, max, min, sum, Node, cindex, vindex, Mapping, Made}
+use Rattle.rules.specs.Plan.{Plan}
 use Rattle.rules.specs.Plan as P
 use Rattle.rules.specs.Cells.{Cell, constant, column, unary, binary, is, planCells, numberPlan}
-use Rattle.rules.specs.Nodes.{NodeRecord, scan, values, join, filter, aggregate, project, order, offset, limit, remap, last, planRecords}
+use Rattle.rules.specs.Nodes.{NodeRecord, scan, values, join, filter, aggregate, project, order, offset, limit}
+use Rattle.rules.specs.Nodes.{remap, last, planRecords}
 
 -- up to `fuel` digits of n, before r
 unfoldable pub digitsOf : ℕ → ℕ → Bytes → Bytes
@@ -30,7 +34,10 @@ integerOf (negsuc n) = 45 ∷ decimalOf (suc n)
 
 unfoldable pub hexOf : ℕ → ℕ → Bytes → Bytes
 hexOf zero n r = r
-hexOf (suc k) n r = elim (ltb (n % 16) 10) [ true ↦ hexOf k (n / 16) ((48 + n % 16) ∷ r) | false ↦ hexOf k (n / 16) ((87 + n % 16) ∷ r) ]
+hexOf (suc k) n r = elim (ltb (n % 16) 10) [
+  | true ↦ hexOf k (n / 16) ((48 + n % 16) ∷ r)
+  | false ↦ hexOf k (n / 16) ((87 + n % 16) ∷ r)
+]
 
 -- fields parted by tabs
 unfoldable pub tabbed : List Bytes → Bytes
@@ -119,7 +126,7 @@ showFunctions [] = []
 showFunctions (x ∷ xs) = showAggregate (x .0) ∷ decimalOf (x .1) ∷ showFunctions xs
 
 unfoldable pub showRecord : NodeRecord → List Bytes
-showRecord (scan k t a x) = bytes "scan" ∷ t .name .bytes ∷ (showAlias a ++ showGiven x)
+showRecord (scan t a x) = bytes "scan" ∷ t .name .bytes ∷ (showAlias a ++ showGiven x)
 showRecord (values rs) = bytes "values" ∷ showRows rs
 showRecord (join a b x o) = bytes "join" ∷ decimalOf a ∷ decimalOf b ∷ outer o ∷ showGiven x
 showRecord (filter n x) = bytes "filter" ∷ decimalOf n ∷ decimalOf x ∷ []
@@ -137,9 +144,9 @@ numbered k n (l ∷ ls) = (k ∷ decimalOf n ∷ l) ∷ numbered k (suc n) ls
 
 unfoldable pub kind : Plan Built → Bytes
 kind (P.select n) = bytes "select"
-kind (P.delete i t n) = bytes "delete"
-kind (P.insert i t m n) = bytes "insert"
-kind (P.update i t n xs) = bytes "update"
+kind (P.delete t n) = bytes "delete"
+kind (P.insert t m n) = bytes "insert"
+kind (P.update t n xs) = bytes "update"
 kind (P.create n k cs) = bytes "create"
 kind (P.drop n y) = bytes "drop"
 
@@ -147,13 +154,14 @@ unfoldable pub showLines : List (List Bytes) → Bytes
 showLines [] = []
 showLines (l ∷ ls) = tabbed l ++ (10 ∷ showLines ls)
 
-unfoldable pub showMap : List (ℕ × ℕ) → List (List Bytes)
-showMap [] = []
-showMap (e ∷ es) = (bytes "map" ∷ decimalOf (e .0) ∷ decimalOf (e .1) ∷ []) ∷ showMap es
+unfoldable pub showMapping : Mapping → List Bytes
+showMapping m = elim (m .column) [
+  | cindex i ↦ elim (m .value) [ vindex j ↦ bytes "map" ∷ decimalOf i ∷ decimalOf j ∷ [] ]
+]
 
-unfoldable pub showColumnMap : Option (List (ℕ × ℕ)) → List (List Bytes)
+unfoldable pub showColumnMap : Option (List Mapping) → List (List Bytes)
 showColumnMap none = []
-showColumnMap (some m) = (bytes "columns" ∷ decimalOf (length m) ∷ []) ∷ showMap m
+showColumnMap (some m) = (bytes "columns" ∷ decimalOf (length m) ∷ []) ∷ map showMapping m
 
 unfoldable pub showSets : List (ℕ × ℕ) → List (List Bytes)
 showSets [] = []
@@ -181,35 +189,56 @@ unfoldable pub showDefault : Option Value → List Bytes
 showDefault none = bytes "nodefault" ∷ []
 showDefault (some v) = showValue v
 
+-- a created column, and its default on the next line
+unfoldable pub showColumn : Made → List Bytes
+showColumn c =
+    bytes "column" ∷ c .name .bytes ∷ showType (c .type) ∷ nullText (c .nullable)
+    ∷ orDash (c .unique) (bytes "unique") ∷ orDash (c .index) (bytes "index") ∷ showReference (c .reference)
+
 unfoldable pub showColumns : List Made → List (List Bytes)
 showColumns [] = []
-showColumns (c ∷ cs) = (bytes "column" ∷ c .name .bytes ∷ showType (c .type) ∷ nullText (c .nullable) ∷ orDash (c .unique) (bytes "unique") ∷ orDash (c .index) (bytes "index") ∷ showReference (c .reference))
-    ∷ (showDefault (c .default) ∷ showColumns cs)
+showColumns (c ∷ cs) = showColumn c ∷ (showDefault (c .default) ∷ showColumns cs)
 
 unfoldable pub yesNo : Bool → Bytes
 yesNo true = bytes "yes"
 yesNo false = bytes "no"
 
+-- the name of a table, its key position and the number of a source
+unfoldable pub showTarget : Table → Node ℕ → List Bytes
+showTarget t n = t .name .bytes ∷ decimalOf (t .key) ∷ decimalOf (last 0 n) ∷ []
+
 -- the statement's own lines
 unfoldable pub showOwn : Plan ℕ → List (List Bytes)
 showOwn (P.select n) = []
-showOwn (P.delete i t n) = (bytes "delete" ∷ t .name .bytes ∷ decimalOf (t .key) ∷ decimalOf (last 0 n) ∷ []) ∷ []
-showOwn (P.insert i t m n) = (bytes "insert" ∷ t .name .bytes ∷ decimalOf (last 0 n) ∷ []) ∷ showColumnMap m
-showOwn (P.update i t n xs) = (bytes "update" ∷ t .name .bytes ∷ decimalOf (t .key) ∷ decimalOf (last 0 n) ∷ []) ∷ showSets xs
+showOwn (P.delete t n) = (bytes "delete" ∷ showTarget t n) ∷ []
+showOwn (P.insert t m n) = (bytes "insert" ∷ t .name .bytes ∷ decimalOf (last 0 n) ∷ []) ∷ showColumnMap m
+showOwn (P.update t n xs) = (bytes "update" ∷ showTarget t n) ∷ showSets xs
 showOwn (P.create n k cs) = (bytes "create" ∷ n .bytes ∷ decimalOf k ∷ []) ∷ showColumns cs
 showOwn (P.drop n y) = (bytes "drop" ∷ n .bytes ∷ yesNo y ∷ []) ∷ []
 
+-- THE WHOLE
 unfoldable pub showHeader : Plan Built → List Bytes
-showHeader p = bytes "plan" ∷ kind p ∷ decimalOf (length (planRecords (numberPlan p))) ∷ decimalOf (length (planCells p)) ∷ []
+showHeader p =
+    bytes "plan" ∷ kind p ∷ decimalOf (length (planRecords (numberPlan p))) ∷ decimalOf (length (planCells p)) ∷ []
+
+unfoldable pub showCells : List Cell → List (List Bytes)
+showCells cs = numbered (bytes "cell") 0 (map showCell cs)
+
+unfoldable pub showNodes : List NodeRecord → List (List Bytes)
+showNodes rs = numbered (bytes "node") 0 (map showRecord rs)
 
 unfoldable pub showPlan : Plan Built → Bytes
-showPlan p = showLines (showHeader p
-    ∷ (numbered (bytes "cell") 0 (map showCell (planCells p)) ++ (numbered (bytes "node") 0 (map showRecord (planRecords (numberPlan p))) ++ showOwn (numberPlan p))))
+showPlan p = showLines (
+    showHeader p
+    ∷ (showCells (planCells p) ++ (showNodes (planRecords (numberPlan p)) ++ showOwn (numberPlan p))))
 
 unfoldable pub textName : Text → Bytes
 textName catalog = bytes "catalog"
 textName statement = bytes "statement"
 
+unfoldable pub showRefusal : Refusal → List Bytes
+showRefusal r = bytes "refused" ∷ decimalOf (refusalNumber (r .reason)) ∷ textName (r .text) ∷ decimalOf (r .line) ∷ []
+
 unfoldable pub showAnswer : Answer (Plan Built) → Bytes
 showAnswer (ok p) = showPlan p
-showAnswer (refused r) = tabbed (bytes "refused" ∷ decimalOf (number (r .reason)) ∷ textName (r .text) ∷ decimalOf (r .line) ∷ []) ++ (10 ∷ [])
+showAnswer (refused r) = showLines (showRefusal r ∷ [])

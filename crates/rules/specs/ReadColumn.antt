@@ -1,5 +1,4 @@
 -- The fields of a column's record, in the catalog and in CREATE.
-use Prim.Native.Nat.{ℕ}
 use mathlib.Core.Bool.{Bool, true, false}
 use mathlib.Core.List.{List, [], _∷_}
 use mathlib.Core.Option.{Option, none, some}
@@ -70,4 +69,13 @@ newColumnFields (n ∷ (t ∷ (k ∷ (u ∷ (q ∷ (i ∷ (d ∷ r))))))) = do
   index′ ← flagged (bytes "index") i
   default′ ← flagged (bytes "default") d
   reference′ ← optionalName r
-  some (record { name = name′; type = type′; key = key′; nullable = nullable′; unique = unique′; index = index′; default = default′; reference = reference′ })
+  some (record {
+    name = name′;
+    type = type′;
+    key = key′;
+    nullable = nullable′;
+    unique = unique′;
+    index = index′;
+    default = default′;
+    reference = reference′;
+  })

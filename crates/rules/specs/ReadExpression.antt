@@ -1,17 +1,20 @@
 -- Expressions from their records, root first ("Expressions stand root first").
 use Prim.Native.Nat.{ℕ, zero, suc}
-use mathlib.Core.Bool.{Bool, true, false}
+use mathlib.Core.Bool.{true, false}
 use mathlib.Core.List.{List, [], _∷_}
 use mathlib.Core.Option.{Option, none, some}
 use lib.Dec.{ltb}
-use Rattle.rules.specs.Refusals.{wrongRecord, limitPassed, Answer, ok, refused}
+use Rattle.rules.specs.Refusals.{wrongRecord, limitPassed, ok, refused}
 use Rattle.rules.specs.Limits.{mostCells, mostDepth}
 use Rattle.rules.specs.Lists.{Bytes, mapOption}
-use Rattle.rules.specs.Lines.{Word, Line, bytes}
+use Rattle.rules.specs.Lines.{Word, bytes}
 use Rattle.rules.specs.Schema.{Value}
-use Rattle.rules.specs.Ast.{Unary, not, fact, ident, neg, Plain, and, or, eq, gt, lt, add, div, pow, mul, rem, sub, like, Binary, plain, ge, le, ne}
-use Rattle.rules.specs.Ast.{Expr, star, column, literal, call, unary, binary, is, Exprs, nil, cons, Clause}
-use Rattle.rules.specs.Reader.{Place, Read, stop, give, _>>=_, lineHere, next, rest, at, lineNumber, oneOf, name, word, count, noField, oneField, both, twoFields, literals, literalHere}
+use Rattle.rules.specs.Ast.{Unary, not, fact, ident, neg}
+use Rattle.rules.specs.Ast.{and, or, eq, gt, lt, add, div, pow, mul, rem, sub, like}
+use Rattle.rules.specs.Ast.{Binary, plain, ge, le, ne, Expr, star, column, literal, call, unary, binary, is}
+use Rattle.rules.specs.Ast.{Exprs, nil, cons, Clause}
+use Rattle.rules.specs.Reader.{Place, Read, stop, give, _>>=_, lineHere, next, rest, at, lineNumber, oneOf, name}
+use Rattle.rules.specs.Reader.{word, countField, noField, oneField, both, twoFields, literals, literalHere}
 
 -- what one record says
 pub data Head : Type 0 where
@@ -26,11 +29,11 @@ unfoldable pub operators : List (Bytes × Head)
 operators =
     (bytes "and", binaryHead (plain and)) ∷ (bytes "not", unaryHead not) ∷ (bytes "or", binaryHead (plain or))
     ∷ (bytes "eq", binaryHead (plain eq)) ∷ (bytes "gt", binaryHead (plain gt)) ∷ (bytes "ge", binaryHead ge)
-    ∷ (bytes "is", isHead) ∷ (bytes "lt", binaryHead (plain lt)) ∷ (bytes "le", binaryHead le) ∷ (bytes "ne", binaryHead ne)
-    ∷ (bytes "add", binaryHead (plain add)) ∷ (bytes "div", binaryHead (plain div)) ∷ (bytes "pow", binaryHead (plain pow))
-    ∷ (bytes "fact", unaryHead fact) ∷ (bytes "ident", unaryHead ident) ∷ (bytes "mul", binaryHead (plain mul))
-    ∷ (bytes "neg", unaryHead neg) ∷ (bytes "rem", binaryHead (plain rem)) ∷ (bytes "sub", binaryHead (plain sub))
-    ∷ (bytes "like", binaryHead (plain like)) ∷ []
+    ∷ (bytes "is", isHead) ∷ (bytes "lt", binaryHead (plain lt)) ∷ (bytes "le", binaryHead le)
+    ∷ (bytes "ne", binaryHead ne) ∷ (bytes "add", binaryHead (plain add)) ∷ (bytes "div", binaryHead (plain div))
+    ∷ (bytes "pow", binaryHead (plain pow)) ∷ (bytes "fact", unaryHead fact) ∷ (bytes "ident", unaryHead ident)
+    ∷ (bytes "mul", binaryHead (plain mul)) ∷ (bytes "neg", unaryHead neg) ∷ (bytes "rem", binaryHead (plain rem))
+    ∷ (bytes "sub", binaryHead (plain sub)) ∷ (bytes "like", binaryHead (plain like)) ∷ []
 
 -- a name, or a table and a name
 unfoldable pub columnFields : List Word → Option Head
@@ -41,7 +44,7 @@ columnFields (w ∷ (v ∷ (u ∷ r))) = none
 
 -- a function's name, and how many arguments follow
 unfoldable pub callFields : List Word → Option Head
-callFields r = mapOption (λ (q : Word × ℕ). callHead (q .0) (q .1)) (twoFields name count r)
+callFields r = mapOption (λ (q : Word × ℕ). callHead (q .0) (q .1)) (twoFields name countField r)
 
 -- literal records as expressions
 unfoldable pub valueHeads : List (Bytes × (List Word → Option Value)) → List (Bytes × (List Word → Option Head))
@@ -58,7 +61,14 @@ heads =
 
 -- one more expression record
 unfoldable pub counted : Place → Place
-counted p = record { text = p .text; left = p .left; address = p .address; line = p .line; cells = suc (p .cells); tables = p .tables }
+counted p = record {
+  text = p .text;
+  left = p .left;
+  address = p .address;
+  line = p .line;
+  cells = suc (p .cells);
+  tables = p .tables;
+}
 
 -- the expression record here: 2, then 3 where it is one too many
 unfoldable pub headHere : Read Head

@@ -8,8 +8,13 @@ use Rattle.rules.specs.Refusals.{statement, wrongRecord, limitPassed, An
 use Rattle.rules.specs.Limits.{mostEntries, mostRows, mostTableColumns, mostFromTables}
 use Rattle.rules.specs.Lists.{Bytes, same, before, any, mapOption}
 use Rattle.rules.specs.Lines.{Word, bytes}
-use Rattle.rules.specs.Ast.{Expr, Join, cross, inner, left, right, From, table, join, Item, Key, Select, Delete, Named, Insert, Set, Update, NewColumn, Create, Statement, select, delete, insert, update, create, drop, other, listOf}
-use Rattle.rules.specs.Reader.{Place, Read, start, stop, give, _>>=_, _>>_, lineHere, next, key, rest, at, lineNumber, fit, record′, oneOf, name, word, count, noField, oneField, both, twoFields, optionalName, nameAlias, optional, recordWithin, many, turns, atLeastOne, nothingLeft, valueOf}
+use Rattle.rules.specs.Ast.{Expr, Join, cross, inner, left, right, From, table, join, Item, Key, Select, Delete}
+use Rattle.rules.specs.Ast.{Named, Insert, Set, Update, NewColumn, Create}
+use Rattle.rules.specs.Ast.{Statement, select, delete, insert, update, create, drop, other, listOf}
+use Rattle.rules.specs.Reader.{Place, Read, start, stop, give, _>>=_, _>>_, lineHere, next, key, at}
+use Rattle.rules.specs.Reader.{lineNumber, fit, record′, oneOf, name, word, countField, noField, oneField, both}
+use Rattle.rules.specs.Reader.{twoFields, optionalName, nameAlias, optional, recordWithin, many, turns}
+use Rattle.rules.specs.Reader.{atLeastOne, nothingLeft, valueOf}
 use Rattle.rules.specs.ReadExpression.{times, expression, clause}
 use Rattle.rules.specs.ReadColumn.{ColumnHead, newColumnFields}
 
@@ -28,18 +33,31 @@ pub data FromHead : Type 0 where
 unfoldable pub fromHeads : List (Bytes × (List Word → Option FromHead))
 fromHeads =
     (bytes "from", λ r. mapOption (λ (q : Word × Option Word). tableHead (q .0) (q .1)) (nameAlias r))
-    ∷ (bytes "join", λ r. mapOption (λ (q : Join × Bool). joinHead (q .0) (q .1)) (twoFields (word joins) (word predicates) r))
+    ∷ (
+      bytes "join",
+      λ r. mapOption (λ (q : Join × Bool). joinHead (q .0) (q .1)) (twoFields (word joins) (word predicates) r),
+    )
     ∷ []
 
 -- one more table in FROM
 unfoldable pub tabled : Place → Place
-tabled p = record { text = p .text; left = p .left; address = p .address; line = p .line; cells = p .cells; tables = suc (p .tables) }
+tabled p = record {
+  text = p .text;
+  left = p .left;
+  address = p .address;
+  line = p .line;
+  cells = p .cells;
+  tables = suc (p .tables);
+}
 
 -- the 17th `from` is 3, and no `join` before it
 unfoldable pub fromHere : Read FromHead
 fromHere p = elim (oneOf fromHeads (lineHere p)) [
   | none ↦ stop wrongRecord p
-  | some (tableHead n a) ↦ elim (ltb (p .tables) mostFromTables) [ true ↦ ok (tableHead n a, next (tabled p)) | false ↦ stop limitPassed p ]
+  | some (tableHead n a) ↦ elim (ltb (p .tables) mostFromTables) [
+    | true ↦ ok (tableHead n a, next (tabled p))
+    | false ↦ stop limitPassed p
+  ]
   | some (joinHead j o) ↦ ok (joinHead j o, next p)
 ]
 
@@ -126,7 +144,7 @@ columnsHere p = elim (at (bytes "columns") p) [
 unfoldable pub insertBody : ℕ → Word → Read Insert
 insertBody l n = do
   cs ← columnsHere
-  rs ← atLeastOne (bytes "row") (turns λ k. many (bytes "row") (oneField count) mostRows rowBody k 0)
+  rs ← atLeastOne (bytes "row") (turns λ k. many (bytes "row") (oneField countField) mostRows rowBody k 0)
   give (record { line = l; table = n; columns = cs; rows = rs })
 
 -- UPDATE

@@ -12,8 +12,8 @@ use Rattle.rules.specs.Lines.{Word, Line, fields, lineSize, bytes, decim
 use Rattle.rules.specs.Lines as Lines
 use Rattle.rules.specs.Schema.{Value, null, bool, int, float, text}
 
--- Where reading stands: the bytes left and the address of the first of them, the number of the line that starts there (or
--- is missing), and the expression records and FROM tables so far.
+-- Where reading stands: the bytes left and the address of the first of them, the number of the line that starts there
+-- (or is missing), and the expression records and FROM tables so far.
 pub record Place : Type 0 where
   pub text : Text
   pub left : Bytes
@@ -110,10 +110,10 @@ name w = elim (leb 1 (length (w .bytes)) && leb (length (w .bytes)) mostNameByte
 unfoldable pub word : {A : Type 0} → List (Bytes × A) → Word → Option A
 word t w = named t (w .bytes)
 
--- A count or a position, a decimal of any length. Past 512 all are alike, since none can be met: no statement has as many
--- expression cells, and no table as many columns.
-unfoldable pub count : Word → Option ℕ
-count w = mapOption (min (suc mostCells)) (decimal (w .bytes))
+-- A count or a position, a decimal of any length. Past 512 all are alike, since none can be met: no statement has as
+-- many expression cells, and no table as many columns.
+unfoldable pub countField : Word → Option ℕ
+countField w = mapOption (min (suc mostCells)) (decimal (w .bytes))
 
 unfoldable pub noField : List Word → Option (Unit {0})
 noField [] = some tt

@@ -1,5 +1,9 @@
 -- Document 01's refusals, and the answer that is a value or a refusal.
 use Prim.Native.Nat.{ℕ}
+use mathlib.Core.Bool.{Bool, true, false}
+use mathlib.Core.List.{List}
+use mathlib.Core.Option.{none, some}
+use Rattle.rules.specs.Lists.{entryAfter}
 
 -- the two texts
 pub data Text : Type 0 where
@@ -17,36 +21,36 @@ pub data Reason : Type 0 where
   integerOverflow divisionByZero wrongOperand notWorkedOut invalidIs : Reason
 
 -- document 01's number of a refusal
-unfoldable pub number : Reason → ℕ
-number shortArea = 1
-number wrongRecord = 2
-number limitPassed = 3
-number otherStatement = 4
-number unknownTable = 5
-number duplicateTable = 6
-number unknownQualifier = 7
-number unknownColumn = 8
-number ambiguousColumn = 9
-number constantOnly = 10
-number notAggregated = 11
-number unsupportedStar = 12
-number unknownFunction = 13
-number argumentCount = 14
-number nestedAggregate = 15
-number starWithoutFrom = 16
-number havingWithoutAggregate = 17
-number invalidOffset = 18
-number invalidLimit = 19
-number noPrimaryKey = 20
-number multiplePrimaryKeys = 21
-number unknownInsertColumn = 22
-number repeatedInsertColumn = 23
-number noDefault = 24
-number integerOverflow = 25
-number divisionByZero = 26
-number wrongOperand = 27
-number notWorkedOut = 28
-number invalidIs = 29
+unfoldable pub refusalNumber : Reason → ℕ
+refusalNumber shortArea = 1
+refusalNumber wrongRecord = 2
+refusalNumber limitPassed = 3
+refusalNumber otherStatement = 4
+refusalNumber unknownTable = 5
+refusalNumber duplicateTable = 6
+refusalNumber unknownQualifier = 7
+refusalNumber unknownColumn = 8
+refusalNumber ambiguousColumn = 9
+refusalNumber constantOnly = 10
+refusalNumber notAggregated = 11
+refusalNumber unsupportedStar = 12
+refusalNumber unknownFunction = 13
+refusalNumber argumentCount = 14
+refusalNumber nestedAggregate = 15
+refusalNumber starWithoutFrom = 16
+refusalNumber havingWithoutAggregate = 17
+refusalNumber invalidOffset = 18
+refusalNumber invalidLimit = 19
+refusalNumber noPrimaryKey = 20
+refusalNumber multiplePrimaryKeys = 21
+refusalNumber unknownInsertColumn = 22
+refusalNumber repeatedInsertColumn = 23
+refusalNumber noDefault = 24
+refusalNumber integerOverflow = 25
+refusalNumber divisionByZero = 26
+refusalNumber wrongOperand = 27
+refusalNumber notWorkedOut = 28
+refusalNumber invalidIs = 29
 
 -- the line is that of the record where it arose, from 1; 0 if there is none
 pub record Refusal : Type 0 where
@@ -71,3 +75,13 @@ _>>_ m n = m >>= λ u. n
 -- refused at a line of the statement
 unfoldable pub refuse : {A : Type 0} → Reason → ℕ → Answer A
 refuse n l = refused (record { reason = n; text = statement; line = l })
+
+-- GUARDS
+-- `if test { return errinput!(..) }`
+unfoldable pub refuseIf : Bool → Reason → ℕ → Answer (Unit {0})
+refuseIf true r l = refuse r l
+refuseIf false r l = ok tt
+
+-- 3 at the line of the entry behind the first n, if there is one
+unfoldable pub atMost : {A : Type 0} → ℕ → (A → ℕ) → List A → Answer (Unit {0})
+atMost n line as′ = elim (entryAfter n as′) [ none ↦ ok tt | some a ↦ refuse limitPassed (line a) ]

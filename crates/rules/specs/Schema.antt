@@ -34,14 +34,18 @@ pub record Table : Type 0 where
 abbrev pub Catalog : Type 0
 Catalog = List Table
 
--- get_table: the table's position and the table
-unfoldable pub getTable : ℕ → Catalog → Bytes → Option (ℕ × Table)
-getTable i [] n = none
-getTable i (t ∷ ts) n = elim (same (t .name .bytes) n) [ true ↦ some (i, t) | false ↦ getTable (suc i) ts n ]
+-- get_table
+unfoldable pub getTable : Catalog → Bytes → Option Table
+getTable [] n = none
+getTable (t ∷ ts) n = elim (same (t .name .bytes) n) [ true ↦ some t | false ↦ getTable ts n ]
 
--- must_get_table, for a record at line l
-unfoldable pub mustGetTable : Catalog → ℕ → Bytes → Answer (ℕ × Table)
-mustGetTable c l n = elim (getTable 0 c n) [ some t ↦ ok t | none ↦ refuse unknownTable l ]
+-- the same table under a name of the same bytes: a plan names its tables where the statement does
+unfoldable pub namedBy : Word → Table → Table
+namedBy n t = record { name = n; key = t .key; columns = t .columns }
+
+-- must_get_table, for a name in the record at line l
+unfoldable pub mustGetTable : Catalog → ℕ → Word → Answer Table
+mustGetTable c l n = elim (getTable c (n .bytes)) [ some t ↦ ok (namedBy n t) | none ↦ refuse unknownTable l ]
 
 -- the first column of a name, from position i
 unfoldable pub columnAt : ℕ → List Column → Bytes → Option ℕ

@@ -2,7 +2,8 @@
 use Prim.Native.Nat.{ℕ, _+_}
 use mathlib.Core.List.{List, [], _∷_}
 use mathlib.Core.Option.{Option, none, some}
-use Rattle.rules.specs.Ast.{Expr, size, From, Item, Key, Clause, Select, Delete, Insert, Set, Update, NewColumn, Create, Statement}
+use Rattle.rules.specs.Ast.{Expr, size, From, Item, Key, Clause, Select, Set, NewColumn}
+use Rattle.rules.specs.Ast.{Statement}
 use Rattle.rules.specs.Ast as Ast
 use Rattle.rules.specs.BuildExpression.{clauseExpr}
 

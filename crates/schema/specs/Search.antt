@@ -2,16 +2,16 @@
 use Prim.Native.Nat.{ℕ, zero, suc, _+_, _-_, _≤_, _<_}
 use native.Mathlib.Omega.{arith}
 use native.Mathlib.Numerals.{add-one}
-use mathlib.Core.Path.{_≡_, refl, sym, ap, _∙_}
+use mathlib.Core.Path.{_≡_, refl, sym, ap, subst, _∙_}
 use mathlib.Core.Bool.{Bool, true, false}
 use mathlib.Core.List.{List, [], _∷_}
 use mathlib.Core.Option.{Option, none, some}
 use lib.Dec.{ltb}
 use lib.ListN.{length, getD, List·getD-eq-default}
 use borrow.Author.Tests.{lt-ltb, le-ltb, ltb-true, ltb-false}
-use Rattle.rules.specs.Lists.{Bytes, same, entryAfter}
+use Rattle.rules.specs.Lists.{Bytes, same, entryAfter, mapOption}
 use Rattle.rules.specs.Lines.{Word}
-use Rattle.rules.specs.Schema.{Column, Table, getTable, columnAt, defaultAt}
+use Rattle.rules.specs.Schema.{Column, Table, Catalog, getTable, columnAt, defaultAt}
 use Rattle.rules.specs.Places.{bytesAt, wordAt}
 use Rattle.schema.specs.Layout.{tableStart, columnStart, defaultOf, columnOf, columnsAt, tableAt, tablesAt, catalogAt}
 use Rattle.schema.specs.declared.Found.{Found}
@@ -31,9 +31,48 @@ cut : (n i : ℕ) → i < n → n - i ≡ suc (n - (i + 1))
 cut n i h = omega arith
 
 -- TABLES
+-- the first table of a name, and its position, from position i on
+unfoldable pub tableFrom : ℕ → Catalog → Bytes → Option (ℕ × Table)
+tableFrom i [] n = none
+tableFrom i (t ∷ ts) n = elim (same (t .name .bytes) n) [ true ↦ some (i, t) | false ↦ tableFrom (suc i) ts n ]
+
+-- that table is the one that the rules find
+pub table-found : (i : ℕ) (c : Catalog) (n : Bytes)
+    → mapOption (λ (r : ℕ × Table). r .1) (tableFrom i c n) ≡ getTable c n
+unfolding tableFrom getTable mapOption
+table-found i [] n = refl
+table-found i (t ∷ ts) n = pick (same (t .name .bytes) n) (table-found (suc i) ts n)
+  where
+    pick : (b : Bool) → mapOption (λ (r : ℕ × Table). r .1) (tableFrom (suc i) ts n) ≡ getTable ts n
+        → mapOption (λ (r : ℕ × Table). r .1) (elim b [ true ↦ some (i, t) | false ↦ tableFrom (suc i) ts n ])
+        ≡ elim b [ true ↦ some t | false ↦ getTable ts n ]
+    pick true e = refl
+    pick false e = e
+
+-- and it stands in the catalog at that position
+pub table-position : (i : ℕ) (c : Catalog) (n : Bytes) (r : ℕ × Table) → tableFrom i c n ≡ some r
+    → (i ≤ r .0) × (entryAfter (r .0 - i) c ≡ some (r .1))
+unfolding tableFrom entryAfter
+table-position i [] n r e = absurd (let z : _≡_ {A = ℕ} 0 1 = cc in omega arith)
+table-position i (t ∷ ts) n r e = pick (same (t .name .bytes) n) e (table-position (suc i) ts n r)
+  where
+    Stands : ℕ × Table → Type 0
+    Stands r = (i ≤ r .0) × (entryAfter (r .0 - i) (t ∷ ts) ≡ some (r .1))
+
+    pick : (b : Bool)
+        → _≡_ {A = Option (ℕ × Table)} (elim b [ true ↦ some (i, t) | false ↦ tableFrom (suc i) ts n ]) (some r)
+        → (tableFrom (suc i) ts n ≡ some r → (suc i ≤ r .0) × (entryAfter (r .0 - suc i) ts ≡ some (r .1))) → Stands r
+    pick true h f =
+        let e : _≡_ {A = ℕ × Table} (i, t) r = cc in
+        let z : i - i ≡ 0 = omega arith in
+        subst Stands e (omega arith, rw z)
+    pick false h f =
+        let z : r .0 - i ≡ suc (r .0 - suc i) = omega (arith, f h .0) in
+        (omega (arith, f h .0), rw z (f h .1))
+
 -- the i-th of n tables is looked at next
 pub record TableSearch (c q : Bytes) (s : List ℕ) (x : Bytes) (n i : ℕ) : Type 0 where
-  pub rest : getTable i (tablesAt c q s i (n - i)) x ≡ getTable 0 (catalogAt c q s) x
+  pub rest : tableFrom i (tablesAt c q s i (n - i)) x ≡ tableFrom 0 (catalogAt c q s) x
 
 pub table-begin : (c q : Bytes) (s : List ℕ) (x : Bytes) (n : ℕ) → n ≡ getD s 0 0 → TableSearch c q s x n 0
 unfolding catalogAt
@@ -42,16 +81,16 @@ table-begin c q s x n e = let z : n - 0 ≡ getD s 0 0 = omega (arith, e) in rec
 module _ {c q : Bytes} {s : List ℕ} {x : Bytes} {n i : ℕ} (t : TableSearch c q s x n i) where
   -- b tells whether the name that stands there is x
   module _ {a m : ℕ} {b : Bool} (h : i < n) (ea : a ≡ getD s (tableStart i) 0) (em : m ≡ getD s (tableStart i + 1) 0) (eb : b ≡ same (bytesAt c q a m) x) where
-    pub table-hit : b ≡ true → foundTable c q s (At i) ≡ getTable 0 (catalogAt c q s) x
-    unfolding tablesAt getTable tableAt wordAt foundTable
-    table-hit e = rw (cut n i h, getTable, ← ea, ← em, ← eb, e) at (t .rest)
+    pub table-hit : b ≡ true → foundTable c q s (At i) ≡ tableFrom 0 (catalogAt c q s) x
+    unfolding tablesAt tableFrom tableAt wordAt foundTable
+    table-hit e = rw (cut n i h, tableFrom, ← ea, ← em, ← eb, e) at (t .rest)
 
     pub table-miss : b ≡ false → TableSearch c q s x n (i + 1)
-    unfolding tablesAt getTable tableAt wordAt
-    table-miss e = record { rest = rw (add-one i) (rw (cut n i h, getTable, ← ea, ← em, ← eb, e, add-one i) at (t .rest)) }
+    unfolding tablesAt tableFrom tableAt wordAt
+    table-miss e = record { rest = rw (add-one i) (rw (cut n i h, tableFrom, ← ea, ← em, ← eb, e, add-one i) at (t .rest)) }
 
-  pub table-end : n ≤ i → foundTable c q s Nothing ≡ getTable 0 (catalogAt c q s) x
-  unfolding tablesAt getTable foundTable
+  pub table-end : n ≤ i → foundTable c q s Nothing ≡ tableFrom 0 (catalogAt c q s) x
+  unfolding tablesAt tableFrom foundTable
   table-end h = let e : n - i ≡ 0 = omega arith in rw e at (t .rest)
 
 -- COLUMNS

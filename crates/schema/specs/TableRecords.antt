@@ -10,7 +10,7 @@ use lib.ListN.{getD, take, drop}
 use Rattle.rules.specs.Refusals.{catalog}
 use Rattle.rules.specs.Lists.{Bytes, same, any, mapOption}
 use Rattle.rules.specs.Lines.{Word, bytes, decimal}
-use Rattle.rules.specs.Reader.{rest, name, count, both, twoFields}
+use Rattle.rules.specs.Reader.{rest, name, countField, both, twoFields}
 use Rattle.rules.specs.ReadCatalog.{tableFields}
 use Rattle.rules.specs.Places.{bytesAt, wordAt}
 use Rattle.text.specs.declared.Line.{Line}
@@ -48,39 +48,39 @@ module _ {t : Bytes} {s : List ℕ} {x : Bytes} {n i : ℕ} (h : Taken t s x n i
 
 -- THE TABLE'S LINE
 module _ (ns : List Bytes) (r : List Word) where
-  fields-none : twoFields name count r ≡ none → tableFields ns r ≡ none
+  fields-none : twoFields name countField r ≡ none → tableFields ns r ≡ none
   unfolding tableFields
   fields-none e = rw (tableFields, e)
 
-  fields-taken : (w : Word) (k : ℕ) → twoFields name count r ≡ some (w, k) → any (same (w .bytes)) ns ≡ true → tableFields ns r ≡ none
+  fields-taken : (w : Word) (k : ℕ) → twoFields name countField r ≡ some (w, k) → any (same (w .bytes)) ns ≡ true → tableFields ns r ≡ none
   unfolding tableFields
   fields-taken w k e h = rw (tableFields, e, h)
 
-  fields-some : (w : Word) (k : ℕ) → twoFields name count r ≡ some (w, k) → any (same (w .bytes)) ns ≡ false → tableFields ns r ≡ some (w, k)
+  fields-some : (w : Word) (k : ℕ) → twoFields name countField r ≡ some (w, k) → any (same (w .bytes)) ns ≡ false → tableFields ns r ≡ some (w, k)
   unfolding tableFields
   fields-some w k e h = rw (tableFields, e, h)
 
 module _ (w v : Word) where
-  two-name-no : name w ≡ none → twoFields name count (w ∷ v ∷ []) ≡ none
+  two-name-no : name w ≡ none → twoFields name countField (w ∷ v ∷ []) ≡ none
   unfolding twoFields both
   two-name-no e = rw e
 
-  two-count-no : name w ≡ some w → count v ≡ none → twoFields name count (w ∷ v ∷ []) ≡ none
+  two-count-no : name w ≡ some w → countField v ≡ none → twoFields name countField (w ∷ v ∷ []) ≡ none
   unfolding twoFields both
   two-count-no e f = rw (e, f)
 
-  two-yes : (k : ℕ) → name w ≡ some w → count v ≡ some k → twoFields name count (w ∷ v ∷ []) ≡ some (w, k)
+  two-yes : (k : ℕ) → name w ≡ some w → countField v ≡ some k → twoFields name countField (w ∷ v ∷ []) ≡ some (w, k)
   unfolding twoFields both
   two-yes k e f = rw (e, f)
 
 -- a position is small
-pub count-small : (w : Word) (d : Number) (k : ℕ) → valueOf d ≡ count w → d ≡ N.Value k → k ≤ 513
-unfolding count mapOption valueOf
+pub count-small : (w : Word) (d : Number) (k : ℕ) → valueOf d ≡ countField w → d ≡ N.Value k → k ≤ 513
+unfolding countField mapOption valueOf
 count-small w d k e z = go (decimal (w .bytes)) refl
   where
     go : (o : Option ℕ) → decimal (w .bytes) ≡ o → k ≤ 513
-    go none h = absurd (let y : some k ≡ none = sym (ap valueOf z) ∙ e ∙ (rw (count, h)) in let x : _≡_ {A = ℕ} 0 1 = cc in omega arith)
-    go (some n) h = let y : some k ≡ some (min 513 n) = sym (ap valueOf z) ∙ e ∙ (rw (count, h)) in let x : k ≡ min 513 n = cc in omega (arith, min-le-left 513 n)
+    go none h = absurd (let y : some k ≡ none = sym (ap valueOf z) ∙ e ∙ (rw (countField, h)) in let x : _≡_ {A = ℕ} 0 1 = cc in omega arith)
+    go (some n) h = let y : some k ≡ some (min 513 n) = sym (ap valueOf z) ∙ e ∙ (rw (countField, h)) in let x : k ≡ min 513 n = cc in omega (arith, min-le-left 513 n)
 
 module _ (t : Bytes) (s : List ℕ) (n p : ℕ) (f : Line) (g : Fields t p f) {b : Bool} (key : b ≡ same (take (getD (f .lens) 0 0) (drop (getD (f .starts) 0 0) t)) (bytes "table")) where
   pub table-missing : b ≡ false → TableLine t s n p T.Wrong
@@ -92,25 +92,25 @@ module _ (t : Bytes) (s : List ℕ) (n p : ℕ) (f : Line) (g : Fields t p f) {b
     unfolding tableHere
     table-here l = rw (tableHere, at-is catalog t p l 0 0 f g (bytes "table"), ← key, e)
 
-    table-wrong : ((l : ℕ) → twoFields name count (rest (here t p l)) ≡ none) → TableLine t s n p T.Wrong
+    table-wrong : ((l : ℕ) → twoFields name countField (rest (here t p l)) ≡ none) → TableLine t s n p T.Wrong
     unfolding tableSaid TableEnds
     table-wrong h = record { says = λ q l. sym (table-here l ∙ fields-none _ _ (h l)); next = tt }
 
     pub table-count : (f .count ≡ 3 → ⊥) → TableLine t s n p T.Wrong
-    table-count h = table-wrong (λ l. two-fields name count (rest (here t p l)) (rest-other catalog t p l 0 0 f g 2 (omega arith) h))
+    table-count h = table-wrong (λ l. two-fields name countField (rest (here t p l)) (rest-other catalog t p l 0 0 f g 2 (omega arith) h))
 
     module _ (m : f .count ≡ 3) where
-      table-fields : (l : ℕ) (o : Option (Word × ℕ)) → twoFields name count (fieldOf catalog t f 1 ∷ fieldOf catalog t f 2 ∷ []) ≡ o → twoFields name count (rest (here t p l)) ≡ o
-      table-fields l o h = ap (twoFields name count) (rest-two catalog t p l 0 0 f g m) ∙ h
+      table-fields : (l : ℕ) (o : Option (Word × ℕ)) → twoFields name countField (fieldOf catalog t f 1 ∷ fieldOf catalog t f 2 ∷ []) ≡ o → twoFields name countField (rest (here t p l)) ≡ o
+      table-fields l o h = ap (twoFields name countField) (rest-two catalog t p l 0 0 f g m) ∙ h
 
       pub table-name : isName (getD (f .lens) 1 0) ≡ false → TableLine t s n p T.Wrong
       table-name h = table-wrong (λ l. table-fields l none (two-name-no _ _ (name-no catalog t p l 0 0 f g 1 (omega arith) h)))
 
-      module _ (h : isName (getD (f .lens) 1 0) ≡ true) (d : Number) (ed : (o : ℕ) → valueOf d ≡ count (record { bytes = take (getD (f .lens) 2 0) (drop (getD (f .starts) 2 0) t); start = o })) where
+      module _ (h : isName (getD (f .lens) 1 0) ≡ true) (d : Number) (ed : (o : ℕ) → valueOf d ≡ countField (record { bytes = take (getD (f .lens) 2 0) (drop (getD (f .starts) 2 0) t); start = o })) where
         table-named : (l : ℕ) → name (fieldOf catalog t f 1) ≡ some (fieldOf catalog t f 1)
         table-named l = name-yes catalog t p l 0 0 f g 1 (omega arith) h
 
-        counted : count (fieldOf catalog t f 2) ≡ valueOf d
+        counted : countField (fieldOf catalog t f 2) ≡ valueOf d
         unfolding fieldOf field
         counted = sym (ed _)
 
@@ -123,7 +123,7 @@ module _ (t : Bytes) (s : List ℕ) (n p : ℕ) (f : Line) (g : Fields t p f) {b
           unfolding fieldOf
           table-first q l = field-here t q _ _ (field-most t p f g w 1 (omega arith))
 
-          table-both : (l : ℕ) → twoFields name count (rest (here t p l)) ≡ some (fieldOf catalog t f 1, k)
+          table-both : (l : ℕ) → twoFields name countField (rest (here t p l)) ≡ some (fieldOf catalog t f 1, k)
           unfolding valueOf
           table-both l = table-fields l _ (two-yes _ _ k (table-named l) (counted ∙ ap valueOf z))
 

@@ -7,9 +7,9 @@ ghost use Prim.Native.Nat.{_<_, _^_};
 ghost use lib.ListN.{length, getD};
 ghost use Rattle.rules.specs.Lists.{Bytes};
 ghost use Rattle.rules.specs.Places.{bytesAt, wordAt};
-ghost use Rattle.rules.specs.Schema.{getTable, columnAt, defaultAt};
+ghost use Rattle.rules.specs.Schema.{columnAt, defaultAt};
 ghost use Rattle.schema.specs.Layout.{defaultOf, tableAt, catalogAt};
-ghost use Rattle.schema.specs.Search.{foundOf, foundTable, startOf, nameAt};
+ghost use Rattle.schema.specs.Search.{tableFrom, foundOf, foundTable, startOf, nameAt};
 use numbers::number;
 
 // How many numbers a catalog takes: how many tables, 32 tables of five numbers, 2,048 columns of eight.
@@ -46,7 +46,7 @@ pub struct Default {
 
 // The table of a name, which is the n bytes at an address.
 pub fn get_table(catalog: &[u8], statement: &[u8], tables: &[u32], a: u32, n: u32) -> Found
-    ensures { λ r. ⌜ foundTable (now (catalog .entry)) (now (statement .entry)) (now (tables .entry)) r ≡ getTable 0 (catalogAt (now (catalog .entry)) (now (statement .entry)) (now (tables .entry))) (bytesAt (now (catalog .entry)) (now (statement .entry)) a n) ⌝ }
+    ensures { λ r. ⌜ foundTable (now (catalog .entry)) (now (statement .entry)) (now (tables .entry)) r ≡ tableFrom 0 (catalogAt (now (catalog .entry)) (now (statement .entry)) (now (tables .entry))) (bytesAt (now (catalog .entry)) (now (statement .entry)) a n) ⌝ }
 {
     let count = number(tables, 0);
     let mut i: u32 = 0;

@@ -9,7 +9,7 @@ use Rattle.rules.specs.Lists.{Bytes, mapOption, orElse}
 use Rattle.rules.specs.Lines.{Word, bytes}
 use Rattle.rules.specs.Schema.{Datatype, boolean, integer, floating, string}
 use Rattle.rules.specs.Ast.{Exprs, nil, cons, Named}
-use Rattle.rules.specs.Reader.{Place, Read, give, stop, _>>=_, _>>_, at, rest, name, word, count, noField, oneField, optionalName, optional, record′, fit, recordWithin, many, turns, atLeastOne}
+use Rattle.rules.specs.Reader.{Place, Read, give, stop, _>>=_, _>>_, at, rest, name, word, countField, noField, oneField, optionalName, optional, record′, fit, recordWithin, many, turns, atLeastOne}
 use Rattle.rules.specs.ReadExpression.{times, expression, clause}
 use Rattle.rules.specs.ReadColumn.{ColumnHead, newColumnFields}
 use Rattle.rules.specs.ReadStatement.{itemBody, groupBody, directions, orderBody, nameBody, rowBody, columnsHere, risingSet, newColumn, columnBody, sets}
@@ -70,9 +70,9 @@ pub names-are : turns (λ k. many (bytes "name") (oneField name) mostEntries nam
 unfolding fieldsOf nameBody entryBody keywordOf mostOf isOnce namedHead toNamed wordOr orElse times mapped _>>=_ give
 names-are = run-section (many-run 8 (oneField name) nameBody (λ w. namedHead 0 (some w)) toNamed (λ b r. refl) (λ l w. refl)) refl
 
-pub rows-are : atLeastOne (bytes "row") (turns λ k. many (bytes "row") (oneField count) mostRows rowBody k 0) ≡ mapped (mapEntries toRow) (someSection 9)
+pub rows-are : atLeastOne (bytes "row") (turns λ k. many (bytes "row") (oneField countField) mostRows rowBody k 0) ≡ mapped (mapEntries toRow) (someSection 9)
 unfolding fieldsOf rowBody entryBody keywordOf mostOf isOnce plainHead toRow mapped
-rows-are = run-some (many-run 9 (oneField count) rowBody plainHead toRow (λ b r. refl) (λ l n. refl)) refl
+rows-are = run-some (many-run 9 (oneField countField) rowBody plainHead toRow (λ b r. refl) (λ l n. refl)) refl
 
 -- CREATE
 column-back : (l : ℕ) (c : ColumnHead) (es : Exprs) → newColumn l c (firstOf es) ≡ toColumn (record { line = l; head = columnHead c; exprs = es })

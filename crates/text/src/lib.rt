@@ -276,7 +276,7 @@ pub fn decimal(t: &[u8], a: usize, n: usize, most: u64) -> Number
 
 // The count or position that the n bytes at a are: 513 stands for all above 512.
 pub fn count(t: &[u8], a: usize, n: usize) -> Number
-    ensures { λ r. ⌜ ((o : ℕ) → valueOf r ≡ reader.count (record { bytes = take n (drop a (now (t .entry))); start = o })) ⌝ }
+    ensures { λ r. ⌜ ((o : ℕ) → valueOf r ≡ reader.countField (record { bytes = take n (drop a (now (t .entry))); start = o })) ⌝ }
 {
     decimal(t, a, n, MOST_CELLS + 1)
 }

@@ -1,4 +1,4 @@
--- Floats and their bits: a float is the number of its bits, and differs from itself where it is a NaN.
+-- Floats and their bits: a float is that of its bits, and differs from itself where it is a NaN.
 use mathlib.Core.Bool.{Bool, true, false}
 use mathlib.Core.Path.{_≡_, refl, sym, ap, subst, _∙_}
 use Prim.Native.Nat.{ℕ}
@@ -6,20 +6,20 @@ use lib.Dec.{T}
 use lib.Ieee.Bits.{ofBits-toBits, nanBits-is, nanBits-above}
 use lib.Ieee.Compare.{differs-from-itself}
 use lib.Ieee.{Float, nan, inf, fin, toBits, fits, isNan, ne, eq, binary64}
-use Rattle.rules.specs.Arithmetic.{number}
-use Rattle.rules.specs.BuildExpression.{isValue}
+use Rattle.rules.specs.Arithmetic.{floatOf}
+use Rattle.rules.specs.BuildExpression.{isNullOrNan}
 use Rattle.rules.specs.Schema as rule
 use Rattle.ints.proofs.Signed.{never}
 
-pub back : (x : Float) → T (fits binary64 x) → number (toBits binary64 x) ≡ x
-unfolding number
+pub back : (x : Float) → T (fits binary64 x) → floatOf (toBits binary64 x) ≡ x
+unfolding floatOf
 back x h = ofBits-toBits binary64 x h
 
-pub of-bits : (x : Float) → fits binary64 x ≡ true → number (toBits binary64 x) ≡ x
+pub of-bits : (x : Float) → fits binary64 x ≡ true → floatOf (toBits binary64 x) ≡ x
 of-bits x h = back x (subst T (sym h) tt)
 
-pub nan-bits : (n : ℕ) → isValue (rule.float n) ≡ isNan (number n)
-unfolding isValue number
+pub nan-bits : (n : ℕ) → isNullOrNan (rule.float n) ≡ isNan (floatOf n)
+unfolding isNullOrNan floatOf
 nan-bits n = sym (nanBits-above binary64 n) ∙ nanBits-is binary64 n
 
 pub only-nan : (x : Float) → isNan x ≡ true → nan ≡ x

@@ -1,4 +1,4 @@
--- Every value that an operator gives is held as it is: its float, if it is one, has the bits of its number.
+-- Every value that an operator gives is held as it is: its bits, if it is a float, are those of its float.
 use mathlib.Core.Bool.{Bool, true, false, _&&_, _||_}
 use mathlib.Core.Path.{_≡_, refl, sym, _∙_, ap}
 use Prim.Native.Nat.{ℕ, _^_}
@@ -9,7 +9,7 @@ use lib.Ieee.Fits.{neg-fits, add-fits, sub-fits, mul-fits, div-fits, rem-fits, o
 use lib.Ieee.{Float, binary64, toBits, fits}
 use lib.IntN.{ℤ, pos, negsuc, negℤ, natAbs, _+ℤ_, _-ℤ_, _*ℤ_}
 use lib.Signed.{mag, quotZ, remZ}
-use Rattle.rules.specs.Arithmetic.{Worked, gives, fails, fitted, quotient, remainder, power, raised, product, factorial, number, rounded, floating, Pair, integers, floats, absent, unlike, numbers, arithmetic, sumOf, differenceOf, productOf, quotientOf, remainderOf, powerOf}
+use Rattle.rules.specs.Arithmetic.{Worked, gives, fails, fitted, quotient, remainder, power, raised, product, factorial, floatOf, rounded, floating, Pair, integers, floats, absent, unlike, numbers, arithmetic, sumOf, differenceOf, productOf, quotientOf, remainderOf, powerOf}
 use Rattle.rules.specs.Ast.{Plain, and, or, eq, gt, lt, add, div, pow, mul, rem, sub, like, Binary, plain, ge, le, ne, Unary, not, fact, ident, neg, sqrt}
 use Rattle.rules.specs.Comparison.{Order, Compared, ordered, unknown, incomparable, compare, compared, isLess, isSame, isGreater}
 use Rattle.rules.specs.Operators.{andUnknown, orUnknown, logic, likeOf, plainOf, binaryOf, notOf, factorialOf, identityOf, negationOf, rootOf, unaryOf, isNan, isOf}
@@ -17,7 +17,7 @@ use Rattle.rules.specs.Refusals.{integerOverflow, divisionByZero, notWorkedOut}
 use Rattle.rules.specs.Schema.{Value, null, bool, int, float, text}
 use Rattle.value.specs.Values.{held}
 use Rattle.value.proofs.Floats.{back}
-use Rattle.value.proofs.Held.{fits-number}
+use Rattle.value.proofs.Held.{float-fits}
 
 abbrev Held : Worked → Type 0
 Held (gives v) = held v ≡ v
@@ -86,8 +86,8 @@ numbers-fit (int m) (float y) = fits-rounded m
 numbers-fit (int m) (text t) = tt
 numbers-fit (float x) null = tt
 numbers-fit (float x) (bool b) = tt
-numbers-fit (float x) (int n) = fits-number x
-numbers-fit (float x) (float y) = fits-number x
+numbers-fit (float x) (int n) = float-fits x
+numbers-fit (float x) (float y) = float-fits x
 numbers-fit (float x) (text t) = tt
 numbers-fit (text s) w = tt
 
@@ -189,12 +189,12 @@ unary-any fact (text s) = tt
 unary-any ident null = refl
 unary-any ident (bool a) = tt
 unary-any ident (int m) = refl
-unary-any ident (float x) = floating-held (number x) (fits-number x)
+unary-any ident (float x) = floating-held (floatOf x) (float-fits x)
 unary-any ident (text s) = tt
 unary-any neg null = refl
 unary-any neg (bool a) = tt
 unary-any neg (int m) = fitted-held (negℤ m)
-unary-any neg (float x) = floating-held (Ieee.neg (number x)) (neg-fits binary64 (number x) (fits-number x))
+unary-any neg (float x) = floating-held (Ieee.neg (floatOf x)) (neg-fits binary64 (floatOf x) (float-fits x))
 unary-any neg (text s) = tt
 unary-any sqrt null = refl
 unary-any sqrt (bool a) = tt

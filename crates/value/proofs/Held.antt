@@ -1,4 +1,4 @@
--- Operators look at a float's number alone: a literal's bits may be held as that number.
+-- Operators look at the float alone that bits stand for: a literal may be held by the bits of its float.
 use mathlib.Core.Bool.{Bool}
 use mathlib.Core.Path.{_≡_, refl, ap}
 use Prim.Native.Nat.{ℕ}
@@ -6,7 +6,7 @@ use lib.Dec.{T}
 use lib.Ieee as Ieee
 use lib.Ieee.Bits.{ofBits-fits}
 use lib.Ieee.{Float, binary64, toBits, fits}
-use Rattle.rules.specs.Arithmetic.{gives, number, rounded, floating, floats, numbers, sumOf, differenceOf, productOf, quotientOf, remainderOf, powerOf}
+use Rattle.rules.specs.Arithmetic.{gives, floatOf, rounded, floating, floats, numbers, sumOf, differenceOf, productOf, quotientOf, remainderOf, powerOf}
 use Rattle.rules.specs.Ast.{Plain, and, or, eq, gt, lt, add, div, pow, mul, rem, sub, like, Binary, plain, ge, le, ne, Unary, not, fact, ident, neg, sqrt}
 use Rattle.rules.specs.Comparison.{ordered, compare, compared, orderFloats, isLess, isSame, isGreater}
 use Rattle.rules.specs.Operators.{logic, likeOf, plainOf, binaryOf, notOf, factorialOf, identityOf, negationOf, rootOf, unaryOf, isNull, isNan, isOf}
@@ -14,12 +14,12 @@ use Rattle.rules.specs.Schema.{Value, null, bool, int, float, text}
 use Rattle.value.specs.Values.{held}
 use Rattle.value.proofs.Floats.{back}
 
-pub fits-number : (b : ℕ) → T (fits binary64 (number b))
-unfolding number
-fits-number b = ofBits-fits binary64 b
+pub float-fits : (b : ℕ) → T (fits binary64 (floatOf b))
+unfolding floatOf
+float-fits b = ofBits-fits binary64 b
 
-number-held : (b : ℕ) → number (toBits binary64 (number b)) ≡ number b
-number-held b = back (number b) (fits-number b)
+float-held : (b : ℕ) → floatOf (toBits binary64 (floatOf b)) ≡ floatOf b
+float-held b = back (floatOf b) (float-fits b)
 
 numbers-held : (v w : Value) → numbers (held v) (held w) ≡ numbers v w
 unfolding numbers held
@@ -32,12 +32,12 @@ numbers-held (bool a) w = refl
 numbers-held (int m) null = refl
 numbers-held (int m) (bool b) = refl
 numbers-held (int m) (int n) = refl
-numbers-held (int m) (float y) = ap (floats (rounded m)) (number-held y)
+numbers-held (int m) (float y) = ap (floats (rounded m)) (float-held y)
 numbers-held (int m) (text t) = refl
 numbers-held (float x) null = refl
 numbers-held (float x) (bool b) = refl
-numbers-held (float x) (int n) = ap (λ (z : Float). floats z (rounded n)) (number-held x)
-numbers-held (float x) (float y) = λ i. floats (number-held x i) (number-held y i)
+numbers-held (float x) (int n) = ap (λ (z : Float). floats z (rounded n)) (float-held x)
+numbers-held (float x) (float y) = λ i. floats (float-held x i) (float-held y i)
 numbers-held (float x) (text t) = refl
 numbers-held (text s) w = refl
 
@@ -52,12 +52,12 @@ compare-held (bool a) (text t) = refl
 compare-held (int m) null = refl
 compare-held (int m) (bool b) = refl
 compare-held (int m) (int n) = refl
-compare-held (int m) (float y) = ap (λ (z : Float). ordered (orderFloats (rounded m) z)) (number-held y)
+compare-held (int m) (float y) = ap (λ (z : Float). ordered (orderFloats (rounded m) z)) (float-held y)
 compare-held (int m) (text t) = refl
 compare-held (float x) null = refl
 compare-held (float x) (bool b) = refl
-compare-held (float x) (int n) = ap (λ (z : Float). ordered (orderFloats z (rounded n))) (number-held x)
-compare-held (float x) (float y) = λ i. ordered (orderFloats (number-held x i) (number-held y i))
+compare-held (float x) (int n) = ap (λ (z : Float). ordered (orderFloats z (rounded n))) (float-held x)
+compare-held (float x) (float y) = λ i. ordered (orderFloats (float-held x i) (float-held y i))
 compare-held (float x) (text t) = refl
 compare-held (text s) null = refl
 compare-held (text s) (bool b) = refl
@@ -134,12 +134,12 @@ unary-held fact (text s) = refl
 unary-held ident null = refl
 unary-held ident (bool a) = refl
 unary-held ident (int m) = refl
-unary-held ident (float x) = ap floating (number-held x)
+unary-held ident (float x) = ap floating (float-held x)
 unary-held ident (text s) = refl
 unary-held neg null = refl
 unary-held neg (bool a) = refl
 unary-held neg (int m) = refl
-unary-held neg (float x) = ap (λ (z : Float). floating (Ieee.neg z)) (number-held x)
+unary-held neg (float x) = ap (λ (z : Float). floating (Ieee.neg z)) (float-held x)
 unary-held neg (text s) = refl
 unary-held sqrt null = refl
 unary-held sqrt (bool a) = refl
@@ -160,7 +160,7 @@ unfolding isNan held
 nan-held null = refl
 nan-held (bool a) = refl
 nan-held (int m) = refl
-nan-held (float x) = ap (λ (z : Float). gives (bool (Ieee.isNan z))) (number-held x)
+nan-held (float x) = ap (λ (z : Float). gives (bool (Ieee.isNan z))) (float-held x)
 nan-held (text s) = refl
 
 pub is-held : (l v : Value) → isOf l (held v) ≡ isOf l v

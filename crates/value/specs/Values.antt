@@ -3,7 +3,7 @@ use Prim.Native.Nat.{ℕ}
 use lib.Ieee as Ieee
 use lib.Ieee.{binary64}
 use Rattle.rules.specs.Lists.{Bytes}
-use Rattle.rules.specs.Refusals.{number, integerOverflow, divisionByZero, wrongOperand, notWorkedOut}
+use Rattle.rules.specs.Refusals.{refusalNumber, integerOverflow, divisionByZero, wrongOperand, notWorkedOut}
 use Rattle.rules.specs.Places.{wordAt}
 use Rattle.rules.specs.Schema as rule
 use Rattle.rules.specs.Schema.{null, bool, int, float, text}
@@ -33,7 +33,7 @@ workedOf c q Wo.NotWorkedOut = fails notWorkedOut
 -- document 01's number of a refusal, 0 of a value
 unfoldable pub refusalOf : arithmetic.Worked → ℕ
 refusalOf (gives v) = 0
-refusalOf (fails k) = number k
+refusalOf (fails k) = refusalNumber k
 
 -- a value as the code holds it: a literal's NaN becomes 7ff8000000000000
 unfoldable pub held : rule.Value → rule.Value
@@ -41,5 +41,5 @@ unfolding Ieee.toBits
 held null = null
 held (bool b) = bool b
 held (int n) = int n
-held (float b) = float (Ieee.toBits binary64 (arithmetic.number b))
+held (float b) = float (Ieee.toBits binary64 (arithmetic.floatOf b))
 held (text t) = text t

@@ -3,8 +3,8 @@ ghost use mathlib.Core.Path.{_≡_};
 ghost use lib.Ieee as Ieee;
 ghost use lib.Ieee.{binary64, toBits};
 ghost use Rattle.rules.specs.Schema as rule;
-ghost use Rattle.rules.specs.Arithmetic.{number};
-ghost use Rattle.rules.specs.BuildExpression.{isValue};
+ghost use Rattle.rules.specs.Arithmetic.{floatOf};
+ghost use Rattle.rules.specs.BuildExpression.{isNullOrNan};
 
 fn nan() -> f64
     ensures { λ r. ⌜ r ≡ Ieee.nan ⌝ }
@@ -14,7 +14,7 @@ fn nan() -> f64
 
 // Every NaN's bits give the NaN.
 pub fn from_bits(n: u64) -> f64
-    ensures { λ r. ⌜ r ≡ number n ⌝ }
+    ensures { λ r. ⌜ r ≡ floatOf n ⌝ }
 {
     if is_nan(n) {
         return nan();
@@ -34,7 +34,7 @@ pub fn to_bits(x: f64) -> u64
 
 // Whether the bits n are a NaN's.
 pub fn is_nan(n: u64) -> bool
-    ensures { λ r. ⌜ r ≡ isValue (rule.float n) ⌝ }
+    ensures { λ r. ⌜ r ≡ isNullOrNan (rule.float n) ⌝ }
 {
     n % 0x8000_0000_0000_0000 > 0x7ff0_0000_0000_0000
 }

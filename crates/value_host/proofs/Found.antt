@@ -6,7 +6,7 @@ use Prim.Native.Nat.{ℕ}
 use borrow.Author.Tests.{ne-eqb}
 use Rattle.rules.specs.Arithmetic.{fails}
 use Rattle.rules.specs.Ast.{Unary, Binary}
-use Rattle.rules.specs.Equality.{unaryCode, binaryCode}
+use Rattle.rules.specs.Codes.{unaryCode, binaryCode}
 use Rattle.rules.specs.Operators.{unaryOf, binaryOf}
 use Rattle.rules.specs.Refusals.{notWorkedOut}
 use Rattle.rules.specs.Schema.{Value}

@@ -10,7 +10,7 @@ use Rattle.rules.specs.Schema.{Value}
 use Rattle.rules.specs.Ast.{Unary, not, fact, ident, neg, sqrt, Plain, and, or, eq, gt, lt, add, div, pow, mul, rem, sub, like, Binary, plain, ge, le, ne}
 use Rattle.rules.specs.Arithmetic.{Worked, fails}
 use Rattle.rules.specs.Operators.{unaryOf, binaryOf}
-use Rattle.rules.specs.Equality.{unaryCode, plainCode, binaryCode}
+use Rattle.rules.specs.Codes.{unaryCode, plainCode, binaryCode}
 
 -- the first of some operators that has the code n
 unfoldable pub coded : {O : Type 0} → (O → ℕ) → List O → ℕ → Option O

@@ -4,7 +4,7 @@ use mathlib.Core.Bool.{Bool, true, false, not}
 use lib.Dec.{eqb, ltb}
 use lib.IntN.{ℤ, pos, negsuc}
 use Rattle.rules.specs.Lists.{Bytes}
-use Rattle.rules.specs.Refusals.{number}
+use Rattle.rules.specs.Refusals.{refusalNumber}
 use Rattle.rules.specs.Places.{wordAt}
 use Rattle.rules.specs.Schema.{Value, null, bool, int, float, text}
 use Rattle.rules.specs.Arithmetic.{Worked, gives, fails}
@@ -54,4 +54,4 @@ refusedBy n = record { refusal = n; kind = 0; bits = 0 }
 
 unfoldable pub answerOf : Worked → Answer
 answerOf (gives v) = record { refusal = 0; kind = kindOf v; bits = bitsOf v }
-answerOf (fails k) = refusedBy (number k)
+answerOf (fails k) = refusedBy (refusalNumber k)

@@ -1,5 +1,5 @@
 -- The area at exit: as long as before, and read back after an accepted plan it gives the plan.
-use Prim.Native.Nat.{ℕ}
+use Prim.Native.Nat.{ℕ, _-_}
 use native.Mathlib.Omega.{arith}
 use mathlib.Core.Path.{_≡_, refl}
 use mathlib.Core.Bool.{Bool, true, false}
@@ -9,33 +9,32 @@ use lib.Dec.{ltb}
 use lib.ListN.{length, length-append, length-replicate}
 use Rattle.rules.specs.Refusals.{Answer, ok, refused}
 use Rattle.rules.specs.Limits.{leastArea}
-use Rattle.rules.specs.Lists.{Bytes, mapOption}
+use Rattle.rules.specs.Lists.{Bytes}
 use Rattle.rules.specs.Schema.{Catalog}
 use Rattle.rules.specs.ReadCatalog.{readCatalog}
 use Rattle.rules.specs.Plan.{Built, Plan}
 use Rattle.rules.specs.Cells.{planCells, numberPlan}
-use Rattle.rules.specs.Nodes.{nodeOf, planRecords}
+use Rattle.rules.specs.Area.{planNumbers}
 use Rattle.rules.specs.Entry.{planOf, entry, refusedArea, outcome, plan}
 use Rattle.claims.specs.Answers.{ensured}
 use Rattle.claims.specs.Area.Accepted.{accepted, catalog-read}
-use Rattle.claims.specs.Area.ReadArea.{readArea}
-use Rattle.claims.specs.Area.NodeTree.{nodeBack}
-use Rattle.claims.specs.Area.AreaExit.{exit-speaks, exit-node, area-count}
-use Rattle.claims.specs.Room.Statements.{room}
+use Rattle.claims.specs.Area.ReadPlan.{readPlan}
 use Rattle.claims.specs.Area.PlanReadable.{plan-readable}
+use Rattle.claims.specs.Area.PlanSpeaks.{plan-speaks}
+use Rattle.claims.specs.Room.Statements.{room}
 
 -- THE AREA SPEAKS
--- The area at exit, read back over the catalog's tables, gives exactly the plan's cells and node records, and so its node;
--- and the reported count is the number of the cells read.
+-- The whole area at exit, read back over the catalog's tables, gives exactly the plan: its cells, its nodes and what
+-- the statement has of its own; and the reported count is that of the cells.
 pub record Speaks (c q : Bytes) (a : List ℕ) (p : Plan Built) : Type 0 where
   pub tables : Catalog
   pub catalog : readCatalog c ≡ ok tables
-  pub contents : readArea c q tables (plan c q a .area) ≡ some (planCells p, planRecords (numberPlan p))
-  pub node : mapOption (λ r. nodeBack (r .1)) (readArea c q tables (plan c q a .area)) ≡ some (nodeOf (numberPlan p))
-  pub count : mapOption (λ r. length (r .0)) (readArea c q tables (plan c q a .area)) ≡ some (plan c q a .count)
+  pub contents : readPlan c q tables (plan c q a .area) ≡ some (planCells p, numberPlan p)
+  pub count : plan c q a .count ≡ length (planCells p)
 
 -- whenever the entry accepts, the area speaks
 pub area-demand : (c q : Bytes) (a : List ℕ) (p : Plan Built) → entry (length a) c q ≡ ok p → Speaks c q a p
+unfolding plan outcome
 area-demand c q a p e =
     let h = accepted (length a) c q p e in
     let ts = catalog-read c q p (h .planned) in
@@ -43,9 +42,8 @@ area-demand c q a p e =
     record {
       tables = ts .0;
       catalog = ts .1;
-      contents = exit-speaks c q a (ts .0) p e r;
-      node = exit-node c q a (ts .0) p e r;
-      count = area-count c q a (ts .0) p e r .2;
+      contents = rw e (plan-speaks c q (ts .0) p (length a - length (planNumbers p)) r);
+      count = rw e;
     }
 
 -- ITS LENGTH

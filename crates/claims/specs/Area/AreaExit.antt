@@ -1,37 +1,41 @@
--- The area at exit, after an accepted plan: it speaks, and the reported count is that of its cells.
-use Prim.Native.Nat.{ℕ}
+-- The area at exit: after a refusal, and behind a plan.
+use Prim.Native.Nat.{ℕ, _-_, _≤_, _<_}
 use mathlib.Core.Path.{_≡_}
 use mathlib.Core.List.{List}
-use mathlib.Core.Option.{some}
-use lib.ListN.{length, getD}
-use Rattle.rules.specs.Refusals.{ok}
-use Rattle.rules.specs.Lists.{Bytes, mapOption}
-use Rattle.rules.specs.Schema.{Catalog}
+use lib.ListN.{length, drop, replicate}
+use lib.Seq.{drop-append-seam}
+use borrow.Author.Tests.{lt-ltb, le-ltb}
+use Rattle.rules.specs.Refusals.{Refusal, refusalNumber, Answer, ok, refused}
+use Rattle.rules.specs.Limits.{leastArea}
+use Rattle.rules.specs.Lists.{Bytes}
 use Rattle.rules.specs.Plan.{Built, Plan}
-use Rattle.rules.specs.Cells.{planCells, numberPlan}
-use Rattle.rules.specs.Nodes.{nodeOf, planRecords}
-use Rattle.rules.specs.Area.{header, planNumbers}
-use Rattle.rules.specs.Entry.{entry, outcome, plan}
-use Rattle.claims.specs.Area.ReadArea.{readArea}
-use Rattle.claims.specs.Area.Readable.{Readable}
-use Rattle.claims.specs.Area.AreaSpeaks.{area-speaks}
-use Rattle.claims.specs.Area.NodeTree.{nodeBack, plan-node}
+use Rattle.rules.specs.Area.{planNumbers}
+use Rattle.rules.specs.Entry.{entry, textNumber, refusedArea, outcome, plan}
 
--- the plan's cells and node records can be read back from the area at exit
-pub exit-speaks : (c q : Bytes) (a : List ℕ) (ts : Catalog) (p : Plan Built) → entry (length a) c q ≡ ok p → Readable c q ts p
-    → readArea c q ts (plan c q a .area) ≡ some (planCells p, planRecords (numberPlan p))
+-- An area that is too short is refused with 1, at the statement's line 0, and stays as it was.
+pub untouched-when-short : (c q : Bytes) (a : List ℕ) → length a < leastArea
+    → plan c q a ≡ record { number = 1; text = 2; line = 0; count = 0; area = a }
+unfolding plan outcome entry refusedArea refusalNumber textNumber
+untouched-when-short c q a h = rw (entry, lt-ltb (length a) leastArea h) (rw (lt-ltb (length a) leastArea h))
+
+-- After any other refusal the area is all zero.
+pub zero-after-refusal : (c q : Bytes) (a : List ℕ) (r : Refusal) → entry (length a) c q ≡ refused r
+    → leastArea ≤ length a
+    → plan c q a .area ≡ replicate (length a) 0
+unfolding plan outcome refusedArea
+zero-after-refusal c q a r e h = rw (e, le-ltb (length a) leastArea h)
+
+-- Behind the numbers of a plan all is zero.
+pub zero-behind-plan : (c q : Bytes) (a : List ℕ) (p : Plan Built) → entry (length a) c q ≡ ok p
+    → drop (length (planNumbers p)) (plan c q a .area) ≡ replicate (length a - length (planNumbers p)) 0
 unfolding plan outcome
-exit-speaks c q a ts p e h = rw e (area-speaks c q ts p _ h)
+zero-behind-plan c q a p e = rw e (drop-append-seam (planNumbers p) _)
 
--- and so can its node
-pub exit-node : (c q : Bytes) (a : List ℕ) (ts : Catalog) (p : Plan Built) → entry (length a) c q ≡ ok p → Readable c q ts p
-    → mapOption (λ r. nodeBack (r .1)) (readArea c q ts (plan c q a .area)) ≡ some (nodeOf (numberPlan p))
-unfolding mapOption
-exit-node c q a ts p e h = rw (exit-speaks c q a ts p e h, plan-node (numberPlan p))
-
--- the reported count is the header's third number, the number of the plan's cells, and of those read back
-pub area-count : (c q : Bytes) (a : List ℕ) (ts : Catalog) (p : Plan Built) → entry (length a) c q ≡ ok p → Readable c q ts p
-    → (plan c q a .count ≡ getD (plan c q a .area) 2 0) × (plan c q a .count ≡ length (planCells p))
-    × (mapOption (λ r. length (r .0)) (readArea c q ts (plan c q a .area)) ≡ some (plan c q a .count))
-unfolding plan outcome planNumbers header mapOption
-area-count c q a ts p e h = (rw e, rw e, rw (exit-speaks c q a ts p e h, e))
+-- What the area held is of no account: only its length is.
+pub same-outcome : (c q : Bytes) (a b : List ℕ) → length a ≡ length b → leastArea ≤ length a → plan c q a ≡ plan c q b
+unfolding plan outcome refusedArea
+same-outcome c q a b e h = rw e (go (entry (length b) c q))
+  where
+    go : (m : Answer (Plan Built)) → outcome a m ≡ outcome b m
+    go (ok p) = rw e
+    go (refused r) = rw (e, le-ltb (length b) leastArea (rw e at h)) (rw e)

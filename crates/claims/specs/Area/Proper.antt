@@ -1,4 +1,5 @@
--- Proper expressions, nodes and plans: constants within 64 bits, names of 1 to 64 bytes, tables of the catalog, numbers within what they count.
+-- Proper expressions, nodes and plans: constants within 64 bits, names of 1 to 64 bytes, tables of the catalog, numbers
+-- within what they count.
 use Rattle.rules.specs.Schema.{Catalog}
 use Rattle.rules.specs.Plan.{Built, Node, Plan}
 use Rattle.claims.specs.Values.Values.{Fits}

@@ -1,7 +1,6 @@
 -- What is built of an expression, and a constant's value, have what the expression's literals have.
 use Prim.Native.Nat.{ℕ}
-use mathlib.Core.Path.{_≡_}
-use mathlib.Core.Bool.{true, false≢true}
+use mathlib.Core.Bool.{true}
 use mathlib.Core.Option.{Option, none, some}
 use Rattle.rules.specs.Refusals.{refuse}
 use Rattle.rules.specs.Schema.{Value, null, bool, int, float, text}
@@ -10,22 +9,13 @@ use Rattle.rules.specs.Arithmetic.{Worked, gives, fails}
 use Rattle.rules.specs.Operators.{isOf, isNan}
 use Rattle.rules.specs.Evaluate.{workedAt, evaluate, evaluateRoot}
 use Rattle.rules.specs.Scope.{Scope, empty}
-use Rattle.rules.specs.BuildExpression.{isValue, build, buildOption, constant}
+use Rattle.rules.specs.BuildExpression.{build, buildOption, constant}
 use Rattle.rules.specs.BuildAggregate.{buildFunction}
 use Rattle.claims.specs.Answers.{Ensures, then, weaken, refusing, past, Any, Given}
 use Rattle.claims.specs.Values.Outcomes.{Outcome, Kept, unary-outcome, binary-outcome, root-outcome, nan-outcome}
 use Rattle.claims.specs.Reading.Has.{ExprHas, ExprsHave, Literals}
-use Rattle.claims.specs.Area.Readable.{ReadableTest}
 use Rattle.claims.specs.Building.Built.{Steps, build-by, function-by}
 use Rattle.claims.specs.Building.Has.{TreeHas}
-
-value-tested : (v : Value) → isValue v ≡ true → ReadableTest v
-unfolding isValue ReadableTest
-value-tested null e = tt
-value-tested (bool b) e = absurd (false≢true e)
-value-tested (int n) e = absurd (false≢true e)
-value-tested (float b) e = tt
-value-tested (text w) e = absurd (false≢true e)
 
 -- BUILT
 module _ (Q : Value → Type 0) where
@@ -38,7 +28,7 @@ module _ (Q : Value → Type 0) where
     roots = λ l n a x u e g h. g (h .1 .0);
     unaries = λ l o a x u g h. g h;
     binaries = λ l o a b x y u f g h. (f (h .0), g (h .1));
-    tests = λ l a v x u e g h. (g (h .0), value-tested v e, h .1);
+    tests = λ l a v x u e g h. (g (h .0), e, h .1);
   }
 
   pub build-has : (s : Scope) (e : Expr) → Literals Q e → Ensures (build s e) (TreeHas Q)

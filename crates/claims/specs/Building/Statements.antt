@@ -8,18 +8,17 @@ use mathlib.Core.Option.{Option, none, some}
 use Rattle.rules.specs.Refusals.{ok, _>>=_, catalog, statement, otherStatement, noDefault}
 use Rattle.rules.specs.Lists.{Bytes, orElse}
 use Rattle.rules.specs.Lines.{Word}
-use Rattle.rules.specs.Schema.{Value, Column, Catalog, mustGetTable, defaultAt}
+use Rattle.rules.specs.Schema.{Value, Column, Table, Catalog, mustGetTable, defaultAt, namedBy}
 use Rattle.rules.specs.Ast.{Expr, NewColumn, Statement}
 use Rattle.rules.specs.Ast as Ast
 use Rattle.rules.specs.Reader.{Place, start}
 use Rattle.rules.specs.ReadCatalog.{readCatalog}
 use Rattle.rules.specs.ReadStatement.{readStatement}
-use Rattle.rules.specs.Scope.{Scope, empty, lookup, fromTable}
+use Rattle.rules.specs.Scope.{Scope, empty, lookup}
 use Rattle.rules.specs.BuildExpression.{found, build, each, buildOption, clauseExpr, constant}
-use Rattle.rules.specs.BuildStatement.{columnMap, buildDelete, buildInsert, orDefault, setValue, setBuilt, buildUpdate, keyColumns, primaryKey, nullDefault, defaultValue, madeColumn, buildCreate, buildStatement}
+use Rattle.rules.specs.BuildStatement.{tableScope, columnMap, buildDelete, buildInsert, orDefault, setValue, setBuilt, buildUpdate, keyColumns, primaryKey, nullDefault, defaultValue, madeColumn, buildCreate, buildStatement}
 use Rattle.rules.specs.Entry.{planOf}
-use Rattle.claims.specs.Answers.{Ensures, then, weaken, refusing, ensured, past, All, Given, each-from}
-use Rattle.claims.specs.Lists.{entry-has}
+use Rattle.claims.specs.Answers.{Ensures, then, both, weaken, refusing, ensured, past, All, Given, all-weaken, each-from}
 use Rattle.claims.specs.Values.Outcomes.{Kept}
 use Rattle.claims.specs.Reading.Has.{ColumnHas, TableHas, StatementHas, Literals}
 use Rattle.claims.specs.Reading.Sound.{Sound, any-names}
@@ -29,7 +28,7 @@ use Rattle.claims.specs.Reading.Catalog.{catalog-has}
 use Rattle.claims.specs.Building.Has.{TreeHas, NodeHas, MadeHas, PlanHas}
 use Rattle.claims.specs.Building.Expressions.{build-has, option-has, constant-has}
 use Rattle.claims.specs.Building.Positions.{columns-mapped, key-below}
-use Rattle.claims.specs.Building.From.{table-entry}
+use Rattle.claims.specs.Building.From.{table-found, found-has}
 use Rattle.claims.specs.Building.Select.{select-has}
 
 module _ {Q : Value → Type 0} (k : Kept Q) (N : Word → Type 0) where
@@ -66,25 +65,42 @@ module _ {Q : Value → Type 0} (k : Kept Q) (N : Word → Type 0) where
   made-has c h = then (defaultValue (orElse (c .nullable) (not (c .key))) (c .default)) _ _ _ (made-default _ (c .default) (h .2)) λ v g. (g, h .0, h .1)
 
   -- STATEMENTS
+  abbrev ColumnsHave : Table → Type 0
+  ColumnsHave t = All (ColumnHas Q N) (t .columns)
+
+  columns-named : (n : Word) (t : Table) → ColumnsHave t → ColumnsHave (namedBy n t)
+  unfolding namedBy
+  columns-named n t h = h
+
+  tables-have : (c : Catalog) → All (TableHas Q N) c → All ColumnsHave c
+  tables-have c h = all-weaken (TableHas Q N) ColumnsHave (λ t g. g .1) c h
+
   -- the plan over a catalog
   pub plan-has : (c : Catalog) (s : Statement) → All (TableHas Q N) c → StatementHas (Literals Q) N s → Ensures (buildStatement c s) (PlanHas Q N c)
   unfolding buildStatement buildDelete buildInsert buildUpdate buildCreate PlanHas NodeHas Given
   plan-has c (Ast.select q) t h = select-has k N c q h
   plan-has c (Ast.delete d) t h =
-      then (mustGetTable c (d .line) (d .table .bytes)) _ _ _ (table-entry c (d .line) (d .table .bytes)) λ r e.
-      then (buildOption (fromTable (r .1 .name) (r .1)) (clauseExpr (d .filter))) _ _ _ (option-has Q _ (clauseExpr (d .filter)) (h .1)) λ w g. (e, (e, g, tt))
+      then (mustGetTable c (d .line) (d .table)) _ _ _ (table-found c (d .line) (d .table)) λ r e.
+      let n : N (r .name) = rw (e .0) (h .0) in
+      then (buildOption (tableScope r) (clauseExpr (d .filter))) _ _ _ (option-has Q _ (clauseExpr (d .filter)) (h .1)) λ w g.
+      (e .1, (e .1, g, tt, n), n)
   plan-has c (Ast.insert d) t h =
-      then (mustGetTable c (d .line) (d .table .bytes)) _ _ _ (table-entry c (d .line) (d .table .bytes)) λ r e.
-      then (columnMap (r .1 .columns) (d .columns)) _ _ _ (columns-mapped (r .1 .columns) (d .columns)) λ m g.
+      then (mustGetTable c (d .line) (d .table)) _ _ _ (table-found c (d .line) (d .table)) λ r e.
+      then (columnMap (r .columns) (d .columns)) _ _ _ (columns-mapped (r .columns) (d .columns)) λ m g.
       then (each (each (build empty)) (d .rows)) _ _ _
-      (each-from (each (build empty)) (All (Literals Q)) (All (TreeHas Q)) (λ es x. weaken (each (build empty) es) _ _ (λ r g. g .0) (each-from (build empty) (Literals Q) (TreeHas Q) (build-has Q empty) es x)) (d .rows) (h .2)) λ rs x.
-      (e, x .0, g)
+      (each-from (each (build empty)) (All (Literals Q)) (All (TreeHas Q))
+      (λ es x. weaken (each (build empty) es) _ _ (λ r g. g .0) (each-from (build empty) (Literals Q) (TreeHas Q) (build-has Q empty) es x))
+      (d .rows) (h .2)) λ rs x.
+      (e .1, x .0, g, rw (e .0) (h .0))
   plan-has c (Ast.update d) t h =
-      then (mustGetTable c (d .line) (d .table .bytes)) _ _ _ (table-entry c (d .line) (d .table .bytes)) λ r e.
-      let s = fromTable (r .1 .name) (r .1) in
+      then (mustGetTable c (d .line) (d .table)) _ _ _
+      (both (mustGetTable c (d .line) (d .table)) _ _ (table-found c (d .line) (d .table)) (found-has ColumnsHave columns-named c (d .line) (d .table) (tables-have c t))) λ r e.
+      let s = tableScope r in
+      let n : N (r .name) = rw (e .0 .0) (h .0) in
       then (buildOption s (clauseExpr (d .filter))) _ _ _ (option-has Q s (clauseExpr (d .filter)) (h .2)) λ w g.
-      then (each (setBuilt s (r .1 .columns)) (d .sets)) _ _ _ (each-from (setBuilt s (r .1 .columns)) _ _ (set-has s (r .1 .columns) (entry-has (TableHas Q N) c (r .0) (r .1) t e .1)) (d .sets) (h .1)) λ xs x.
-      (e, (e, g, tt), x .0)
+      then (each (setBuilt s (r .columns)) (d .sets)) _ _ _
+      (each-from (setBuilt s (r .columns)) _ _ (set-has s (r .columns) (e .1)) (d .sets) (h .1)) λ xs x.
+      (e .0 .1, (e .0 .1, g, tt, n), x .0, n)
   plan-has c (Ast.create d) t h =
       then (primaryKey (d .line) (keyColumns 0 (d .columns))) _ _ _ (key-below (d .line) (d .columns)) λ i l.
       then (each madeColumn (d .columns)) _ _ _ (each-from madeColumn _ _ made-has (d .columns) (h .1)) λ cs g.

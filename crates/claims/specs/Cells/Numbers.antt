@@ -4,7 +4,8 @@ use native.Mathlib.Omega.{arith}
 use native.Mathlib.Decide.{decLt, ℕ-discrete}
 use mathlib.Core.Path.{_≡_, refl, ap}
 use mathlib.Core.Logic.{_⊎_, inl, inr}
-use mathlib.Core.List.{List, [], _∷_, List·Memᴰ, List·Memᴰ·head, List·Memᴰ·tail, List·Memᴰ·not-nil, List·Memᴰ·cases-cons}
+use mathlib.Core.List.{List, [], _∷_, List·Memᴰ, List·Memᴰ·head, List·Memᴰ·tail, List·Memᴰ·not-nil}
+use mathlib.Core.List.{List·Memᴰ·cases-cons}
 use lib.ListN.{length}
 
 -- P holds of every number from n up to m
@@ -43,7 +44,8 @@ unfolding counting
 counting-bounds zero k i m = absurd (List·Memᴰ·not-nil m)
 counting-bounds (suc n) k i m = pick (λ t. counting-bounds n (suc k) i t) (List·Memᴰ·cases-cons m)
   where
-    pick : (List·Memᴰ i (counting (suc k) n) → (suc k ≤ i) × (i < suc k + n)) → (i ≡ k) ⊎ List·Memᴰ i (counting (suc k) n) → (k ≤ i) × (i < k + suc n)
+    pick : (List·Memᴰ i (counting (suc k) n) → (suc k ≤ i) × (i < suc k + n))
+        → (i ≡ k) ⊎ List·Memᴰ i (counting (suc k) n) → (k ≤ i) × (i < k + suc n)
     pick below (inl e) = omega arith
     pick below (inr t) = let b = below t in omega arith
 
@@ -52,7 +54,8 @@ unfolding counting
 counting-member zero k i l h = absurd (omega arith)
 counting-member (suc n) k i l h = pick (counting-member n (suc k) i) (ℕ-discrete i k)
   where
-    pick : (suc k ≤ i → i < suc k + n → List·Memᴰ i (counting (suc k) n)) → Dec (i ≡ k) → List·Memᴰ i (k ∷ counting (suc k) n)
+    pick : (suc k ≤ i → i < suc k + n → List·Memᴰ i (counting (suc k) n)) → Dec (i ≡ k)
+        → List·Memᴰ i (k ∷ counting (suc k) n)
     pick later (yes e) = List·Memᴰ·head e
     pick later (no d) = List·Memᴰ·tail (later (omega arith) (omega arith))
 

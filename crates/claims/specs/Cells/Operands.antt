@@ -1,11 +1,14 @@
--- A cell's operands, and the cells of a comparison.
-use Prim.Native.Nat.{ℕ, _+_}
-use mathlib.Core.Path.{_≡_}
+-- A cell's operands.
+use Prim.Native.Nat.{ℕ, _≤_, _<_}
+use native.Mathlib.Omega.{arith}
+use native.Mathlib.Decide.{decLt, ℕ-discrete}
+use mathlib.Core.Path.{_≡_, sym, ap, _∙_}
 use mathlib.Core.Logic.{_⊎_, inl, inr}
-use mathlib.Core.List.{List, [], _∷_, List·Memᴰ, List·Memᴰ·not-nil, List·Memᴰ·cases-cons, List·Memᴰ·eq-of-singleton}
-use lib.ListN.{getD}
+use mathlib.Core.List.{List, [], _∷_, List·Memᴰ, List·Memᴰ·head, List·Memᴰ·tail, List·Memᴰ·not-nil}
+use mathlib.Core.List.{List·Memᴰ·cases-cons, List·Memᴰ·eq-of-singleton}
+use lib.ListN.{length, getD, List·getD-eq-default}
 use Rattle.rules.specs.Schema.{null}
-use Rattle.rules.specs.Ast.{Plain, or, eq, gt, lt}
+use Rattle.rules.specs.Ast.{Plain}
 use Rattle.rules.specs.Cells.{Cell, constant, column, unary, binary, is}
 
 -- the cell at a number
@@ -39,12 +42,42 @@ uses-one c i a e u = List·Memᴰ·eq-of-singleton (rw e at u)
 
 pub uses-two : (c : Cell) (i a b : ℕ) → operands c ≡ a ∷ b ∷ [] → Uses c i → (i ≡ a) ⊎ (i ≡ b)
 unfolding Uses
-uses-two c i a b e u = elim (List·Memᴰ·cases-cons (rw e at u)) [ inl p ↦ inl p | inr m ↦ inr (List·Memᴰ·eq-of-singleton m) ]
+uses-two c i a b e u =
+    elim (List·Memᴰ·cases-cons (rw e at u)) [ inl p ↦ inl p | inr m ↦ inr (List·Memᴰ·eq-of-singleton m) ]
 
--- the cells of `ge` or `le` over the operands x and y, the first of them j
-pub record Comparison (cs : List Cell) (j x y : ℕ) : Type 0 where
-  pub sign : Plain
-  pub either : (sign ≡ gt) ⊎ (sign ≡ lt)
-  pub first : cellAt cs j ≡ binary sign x y
-  pub second : cellAt cs (j + 1) ≡ binary eq x y
-  pub joined : cellAt cs (j + 2) ≡ binary or j (j + 1)
+pub uses-either : (c : Cell) (i a b : ℕ) → operands c ≡ a ∷ b ∷ [] → (i ≡ a) ⊎ (i ≡ b) → Uses c i
+unfolding Uses
+uses-either c i a b e (inl p) = rw e (List·Memᴰ·head p)
+uses-either c i a b e (inr p) = rw e (List·Memᴰ·tail (List·Memᴰ·head p))
+
+member : (i : ℕ) (is′ : List ℕ) → Dec (List·Memᴰ i is′)
+member i [] = no List·Memᴰ·not-nil
+member i (j ∷ is′) = pick (ℕ-discrete i j) (member i is′)
+  where
+    pick : Dec (i ≡ j) → Dec (List·Memᴰ i is′) → Dec (List·Memᴰ i (j ∷ is′))
+    pick (yes e) d = yes (List·Memᴰ·head e)
+    pick (no n) (yes m) = yes (List·Memᴰ·tail m)
+    pick (no n) (no m) = no λ h. elim (List·Memᴰ·cases-cons h) [ inl e ↦ n e | inr t ↦ m t ]
+
+-- whether it uses a cell
+pub uses-decided : (c : Cell) (i : ℕ) → Dec (Uses c i)
+unfolding Uses
+uses-decided c i = member i (operands c)
+
+-- past the cells there are no operands
+pub past-end : (cs : List Cell) (j : ℕ) → length cs ≤ j → operands (cellAt cs j) ≡ []
+unfolding cellAt operands
+past-end cs j h = rw (List·getD-eq-default cs (constant null) h)
+
+-- a cell with an operand is one of the cells
+pub user-below : (cs : List Cell) (j : ℕ) {i : ℕ} {is′ : List ℕ} → operands (cellAt cs j) ≡ i ∷ is′ → j < length cs
+user-below cs j e = elim (decLt j (length cs)) [
+  | yes y ↦ y
+  | no y ↦ absurd (let n = ap length (sym (past-end cs j (omega arith)) ∙ e) in omega arith)
+]
+
+pub uses-below : (cs : List Cell) (j i : ℕ) → Uses (cellAt cs j) i → j < length cs
+uses-below cs j i u = elim (decLt j (length cs)) [
+  | yes y ↦ y
+  | no y ↦ absurd (uses-none _ i (past-end cs j (omega arith)) u)
+]

@@ -4,10 +4,12 @@ use native.Mathlib.Omega.{arith}
 use mathlib.Core.Path.{_≡_, refl}
 use mathlib.Core.List.{List, [], _∷_, List·Memᴰ, List·Memᴰ·head, List·Memᴰ·tail}
 use lib.ListN.{length}
+use Rattle.rules.specs.Ast.{Plain}
 use Rattle.rules.specs.Plan.{Built, Plan}
 use Rattle.rules.specs.Cells.{Cell, planCells, planExpressions, numberPlan}
 use Rattle.claims.specs.Cells.Numbers.{Between, between-none, between-join, between-next, NumberOf, number-below}
-use Rattle.claims.specs.Cells.Operands.{cellAt, operands, Uses, operands-binary, Comparison}
+use Rattle.claims.specs.Cells.Operands.{cellAt, operands, Uses, operands-binary}
+use Rattle.claims.specs.Cells.Comparisons.{Comparison, comparison, ComparisonCells}
 use Rattle.claims.specs.Cells.Blocks.{Steps, of-plan, Inside, roots-inside}
 use Rattle.claims.specs.Cells.Order.{operands-below}
 
@@ -20,7 +22,8 @@ module _ (cs : List Cell) (rs : List ℕ) where
   reached-is : (i j : ℕ) → i ≡ j → Reached cs rs i → Reached cs rs j
   reached-is i j e h = rw e at h
 
-  operand : (j i : ℕ) {is′ : List ℕ} → operands (cellAt cs j) ≡ is′ → List·Memᴰ i is′ → Reached cs rs j → Reached cs rs i
+  operand : (j i : ℕ) {is′ : List ℕ} → operands (cellAt cs j) ≡ is′ → List·Memᴰ i is′ → Reached cs rs j
+      → Reached cs rs i
   unfolding Uses
   operand j i e m h = by {i = i} h (rw e m)
 
@@ -42,43 +45,53 @@ module _ (cs : List Cell) (rs : List ℕ) where
       let r = reached-is _ m (omega arith) h in
       between-next _ n m _ refl (f (operand m (pred m) e (List·Memᴰ·head refl) r)) r
 
-  from-two : (n k m : ℕ) → n < k → k < m → operands (cellAt cs m) ≡ pred k ∷ pred m ∷ [] → FromRoot n k → FromRoot k m → FromRoot n (m + 1)
+  from-two : (n k m : ℕ) → n < k → k < m → operands (cellAt cs m) ≡ pred k ∷ pred m ∷ []
+      → FromRoot n k → FromRoot k m → FromRoot n (m + 1)
   unfolding FromRoot
   from-two n k m l l′ e f g h =
       let r = reached-is _ m (omega arith) h in
-      between-next _ n m _ refl (between-join _ n k m (f (operand m (pred k) e (List·Memᴰ·head refl) r)) (g (operand m (pred m) e (List·Memᴰ·tail (List·Memᴰ·head refl)) r))) r
+      let left = f (operand m (pred k) e (List·Memᴰ·head refl) r) in
+      let right = g (operand m (pred m) e (List·Memᴰ·tail (List·Memᴰ·head refl)) r) in
+      between-next _ n m _ refl (between-join _ n k m left right) r
 
-  from-compared : (n k m : ℕ) → n < k → k < m → Comparison cs m (pred k) (pred m) → FromRoot n k → FromRoot k m → FromRoot n (m + 3)
+  from-compared : (n k m : ℕ) (t : Plain) → n < k → k < m → ComparisonCells cs (comparison t m (pred k) (pred m))
+      → FromRoot n k → FromRoot k m → FromRoot n (m + 3)
   unfolding FromRoot
-  from-compared n k m l l′ c f g h =
+  from-compared n k m t l l′ c f g h =
+      let e = operands-binary (c .joins) in
       let r = reached-is _ (m + 2) (omega arith) h in
-      let r₀ = operand (m + 2) m (operands-binary (c .joined)) (List·Memᴰ·head refl) r in
-      let r₁ = operand (m + 2) (m + 1) (operands-binary (c .joined)) (List·Memᴰ·tail (List·Memᴰ·head refl)) r in
-      let first = from-two n k m l l′ (operands-binary (c .first)) f g (reached-is m _ (omega arith) r₀) in
+      let r₀ = operand (m + 2) m e (List·Memᴰ·head refl) r in
+      let r₁ = operand (m + 2) (m + 1) e (List·Memᴰ·tail (List·Memᴰ·head refl)) r in
+      let first = from-two n k m l l′ (operands-binary (c .compares)) f g (reached-is m _ (omega arith) r₀) in
       between-next _ n (m + 2) (m + 3) (omega arith) (between-next _ n (m + 1) (m + 2) (omega arith) first r₁) r
 
-  from-steps : Steps cs FromRoot FromRoots
+  from-steps : (ds : List Comparison) → Steps cs ds FromRoot FromRoots
   unfolding FromRoot FromRoots
-  from-steps = record {
+  from-steps ds = record {
     leaf = from-leaf;
     one = from-one;
     two = from-two;
-    compared = from-compared;
+    compared = λ n k m t l l′ u. from-compared n k m t l l′;
     end = λ n h. between-none _ n;
-    more = λ n k m xs l l′ f g h. between-join _ n k m (f (h (pred k) (List·Memᴰ·head refl))) (g (λ i t. h i (List·Memᴰ·tail t)));
+    more = λ n k m xs l l′ f g h.
+        between-join _ n k m (f (h (pred k) (List·Memᴰ·head refl))) (g (λ i t. h i (List·Memᴰ·tail t)));
   }
 
 -- every cell is reached
-pub reached-all : (p : Plan Built) (i : ℕ) → i < length (planCells p) → Reached (planCells p) (planExpressions (numberPlan p)) i
+pub reached-all : (p : Plan Built) (i : ℕ) → i < length (planCells p)
+    → Reached (planCells p) (planExpressions (numberPlan p)) i
 unfolding FromRoots
-reached-all p i h = of-plan p _ _ (from-steps (planCells p) (planExpressions (numberPlan p))) (λ j m. from m) i (omega arith) h
+reached-all p i h =
+    of-plan p _ _ (from-steps (planCells p) (planExpressions (numberPlan p)) _) (λ j m. from m) i (omega arith) h
 
 -- and nothing else
-pub reached-only : (p : Plan Built) (i : ℕ) → Reached (planCells p) (planExpressions (numberPlan p)) i → i < length (planCells p)
+pub reached-only : (p : Plan Built) (i : ℕ) → Reached (planCells p) (planExpressions (numberPlan p)) i
+    → i < length (planCells p)
 unfolding Inside
 reached-only p i (from m) = roots-inside p i m .1
 reached-only p i (by {j} h u) = let l = reached-only p j h in let b = operands-below p j i l u in omega arith
 
 -- the cells are as many as the plan's numbers reach
-pub reach-count : (p : Plan Built) → NumberOf (Reached (planCells p) (planExpressions (numberPlan p))) (length (planCells p))
+pub reach-count : (p : Plan Built)
+    → NumberOf (Reached (planCells p) (planExpressions (numberPlan p))) (length (planCells p))
 reach-count p = number-below _ _ (reached-all p) (reached-only p)

@@ -1,183 +1,111 @@
--- Only the operands of `ge` and `le` are shared.
-use Prim.Native.Nat.{ℕ, _+_, _≤_, _<_, pred}
+-- Which cells are shared: the operands of the `ge` and `le` of a plan's expressions, each by two cells, and no others.
+use Prim.Native.Nat.{ℕ, _+_, _<_, pred}
 use native.Mathlib.Omega.{arith}
-use native.Mathlib.Decide.{decLt}
-use mathlib.Core.Path.{_≡_, refl}
-use mathlib.Core.Logic.{_⊎_, inl, inr, _≢_}
-use mathlib.Core.List.{List, [], _∷_, List·Memᴰ, List·Memᴰ·not-nil, List·Memᴰ·cases-cons, List·Memᴰ·eq-of-singleton}
-use lib.ListN.{length, List·getD-eq-default}
-use Rattle.rules.specs.Schema.{null}
+use native.Mathlib.Decide.{decLt, ℕ-discrete}
+use mathlib.Core.Path.{_≡_}
+use mathlib.Core.Logic.{_⊎_, inl, inr, _↔_}
+use mathlib.Core.List.{List·Memᴰ}
+use lib.ListN.{length}
 use Rattle.rules.specs.Plan.{Built, Plan}
-use Rattle.rules.specs.Cells.{Cell, constant, planCells, planExpressions, numberPlan}
-use Rattle.claims.specs.Cells.Numbers.{Between, between-none, between-join, between-next, Distinct}
-use Rattle.claims.specs.Cells.Operands.{cellAt, operands, Uses, operands-binary, uses-none, uses-one, uses-two, Comparison}
-use Rattle.claims.specs.Cells.Blocks.{Steps, of-plan, Inside, inside-end, inside-more}
-use Rattle.claims.specs.Cells.Order.{Below, Within, within-join, within-leaf, within-one, within-two, within-compared}
+use Rattle.rules.specs.Cells.{planCells, planExpressions, numberPlan}
+use Rattle.claims.specs.Answers.{All}
+use Rattle.claims.specs.Cells.Numbers.{Distinct}
+use Rattle.claims.specs.Cells.Operands.{cellAt, operands, Uses, operands-binary, uses-two, uses-either}
+use Rattle.claims.specs.Cells.Operands.{uses-decided}
+use Rattle.claims.specs.Cells.Comparisons.{Comparison, planComparisons, ComparisonCells}
+use Rattle.claims.specs.Cells.Blocks.{cells-compared}
+use Rattle.claims.specs.Cells.Reach.{Reached, from, by, reached-all}
+use Rattle.claims.specs.Cells.Pairs.{Pair, paired}
 
--- cells j and k are the first two of a `ge` or `le`
-pub record Pair (cs : List Cell) (j k : ℕ) : Type 0 where
-  pub next : k ≡ j + 1
-  pub left : ℕ
-  pub right : ℕ
-  pub comparison : Comparison cs j left right
+-- What uses cell i of a plan: a node and no cell; or one cell and no node; or, if it is an operand of a `ge` or `le` of
+-- the plan's expressions, the first two cells of that and no node.
+pub data Used (p : Plan Built) (i : ℕ) : Type 0 where
+  by-node : List·Memᴰ i (planExpressions (numberPlan p)) → ((j : ℕ) → ¬ Uses (cellAt (planCells p) j) i) → Used p i
+  by-cell : ¬ List·Memᴰ i (planExpressions (numberPlan p))
+      → (k : ℕ) → ((j : ℕ) → Uses (cellAt (planCells p) j) i ↔ (j ≡ k)) → Used p i
+  by-comparison : ¬ List·Memᴰ i (planExpressions (numberPlan p))
+      → (c : Comparison) → List·Memᴰ c (planComparisons p) → (i ≡ c .left) ⊎ (i ≡ c .right)
+      → ((j : ℕ) → Uses (cellAt (planCells p) j) i ↔ ((j ≡ c .first) ⊎ (j ≡ c .first + 1))) → Used p i
 
--- two cells that use one cell are such a pair, no cell uses a cell twice, none uses a root, and no cell is a root twice
-pub record SharedOnly (cs : List Cell) (rs : List ℕ) : Type 0 where
-  pub users : (j k i : ℕ) → j < k → Uses (cellAt cs j) i → Uses (cellAt cs k) i → Pair cs j k
-  pub operands-distinct : (j : ℕ) → Distinct (operands (cellAt cs j))
-  pub roots-unused : (j i : ℕ) → List·Memᴰ i rs → ¬ Uses (cellAt cs j) i
-  pub roots-distinct : Distinct rs
+-- Every cell is used in one of these ways; every `ge` and `le` has its cells, which share its operands; no cell uses a
+-- cell twice, and no two expressions of the nodes are one cell.
+pub record SharedOnly (p : Plan Built) : Type 0 where
+  pub used : (i : ℕ) → i < length (planCells p) → Used p i
+  pub compared : All (ComparisonCells (planCells p)) (planComparisons p)
+  pub operands-distinct : (j : ℕ) → Distinct (operands (cellAt (planCells p) j))
+  pub roots-distinct : Distinct (planExpressions (numberPlan p))
 
--- what cell k shares with one from n on
-Shares : List Cell → ℕ → ℕ → Type 0
-Shares cs n k = (j i : ℕ) → n ≤ j → j < k → Uses (cellAt cs j) i → Uses (cellAt cs k) i → Pair cs j k
+module _ (p : Plan Built) (i : ℕ) where
+  -- cell j uses cell i
+  abbrev By : ℕ → Type 0
+  By j = Uses (cellAt (planCells p) j) i
 
--- the cells from n up to m share the operands of comparisons only
-record Block (cs : List Cell) (n m : ℕ) : Type 0 where
-  within : Within cs n m
-  shares : Between (Shares cs n) n m
-  distinct : Between (λ j. Distinct (operands (cellAt cs j))) n m
+  no-root : (j : ℕ) → By j → ¬ List·Memᴰ i (planExpressions (numberPlan p))
+  no-root j u m = paired p .roots-unused j i m u
 
--- several blocks, with their roots
-record Blocks (cs : List Cell) (n m : ℕ) (rs : List ℕ) : Type 0 where
-  block : Block cs n m
-  inside : Inside n m rs
-  unused : (i : ℕ) → List·Memᴰ i rs → Between (λ j. ¬ Uses (cellAt cs j) i) n m
-  roots : Distinct rs
+  neighbours : (j k : ℕ) → j < k → By j → By k → k ≡ j + 1
+  neighbours j k l u v = paired p .users j k i l u v .next
 
-one-distinct : (c : Cell) (a : ℕ) → operands c ≡ a ∷ [] → Distinct (operands c)
-unfolding Distinct
-one-distinct c a e = rw e (List·Memᴰ·not-nil, tt)
-
-two-distinct : (c : Cell) (a b : ℕ) → a ≢ b → operands c ≡ a ∷ b ∷ [] → Distinct (operands c)
-unfolding Distinct
-two-distinct c a b d e = rw e (λ m. d (List·Memᴰ·eq-of-singleton m), (List·Memᴰ·not-nil, tt))
-
-module _ (cs : List Cell) where
-  -- no cell before m uses its operands
-  unused-two : (n k m j i : ℕ) → n < k → k < m → Within cs n k → Within cs k m → n ≤ j → j < m → Uses (cellAt cs j) i → ¬ ((i ≡ pred k) ⊎ (i ≡ pred m))
-  unfolding Within Below
-  unused-two n k m j i l l′ f g r r′ u e = elim (decLt j k) [
-    | yes y ↦ (let b = f j r y i u in elim e [ inl p ↦ omega arith | inr p ↦ omega arith ])
-    | no y ↦ (let b = g j (omega arith) r′ i u in elim e [ inl p ↦ omega arith | inr p ↦ omega arith ])
-  ]
-
-  block-leaf : (n : ℕ) → operands (cellAt cs n) ≡ [] → Block cs n (n + 1)
-  unfolding Shares Distinct
-  block-leaf n e = record {
-    within = within-leaf cs n e;
-    shares = between-next _ n n _ refl (between-none _ n) λ j i l r u v. absurd (uses-none _ i e v);
-    distinct = between-next _ n n _ refl (between-none _ n) (rw e tt);
-  }
-
-  block-one : (n m : ℕ) → n < m → operands (cellAt cs m) ≡ pred m ∷ [] → Block cs n m → Block cs n (m + 1)
-  unfolding Shares Within Below
-  block-one n m h e b = record {
-    within = within-one cs n m h e (b .within);
-    shares = between-next _ n m _ refl (b .shares) λ j i l r u v. absurd (let p = b .within j l r i u in let q = uses-one _ i (pred m) e v in omega arith);
-    distinct = between-next _ n m _ refl (b .distinct) (one-distinct _ _ e);
-  }
-
-  block-join : (n k m : ℕ) → n ≤ k → Block cs n k → Block cs k m → Block cs n m
-  unfolding Within Below Shares
-  block-join n k m h a b = record {
-    within = within-join cs n k m h (a .within) (b .within);
-    shares = between-join _ n k m (a .shares) λ c l r j i l′ r′ u v. elim (decLt j k) [
-      | yes y ↦ absurd (let p = a .within j l′ y i u in let q = b .within c l r i v in omega arith)
-      | no y ↦ b .shares c l r j i (omega arith) r′ u v
-    ];
-    distinct = between-join _ n k m (a .distinct) (b .distinct);
-  }
-
-  block-two : (n k m : ℕ) → n < k → k < m → operands (cellAt cs m) ≡ pred k ∷ pred m ∷ [] → Block cs n k → Block cs k m → Block cs n (m + 1)
-  unfolding Shares
-  block-two n k m h h′ e a b =
-      let c = block-join n k m (omega arith) a b in
-      record {
-        within = within-two cs n k m h h′ e (a .within) (b .within);
-        shares = between-next _ n m _ refl (c .shares) λ j i l r u v. absurd (unused-two n k m j i h h′ (a .within) (b .within) l r u (uses-two _ i _ _ e v));
-        distinct = between-next _ n m _ refl (c .distinct) (two-distinct _ _ _ (omega arith) e);
-      }
-
-  -- the first two cells of a comparison, and those before them, use what is before the comparison
-  before : (n k m : ℕ) → k < m → Comparison cs m (pred k) (pred m) → Within cs n (m + 1) → Between (λ j. (i : ℕ) → Uses (cellAt cs j) i → i < m) n (m + 2)
-  unfolding Within Below
-  before n k m h c f =
-      between-next _ n (m + 1) (m + 2) (omega arith) (λ j l r i u. let b = f j l r i u in omega arith)
-      λ i u. elim (uses-two _ i _ _ (operands-binary (c .second)) u) [ inl p ↦ omega arith | inr p ↦ omega arith ]
-
-  block-compared : (n k m : ℕ) → n < k → k < m → Comparison cs m (pred k) (pred m) → Block cs n k → Block cs k m → Block cs n (m + 3)
-  unfolding Shares
-  block-compared n k m h h′ c a b = record {
-    within = within-compared cs n k m h h′ c (a .within) (b .within);
-    shares = between-next _ n (m + 2) (m + 3) (omega arith) (between-next _ n (m + 1) (m + 2) (omega arith) (d .shares) second) third;
-    distinct =
-        between-next _ n (m + 2) (m + 3) (omega arith)
-        (between-next _ n (m + 1) (m + 2) (omega arith) (d .distinct) (two-distinct _ _ _ (omega arith) (operands-binary (c .second))))
-        (two-distinct _ _ _ (omega arith) (operands-binary (c .joined)));
-  }
+  -- by two cells
+  in-comparison : (j k : ℕ) → j < k → By j → By k → Used p i
+  in-comparison j k l u v = by-comparison (no-root j u) c (q .listed) side λ m. (only m, both m)
     where
-      d : Block cs n (m + 1)
-      d = block-two n k m h h′ (operands-binary (c .first)) a b
+      q : Pair (planCells p) (planComparisons p) j k
+      q = paired p .users j k i l u v
 
-      second : Shares cs n (m + 1)
-      second j i l r u v = elim (decLt j m) [
-        | yes y ↦ absurd (unused-two n k m j i h h′ (a .within) (b .within) l y u (uses-two _ i _ _ (operands-binary (c .second)) v))
-        | no y ↦ (let e : j ≡ m = omega arith in rw e (record { next = refl; left = pred k; right = pred m; comparison = c }))
+      c : Comparison
+      c = q .of
+
+      side : (i ≡ c .left) ⊎ (i ≡ c .right)
+      side = uses-two _ i _ _ (operands-binary (q .cells .compares)) (rw (q .starts) u)
+
+      only : (m : ℕ) → By m → (m ≡ c .first) ⊎ (m ≡ c .first + 1)
+      only m w = elim (decLt m j) [
+        | yes y ↦ absurd (let e = neighbours m j y w u in let f = neighbours m k (omega arith) w v in omega arith)
+        | no y ↦ elim (ℕ-discrete m j) [
+          | yes e ↦ inl (rw (q .starts) e)
+          | no n ↦ inr (rw (q .starts) (neighbours j m (omega arith) u w))
+        ]
       ]
 
-      third : Shares cs n (m + 2)
-      third j i l r u v = absurd (let p = before n k m h′ c (d .within) j l r i u in elim (uses-two _ i _ _ (operands-binary (c .joined)) v) [ inl q ↦ omega arith | inr q ↦ omega arith ])
+      both : (m : ℕ) → (m ≡ c .first) ⊎ (m ≡ c .first + 1) → By m
+      both m (inl e) = rw e (uses-either _ i _ _ (operands-binary (q .cells .compares)) side)
+      both m (inr e) = rw e (uses-either _ i _ _ (operands-binary (q .cells .equals)) side)
 
-  blocks-end : (n : ℕ) → Blocks cs n n []
-  unfolding Within Distinct
-  blocks-end n = record {
-    block = record { within = between-none _ n; shares = between-none _ n; distinct = between-none _ n };
-    inside = inside-end n;
-    unused = λ i m. absurd (List·Memᴰ·not-nil m);
-    roots = tt;
-  }
-
-  blocks-more : (n k m : ℕ) (rs : List ℕ) → n < k → k ≤ m → Block cs n k → Blocks cs k m rs → Blocks cs n m (pred k ∷ rs)
-  unfolding Within Below Distinct Inside
-  blocks-more n k m rs h h′ a b = record {
-    block = block-join n k m (omega arith) a (b .block);
-    inside = inside-more n k m rs h h′ (b .inside);
-    unused = λ i t. between-join _ n k m (first i (List·Memᴰ·cases-cons t)) (second i (List·Memᴰ·cases-cons t));
-    roots = (λ t. let p = b .inside (pred k) t in omega arith, b .roots);
-  }
+  -- by one cell
+  alone : (j : ℕ) → By j → ¬ By (j + 1) → ((k : ℕ) → j ≡ k + 1 → ¬ By k) → Used p i
+  alone j u next last = by-cell (no-root j u) j λ m. (only m, λ e. rw e u)
     where
-      first : (i : ℕ) → (i ≡ pred k) ⊎ List·Memᴰ i rs → Between (λ j. ¬ Uses (cellAt cs j) i) n k
-      first i (inl e) j l r u = let p = a .within j l r i u in omega arith
-      first i (inr t) j l r u = let p = a .within j l r i u in let q = b .inside i t in omega arith
+      only : (m : ℕ) → By m → m ≡ j
+      only m w = elim (decLt m j) [
+        | yes y ↦ absurd (last m (neighbours m j y w u) w)
+        | no y ↦ elim (decLt j m) [
+          | yes z ↦ absurd (next (rw (neighbours j m z u w) at w))
+          | no z ↦ omega arith
+        ]
+      ]
 
-      second : (i : ℕ) → (i ≡ pred k) ⊎ List·Memᴰ i rs → Between (λ j. ¬ Uses (cellAt cs j) i) k m
-      second i (inl e) j l r u = let p = b .block .within j l r i u in omega arith
-      second i (inr t) j l r u = b .unused i t j l r u
+  cell-used : (j : ℕ) → By j → Used p i
+  cell-used j u = elim (uses-decided (cellAt (planCells p) (j + 1)) i) [
+    | yes v ↦ in-comparison j (j + 1) (omega arith) u v
+    | no v ↦ elim (uses-decided (cellAt (planCells p) (pred j)) i) [
+      | yes w ↦ elim (decLt 0 j) [
+        | yes y ↦ in-comparison (pred j) j (omega arith) w u
+        | no y ↦ alone j u v λ k e. absurd (omega arith)
+      ]
+      | no w ↦ alone j u v λ k e x. w (let f : pred j ≡ k = omega arith in rw f x)
+    ]
+  ]
 
-  blocks-steps : Steps cs (Block cs) (Blocks cs)
-  blocks-steps = record { leaf = block-leaf; one = block-one; two = block-two; compared = block-compared; end = blocks-end; more = blocks-more }
-
--- a number past the cells has no operands
-past : (cs : List Cell) (j : ℕ) → ¬ (j < length cs) → operands (cellAt cs j) ≡ []
-unfolding cellAt operands
-past cs j h = let l : length cs ≤ j = omega arith in rw (List·getD-eq-default cs (constant null) l)
-
-used : (cs : List Cell) (j i : ℕ) → Uses (cellAt cs j) i → j < length cs
-used cs j i u = elim (decLt j (length cs)) [ yes y ↦ y | no y ↦ absurd (uses-none _ i (past cs j y) u) ]
+  is-used : Reached (planCells p) (planExpressions (numberPlan p)) i → Used p i
+  is-used (from m) = by-node m λ j u. no-root j u m
+  is-used (by {j} h u) = cell-used j u
 
 -- only the operands of `ge` and `le` are shared
-pub shared-only : (p : Plan Built) → SharedOnly (planCells p) (planExpressions (numberPlan p))
-unfolding Shares Distinct
+pub shared-only : (p : Plan Built) → SharedOnly p
 shared-only p = record {
-  users = λ j k i h u v. bs .block .shares k (omega arith) (used cs k i v) j i (omega arith) h u v;
-  operands-distinct = λ j. elim (decLt j (length cs)) [ yes y ↦ bs .block .distinct j (omega arith) y | no y ↦ rw (past cs j y) tt ];
-  roots-unused = λ j i m u. bs .unused i m j (omega arith) (used cs j i u) u;
-  roots-distinct = bs .roots;
+  used = λ i h. is-used p i (reached-all p i h);
+  compared = cells-compared p;
+  operands-distinct = paired p .operands-distinct;
+  roots-distinct = paired p .roots-distinct;
 }
-  where
-    cs : List Cell
-    cs = planCells p
-
-    bs : Blocks cs 0 (length cs) (planExpressions (numberPlan p))
-    bs = of-plan p _ _ (blocks-steps cs)

@@ -8,6 +8,7 @@ use lib.Dec.{eqb, T, eqb→eq}
 use Rattle.rules.specs.Lists.{Bytes, same, named, isSome}
 use Rattle.rules.specs.Lines.{Word, bytes}
 use Rattle.rules.specs.Ast.{Expr, star, column, literal, call, unary, binary, is, Exprs, nil, cons, size, sizeAll}
+use Rattle.rules.specs.Views.{asCall}
 use Rattle.rules.specs.Scope.{Scope}
 use Rattle.rules.specs.BuildExpression.{build}
 use Rattle.rules.specs.BuildAggregate.{aggregates, isAggregate, collect, collectAll, collectEach}
@@ -31,7 +32,7 @@ arguments-total s (e ∷ es) = total-append (argumentCost s) (collect e) (collec
 
 -- THE ARGUMENTS ALONE
 mutual
-  unfolding collect size total argumentCost argumentsCost
+  unfolding collect size total argumentCost argumentsCost asCall
 
   -- at most three cells for each expression cell but one
   pub arguments-most : (s : Scope) (e : Expr) → argumentsCost s e + 3 ≤ 3 * size e

@@ -1,17 +1,20 @@
 -- What an expression costs: the cells of an accepted one, and the most that it can be.
 use Prim.Native.Nat.{ℕ, _*_, _≤_}
 use native.Mathlib.Omega.{arith}
-use mathlib.Core.Path.{_≡_, refl}
+use mathlib.Core.Path.{_≡_, refl, sym}
 use mathlib.Core.Option.{Option, none, some}
 use Rattle.rules.specs.Lists.{given}
 use Rattle.rules.specs.Ast.{Expr, star, column, literal, call, unary, binary, is, Exprs, nil, cons, size, sizeAll, Binary, plain, ge, le, ne}
+use Rattle.rules.specs.Views.{asCall}
 use Rattle.rules.specs.Scope.{Scope, matched}
 use Rattle.rules.specs.BuildExpression.{build, buildOption}
-use Rattle.rules.specs.Cells.{added, count}
+use Rattle.rules.specs.Cells.{added, builtCount}
 use Rattle.rules.specs.Sizes.{total, optionSize}
-use Rattle.rules.specs.Count.{pickCost, cost, costFirst, optionCost}
+use Rattle.rules.specs.BuildAggregate.{buildFunction}
+use Rattle.rules.specs.Order.{Use, over, argumentOf, through, buildUse}
+use Rattle.rules.specs.Count.{pickCost, cost, costFirst, argumentCost, useCost}
 use Rattle.claims.specs.Answers.{Ensures, then}
-use Rattle.claims.specs.Building.Built.{Steps, build-by}
+use Rattle.claims.specs.Building.Built.{Steps, build-by, function-by}
 
 -- a match is one cell
 pub matched-cost : (s : Scope) (e : Expr) (i : ℕ) → matched s e ≡ some i → 1 ≡ cost s e
@@ -24,8 +27,8 @@ matched-cost s (unary l o a) i u = rw u
 matched-cost s (binary l o a b) i u = rw u
 matched-cost s (is l a v) i u = rw u
 
-cost-steps : (s : Scope) → Steps s (λ e x. count x ≡ cost s e)
-unfolding cost costFirst pickCost count
+cost-steps : (s : Scope) → Steps s (λ e x. builtCount x ≡ cost s e)
+unfolding cost costFirst pickCost builtCount
 cost-steps s = record {
   matches = λ e i u. matched-cost s e i u;
   columns = λ l q n i u f. rw u;
@@ -37,12 +40,12 @@ cost-steps s = record {
 }
 
 -- an accepted expression has the cells that its cost says
-pub cost-build : (s : Scope) (e : Expr) → Ensures (build s e) (λ b. count b ≡ cost s e)
+pub cost-build : (s : Scope) (e : Expr) → Ensures (build s e) (λ b. builtCount b ≡ cost s e)
 cost-build s e = build-by (cost-steps s) e
 
 -- the same of an expression that may be missing
-pub cost-option : (s : Scope) (e : Option Expr) → Ensures (buildOption s e) (λ x. total count (given x) ≡ optionCost s e)
-unfolding buildOption given total optionCost
+pub cost-option : (s : Scope) (e : Option Expr) → Ensures (buildOption s e) (λ x. total builtCount (given x) ≡ total (cost s) (given e))
+unfolding buildOption given total
 cost-option s none = refl
 cost-option s (some e) = then (build s e) _ _ _ (cost-build s e) λ b p. omega arith
 
@@ -82,7 +85,20 @@ mutual
   costFirst-most s nil = omega arith
   costFirst-most s (cons a as′) = omega (arith, cost-most s a)
 
-pub optionCost-most : (s : Scope) (e : Option Expr) → optionCost s e ≤ 3 * optionSize e
-unfolding optionCost optionSize
-optionCost-most s none = omega arith
-optionCost-most s (some e) = cost-most s e
+pub option-most : (s : Scope) (e : Option Expr) → total (cost s) (given e) ≤ 3 * optionSize e
+unfolding given total optionSize
+option-most s none = omega arith
+option-most s (some e) = omega (arith, cost-most s e)
+
+-- USES
+function-cost : (s : Scope) (e : Expr) → Ensures (buildFunction s e) (λ f. builtCount (f .1) ≡ argumentCost s e)
+unfolding builtCount cost argumentCost costFirst asCall
+function-cost s = function-by s (λ e x. builtCount x ≡ cost s e) (λ l. sym (pick-one (matched s (star l)))) (cost-build s)
+    (λ e x. builtCount x ≡ argumentCost s e) λ l n a x g. g
+
+-- a use has the cells that its cost says
+pub cost-use : (u : Use) → Ensures (buildUse u) (λ x. builtCount x ≡ useCost u)
+unfolding buildUse useCost builtCount
+cost-use (over s e) = cost-build s e
+cost-use (argumentOf s e) = then (buildFunction s e) _ _ _ (function-cost s e) λ f h. h
+cost-use (through i) = refl

@@ -7,24 +7,46 @@ use mathlib.Core.Bool.{Bool, true, false}
 use mathlib.Core.List.{List, [], _∷_, _++_, map}
 use mathlib.Core.Option.{Option, none, some}
 use lib.ListN.{length}
-use Rattle.rules.specs.Refusals.{ok, _>>=_}
+use Rattle.rules.specs.Refusals.{ok}
 use Rattle.rules.specs.Lines as Lines
 use Rattle.rules.specs.Ast.{Expr, column, size, Item, Select}
-use Rattle.rules.specs.Plan.{Built, Node, Label, nameless, unqualified, qualified}
+use Rattle.rules.specs.Plan.{Label, nameless, unqualified, qualified}
 use Rattle.rules.specs.Plan as P
 use Rattle.rules.specs.Scope.{Scope, matched}
-use Rattle.rules.specs.BuildExpression.{build, each}
+use Rattle.rules.specs.BuildExpression.{build}
 use Rattle.rules.specs.BuildAggregate.{collect}
-use Rattle.rules.specs.Items.{starLine, isLone, starredColumn, expandStars, expands, expandedItems, Hidden, projected, hiddenWithin}
-use Rattle.rules.specs.BuildSelect.{itemBuilt, hiddenBuilt, buildProjection}
+use Rattle.rules.specs.Views.{asStar}
+use Rattle.rules.specs.Items.{isLone, starredColumn, expandStars, starsExpand, expandedItems}
+use Rattle.rules.specs.Hidden.{HiddenColumn, projected}
 use Rattle.rules.specs.Sizes.{total, itemsSize}
-use Rattle.rules.specs.Count.{cost, itemCost, itemStarred}
-use Rattle.claims.specs.Answers.{Ensures, then, All, all-right, past, all-every}
-use Rattle.claims.specs.Count.Totals.{total-append, all-most, each-accepted}
+use Rattle.rules.specs.Order.{Use, over, through, buildUse, itemUses}
+use Rattle.rules.specs.Count.{cost, useCost, itemStarred}
+use Rattle.claims.specs.Answers.{ensured, All, all-left, all-right, all-every, all-weaken}
+use Rattle.claims.specs.Lists.{map-all}
+use Rattle.claims.specs.Count.Totals.{total-append, all-most}
 use Rattle.claims.specs.Count.Costs.{pick-one}
 use Rattle.claims.specs.Count.Arguments.{argumentsCost, arguments-most, argument-bound}
 use Rattle.claims.specs.Count.Hidden.{hidden-most}
 use Rattle.claims.specs.Count.Stars.{starredOver}
+
+-- a use that is built
+abbrev pub Built : Use → Type 0
+Built u = (x : P.Built) × (buildUse u ≡ ok x)
+
+-- with its aggregates' arguments, an expression that is built has at most three cells for each of its expression cells
+pub built-bound : (g s : Scope) (e : Expr) → Built (over g e) → cost g e + argumentsCost s e ≤ 3 * size e
+unfolding buildUse
+built-bound g s e h = ensured (build g e) (λ b. cost g e + argumentsCost s e ≤ 3 * size e) (argument-bound g s e) (h .0) (h .1)
+
+items-cost : (g : Scope) (is′ : List Item) → total useCost (map (λ (i : Item). over g (i .expr)) is′) ≡ total (λ (i : Item). cost g (i .expr)) is′
+unfolding total useCost
+items-cost g [] = refl
+items-cost g (i ∷ is′) = omega (arith, items-cost g is′)
+
+hidden-cost : (cs : List HiddenColumn) → total useCost (map (λ (c : HiddenColumn). through (c .position)) cs) ≡ length cs
+unfolding total useCost
+hidden-cost [] = refl
+hidden-cost (c ∷ cs) = omega (arith, hidden-cost cs)
 
 -- what the arguments of the items' aggregates cost
 abbrev pub itemsArguments : Scope → List Item → ℕ
@@ -63,7 +85,7 @@ module _ (f : Expr → ℕ) (one : (l : ℕ) (a : Label) → f (starredColumn l 
   stars-bound : (ls : List Label) (is′ : List Item) → All Within (expandStars ls is′) → both-costs (expandStars ls is′) ≤ 3 * itemsSize is′ + total (itemStarred (length ls)) is′
   unfolding expandStars total itemsSize itemStarred All
   stars-bound ls [] h = omega arith
-  stars-bound ls (i ∷ is′) h = go (starLine (i .expr)) (stars-bound ls is′) h
+  stars-bound ls (i ∷ is′) h = go (asStar (i .expr)) (stars-bound ls is′) h
     where
       rest : List Item
       rest = expandStars ls is′
@@ -77,7 +99,7 @@ module _ (f : Expr → ℕ) (one : (l : ℕ) (a : Label) → f (starredColumn l 
 
   items-bound : (q : Select) (ls : List Label) → All Within (expandedItems q ls) → both-costs (expandedItems q ls) ≤ 3 * itemsSize (q .items) + starredOver q (length ls)
   unfolding expandedItems starredOver
-  items-bound q ls = go (expands q)
+  items-bound q ls = go (starsExpand q)
     where
       go : (b : Bool) → All Within (elim b [ true ↦ expandStars ls (q .items) | false ↦ q .items ])
           → both-costs (elim b [ true ↦ expandStars ls (q .items) | false ↦ q .items ])
@@ -86,27 +108,38 @@ module _ (f : Expr → ℕ) (one : (l : ℕ) (a : Label) → f (starredColumn l 
       go false h = unfold itemsSize in (omega (arith, all-most (λ (i : Item). f (i .expr)) (λ (i : Item). argumentsCost s (i .expr)) (λ (i : Item). size (i .expr)) (q .items) h))
 
 -- THE PROJECTION
-item-bound : (g s : Scope) (i : Item) → Ensures (itemBuilt g i) (λ x. cost g (i .expr) + argumentsCost s (i .expr) ≤ 3 * size (i .expr))
-unfolding itemBuilt
-item-bound g s i = then (build g (i .expr)) _ _ _ (argument-bound g s (i .expr)) λ b p. p
-
 -- built over one scope, the aggregates' arguments over another, with the stars expanded to some labels
-pub projection-bound : (q : Select) (ls : List Label) (n : Node Built) (is′ : List Item) (later : List Expr) (g s : Scope) → is′ ≡ expandedItems q ls
-    → Ensures (buildProjection n is′ later g) (λ r. itemCost g is′ later + itemsArguments s is′ ≤ 3 * itemsSize (q .items) + starredOver q (length ls) + total size later)
-unfolding buildProjection itemCost
-projection-bound q ls n is′ later g s e = go (isLone is′)
+pub items-most : (q : Select) (ls : List Label) (is′ : List Item) (later : List Expr) (g s : Scope) → is′ ≡ expandedItems q ls
+    → All Built (itemUses g is′ later)
+    → total useCost (itemUses g is′ later) + itemsArguments s is′
+    ≤ 3 * itemsSize (q .items) + starredOver q (length ls) + total size later
+unfolding itemUses
+items-most q ls is′ later g s e = go (isLone is′)
   where
-    d : Hidden
-    d = projected g is′ later
+    cs : List HiddenColumn
+    cs = projected g is′ later .columns
 
-    bound : (f : Expr → ℕ) → ((l : ℕ) (a : Label) → f (starredColumn l a .expr) ≤ 1) → All (λ i. f (i .expr) + argumentsCost s (i .expr) ≤ 3 * size (i .expr)) is′
+    bound : (f : Expr → ℕ) → ((l : ℕ) (a : Label) → f (starredColumn l a .expr) ≤ 1)
+        → All (λ i. f (i .expr) + argumentsCost s (i .expr) ≤ 3 * size (i .expr)) is′
         → total (λ (i : Item). f (i .expr)) is′ + itemsArguments s is′ ≤ 3 * itemsSize (q .items) + starredOver q (length ls)
     bound f one h = rw e (items-bound f one s q ls (rw e at h))
 
-    go : (b : Bool) → Ensures (elim b [ true ↦ ok (n, g) | false ↦ (each (itemBuilt g) is′ >>= λ xs. hiddenWithin (length is′) (d .columns) >>= λ u. ok (P.project n (xs ++ map hiddenBuilt (d .columns)), d .scope)) ])
-        (λ (r : Node Built × Scope). (elim b as (λ x. ℕ) [ true ↦ 0 | false ↦ total (λ (i : Item). cost g (i .expr)) is′ + length (d .columns) ]) + itemsArguments s is′ ≤ 3 * itemsSize (q .items) + starredOver q (length ls) + total size later)
-    go true = omega (arith, bound (λ e. 0) (λ l a. omega arith) (all-every _ (λ i. omega (arith, arguments-most s (i .expr))) is′))
-    go false =
-        then (each (itemBuilt g) is′) _ _ _ (each-accepted (itemBuilt g) _ (item-bound g s) is′) λ xs h.
-        past (hiddenWithin (length is′) (d .columns)) _ _ λ u.
-        omega (arith, bound (cost g) (λ l a. omega (arith, starred-cost g l a)) h, hidden-most g is′ later)
+    us : List Use
+    us = map (λ (i : Item). over g (i .expr)) is′
+
+    hs : List Use
+    hs = map (λ (c : HiddenColumn). through (c .position)) cs
+
+    go : (b : Bool) → All Built (elim b [ true ↦ [] | false ↦ us ++ hs ])
+        → total useCost (elim b [ true ↦ [] | false ↦ us ++ hs ]) + itemsArguments s is′
+        ≤ 3 * itemsSize (q .items) + starredOver q (length ls) + total size later
+    go true h = unfold total in (omega (arith, bound (λ x. 0) (λ l a. omega arith) (all-every _ (λ i. omega (arith, arguments-most s (i .expr))) is′)))
+    go false h = omega (
+      arith,
+      total-append useCost us hs,
+      items-cost g is′,
+      hidden-cost cs,
+      bound (cost g) (λ l a. omega (arith, starred-cost g l a))
+          (all-weaken _ _ (λ i. built-bound g s (i .expr)) is′ (map-all Built (λ (i : Item). over g (i .expr)) is′ (all-left Built us hs h))),
+      hidden-most g is′ later,
+    )

@@ -11,17 +11,17 @@ use Rattle.rules.specs.Lists.{concat}
 use Rattle.rules.specs.Schema.{Value, Column, Catalog, mustGetTable, defaultAt}
 use Rattle.rules.specs.Ast.{Expr, size, Delete, Insert, Set, Update, Create, Select, Statement}
 use Rattle.rules.specs.Ast as Ast
-use Rattle.rules.specs.Scope.{Scope, empty, lookup, fromTable}
+use Rattle.rules.specs.Scope.{Scope, empty, lookup}
 use Rattle.rules.specs.BuildExpression.{found, build, each, buildOption, clauseExpr}
 use Rattle.rules.specs.BuildSelect.{buildSelect}
-use Rattle.rules.specs.BuildStatement.{buildDelete, columnMap, buildInsert, orDefault, setValue, setBuilt, buildUpdate, keyColumns, primaryKey, madeColumn, buildCreate, buildStatement}
-use Rattle.rules.specs.Cells.{count, expressions, planExpressions, planCells}
+use Rattle.rules.specs.BuildStatement.{tableScope, buildDelete, columnMap, buildInsert, orDefault, setValue, setBuilt, buildUpdate, keyColumns, primaryKey, madeColumn, buildCreate, buildStatement}
+use Rattle.rules.specs.Cells.{builtCount, expressions, planExpressions, planCells}
 use Rattle.rules.specs.Sizes.{total, optionSize, clauseSize, rowsSize, setsSize, statementSize}
 use Rattle.rules.specs.Count.{cost, boundSelect}
 use Rattle.claims.specs.Answers.{Ensures, then, refusing, both, weaken, past}
 use Rattle.claims.specs.Count.Totals.{total-append, total-map, total-most, each-total}
 use Rattle.claims.specs.Count.Sums.{planCells-length}
-use Rattle.claims.specs.Count.Costs.{cost-build, cost-option, cost-most, optionCost-most}
+use Rattle.claims.specs.Count.Costs.{cost-build, cost-option, cost-most, option-most}
 use Rattle.claims.specs.Count.Select.{select-count}
 use Rattle.claims.specs.Count.Bound.{select-bound, expanded-most}
 
@@ -43,9 +43,9 @@ select-cells c q = weaken (buildSelect c q) _ _ (λ p h. omega (arith, h .0, h .
 delete-cells : (c : Catalog) (d : Delete) → Ensures (buildDelete c d) (λ p. length (planCells p) ≤ mostCellsOf (Ast.delete d))
 unfolding buildDelete mostCellsOf statementSize clauseSize planExpressions expressions
 delete-cells c d =
-    past (mustGetTable c (d .line) (d .table .bytes)) _ _ λ t.
-    then (buildOption (fromTable (t .1 .name) (t .1)) (clauseExpr (d .filter))) _ _ _ (cost-option (fromTable (t .1 .name) (t .1)) (clauseExpr (d .filter))) λ w h.
-    rw planCells-length (omega (arith, h, optionCost-most (fromTable (t .1 .name) (t .1)) (clauseExpr (d .filter))))
+    past (mustGetTable c (d .line) (d .table)) _ _ λ t.
+    then (buildOption (tableScope t) (clauseExpr (d .filter))) _ _ _ (cost-option (tableScope t) (clauseExpr (d .filter))) λ w h.
+    rw planCells-length (omega (arith, h, option-most (tableScope t) (clauseExpr (d .filter))))
 
 -- INSERT
 total-concat : {A : Type 0} (f : A → ℕ) (rs : List (List A)) → total f (concat rs) ≡ total (total f) rs
@@ -56,9 +56,9 @@ total-concat f (r ∷ rs) = omega (arith, total-append f r (concat rs), total-co
 insert-cells : (c : Catalog) (d : Insert) → Ensures (buildInsert c d) (λ p. length (planCells p) ≤ mostCellsOf (Ast.insert d))
 unfolding buildInsert mostCellsOf statementSize rowsSize planExpressions expressions
 insert-cells c d =
-    past (mustGetTable c (d .line) (d .table .bytes)) _ _ λ t.
-    past (columnMap (t .1 .columns) (d .columns)) _ _ λ m.
-    then (each (each (build empty)) (d .rows)) _ _ _ (each-total (each (build empty)) (total count) (total (cost empty)) (each-total (build empty) count (cost empty) (cost-build empty)) (d .rows)) λ rs h.
+    past (mustGetTable c (d .line) (d .table)) _ _ λ t.
+    past (columnMap (t .columns) (d .columns)) _ _ λ m.
+    then (each (each (build empty)) (d .rows)) _ _ _ (each-total (each (build empty)) (total builtCount) (total (cost empty)) (each-total (build empty) builtCount (cost empty) (cost-build empty)) (d .rows)) λ rs h.
     rw (planCells-length, total-concat) (omega (arith, h, total-most (total (cost empty)) (total size) (total-most (cost empty) size (cost-most empty)) (d .rows)))
 
 -- UPDATE
@@ -67,16 +67,16 @@ unfoldable pub valueCost : Scope → Option Expr → ℕ
 valueCost s none = 1
 valueCost s (some e) = cost s e
 
-value-count : (s : Scope) (cs : List Column) (l i : ℕ) (e : Option Expr) → Ensures (setValue s cs l i e) (λ b. count b ≡ valueCost s e)
+value-count : (s : Scope) (cs : List Column) (l i : ℕ) (e : Option Expr) → Ensures (setValue s cs l i e) (λ b. builtCount b ≡ valueCost s e)
 unfolding setValue valueCost
 value-count s cs l i (some e) = cost-build s e
 value-count s cs l i none = default-count (defaultAt cs i)
   where
-    default-count : (v : Option Value) → Ensures (orDefault l v) (λ b. count b ≡ 1)
+    default-count : (v : Option Value) → Ensures (orDefault l v) (λ b. builtCount b ≡ 1)
     default-count none = unfold orDefault in (refusing noDefault l _)
-    default-count (some v) = unfold orDefault count in refl
+    default-count (some v) = unfold orDefault builtCount in refl
 
-set-count : (s : Scope) (cs : List Column) (x : Set) → Ensures (setBuilt s cs x) (λ y. count (y .1) ≡ valueCost s (x .value))
+set-count : (s : Scope) (cs : List Column) (x : Set) → Ensures (setBuilt s cs x) (λ y. builtCount (y .1) ≡ valueCost s (x .value))
 unfolding setBuilt
 set-count s cs x =
     past (found (x .line) (lookup s none (x .name))) _ _ λ i.
@@ -95,11 +95,11 @@ sets-most s (x ∷ xs) = omega (arith, value-most s (x .value), sets-most s xs)
 update-cells : (c : Catalog) (d : Update) → Ensures (buildUpdate c d) (λ p. length (planCells p) ≤ mostCellsOf (Ast.update d))
 unfolding buildUpdate mostCellsOf statementSize clauseSize planExpressions expressions
 update-cells c d =
-    past (mustGetTable c (d .line) (d .table .bytes)) _ _ λ t.
-    let s = fromTable (t .1 .name) (t .1) in
+    past (mustGetTable c (d .line) (d .table)) _ _ λ t.
+    let s = tableScope t in
     then (buildOption s (clauseExpr (d .filter))) _ _ _ (cost-option s (clauseExpr (d .filter))) λ w h.
-    then (each (setBuilt s (t .1 .columns)) (d .sets)) _ _ _ (each-total (setBuilt s (t .1 .columns)) (λ y. count (y .1)) (λ (x : Set). valueCost s (x .value)) (set-count s (t .1 .columns)) (d .sets)) λ xs k.
-    simp (planCells-length, total-append, total-map) (omega (arith, h, k, optionCost-most s (clauseExpr (d .filter)), sets-most s (d .sets)))
+    then (each (setBuilt s (t .columns)) (d .sets)) _ _ _ (each-total (setBuilt s (t .columns)) (λ y. builtCount (y .1)) (λ (x : Set). valueCost s (x .value)) (set-count s (t .columns)) (d .sets)) λ xs k.
+    simp (planCells-length, total-append, total-map) (omega (arith, h, k, option-most s (clauseExpr (d .filter)), sets-most s (d .sets)))
 
 create-cells : (d : Create) → Ensures (buildCreate d) (λ p. length (planCells p) ≤ mostCellsOf (Ast.create d))
 unfolding buildCreate planExpressions total

@@ -9,11 +9,12 @@ use lib.Signed.{mag}
 use Rattle.rules.specs.Lists.{concat}
 use Rattle.rules.specs.Lines.{Word}
 use Rattle.rules.specs.Schema.{Value, null, bool, int, float, text}
-use Rattle.rules.specs.Ast.{Unary, not, fact, ident, neg, sqrt, Plain, and, or, eq, gt, lt, add, div, pow, mul, rem, sub, like, Binary, plain, ge, le, ne}
-use Rattle.rules.specs.Equality.{unaryCode, plainCode}
+use Rattle.rules.specs.Ast.{Unary, not, fact, ident, neg, sqrt, Plain, and, or, eq, gt, lt, add, div, pow, mul, rem}
+use Rattle.rules.specs.Ast.{sub, like, Binary, plain, ge, le, ne}
+use Rattle.rules.specs.Codes.{unaryCode, plainCode}
 use Rattle.rules.specs.Plan.{Built}
 use Rattle.rules.specs.Plan as P
-use Rattle.rules.specs.Cells.{Cell, added, count, root, operator, cells, countAll, cellsAll}
+use Rattle.rules.specs.Cells.{Cell, added, builtCount, root, operator, cells, countAll, cellsAll}
 use Rattle.rules.specs.Cells as Cells
 use Rattle.rules.specs.Area.{halves, bits, flag, span, optionSpan, valueNumbers, isNumbers, cellNumbers}
 use Rattle.claims.specs.Answers.{All, Given, all-append, all-map}
@@ -59,7 +60,8 @@ pub value-small : (v : Value) → EndsValue v → All Small (valueNumbers v)
 unfolding Fits valueWords valueNumbers All
 value-small null h = (omega arith, (omega arith, (omega arith, (omega arith, tt))))
 value-small (bool b) h = (omega arith, (flag-small b, (omega arith, (omega arith, tt))))
-value-small (int n) h = (omega arith, all-append Small (halves (bits n)) _ (halves-small (bits n) (bits-below n (h .0))) (omega arith, tt))
+value-small (int n) h =
+    (omega arith, all-append Small (halves (bits n)) _ (halves-small (bits n) (bits-below n (h .0))) (omega arith, tt))
 value-small (float b) h = (omega arith, all-append Small (halves b) _ (halves-small b (h .0)) (omega arith, tt))
 value-small (text w) h = (omega arith, all-append Small (span w) _ (span-small w (h .1 .0)) (omega arith, tt))
 
@@ -110,8 +112,10 @@ binary-cell o a b h g = (plain-small o, (h, (g, (omega arith, tt))))
 operator-small : (o : Binary) (n x y : ℕ) → n + added o ≤ 2 ^ 32 → Small x → Small y → All SmallCell (operator o n x y)
 unfolding operator added All
 operator-small (plain o) n x y l h g = (binary-cell o x y h g, tt)
-operator-small ge n x y l h g = (binary-cell gt x y h g, (binary-cell eq x y h g, (binary-cell or n (n + 1) (omega arith) (omega arith), tt)))
-operator-small le n x y l h g = (binary-cell lt x y h g, (binary-cell eq x y h g, (binary-cell or n (n + 1) (omega arith) (omega arith), tt)))
+operator-small ge n x y l h g =
+    (binary-cell gt x y h g, (binary-cell eq x y h g, (binary-cell or n (n + 1) (omega arith) (omega arith), tt)))
+operator-small le n x y l h g =
+    (binary-cell lt x y h g, (binary-cell eq x y h g, (binary-cell or n (n + 1) (omega arith) (omega arith), tt)))
 operator-small ne n x y l h g = (binary-cell eq x y h g, unary-cell not n (omega arith))
 
 -- an expression whose constants fit and end in the texts, and whose column numbers are of 32 bits
@@ -121,19 +125,23 @@ SmallTree x = TreeHas EndsValue x × Below (2 ^ 32) x
 pub pred-small : (k : ℕ) → 0 < k → k ≤ 2 ^ 32 → Small (pred k)
 pred-small k h l = omega arith
 
-root-small : (x : Built) (n : ℕ) → n + count x ≤ 2 ^ 32 → Small (root n x)
+root-small : (x : Built) (n : ℕ) → n + builtCount x ≤ 2 ^ 32 → Small (root n x)
 unfolding root
-root-small x n h = pred-small (n + count x) (omega (arith, count-positive x)) h
+root-small x n h = pred-small (n + builtCount x) (omega (arith, count-positive x)) h
 
-cells-small : (x : Built) (n : ℕ) → n + count x ≤ 2 ^ 32 → SmallTree x → All SmallCell (cells n x)
-unfolding cells count TreeHas Below cellNumbers All
+cells-small : (x : Built) (n : ℕ) → n + builtCount x ≤ 2 ^ 32 → SmallTree x → All SmallCell (cells n x)
+unfolding cells builtCount TreeHas Below cellNumbers All
 cells-small (P.constant v) n l h = (value-small v (h .0), tt)
 cells-small (P.column i) n l h = ((omega arith, (h .1, (omega arith, (omega arith, tt)))), tt)
-cells-small (P.unary o a) n l h = all-append SmallCell (cells n a) _ (cells-small a n (omega arith) h) (unary-cell o (root n a) (root-small a n (omega arith)))
+cells-small (P.unary o a) n l h =
+    all-append SmallCell (cells n a) _ (cells-small a n (omega arith) h)
+    (unary-cell o (root n a) (root-small a n (omega arith)))
 cells-small (P.binary o a b) n l h =
     all-append SmallCell (cells n a) _ (cells-small a n (omega arith) (h .0 .0, h .1 .0))
-    (all-append SmallCell (cells (n + count a) b) _ (cells-small b (n + count a) (omega arith) (h .0 .1, h .1 .1))
-    (operator-small o _ _ _ (omega arith) (root-small a n (omega arith)) (root-small b (n + count a) (omega arith))))
+    (all-append SmallCell (cells (n + builtCount a) b) _
+    (cells-small b (n + builtCount a) (omega arith) (h .0 .1, h .1 .1))
+    (operator-small o _ _ _ (omega arith) (root-small a n (omega arith))
+    (root-small b (n + builtCount a) (omega arith))))
 cells-small (P.is a v) n l h =
     all-append SmallCell (cells n a) _ (cells-small a n (omega arith) (h .0 .0, h .1))
     (is-small (root n a) v (root-small a n (omega arith)) (h .0 .2 .0), tt)
@@ -141,8 +149,13 @@ cells-small (P.is a v) n l h =
 cellsAll-small : (xs : List Built) (n : ℕ) → n + countAll xs ≤ 2 ^ 32 → All SmallTree xs → All SmallCell (cellsAll n xs)
 unfolding cellsAll countAll All
 cellsAll-small [] n l h = tt
-cellsAll-small (x ∷ xs) n l h = all-append SmallCell (cells n x) _ (cells-small x n (omega arith) (h .0)) (cellsAll-small xs (n + count x) (omega arith) (h .1))
+cellsAll-small (x ∷ xs) n l h =
+    all-append SmallCell (cells n x) _ (cells-small x n (omega arith) (h .0))
+    (cellsAll-small xs (n + builtCount x) (omega arith) (h .1))
 
 -- the numbers of all cells
-pub all-cells-small : (xs : List Built) → countAll xs ≤ 2 ^ 32 → All SmallTree xs → All Small (concat (map cellNumbers (cellsAll 0 xs)))
-all-cells-small xs l h = all-concat Small _ (all-map (All Small) cellNumbers SmallCell (λ c g. g) (cellsAll 0 xs) (cellsAll-small xs 0 (omega arith) h))
+pub all-cells-small : (xs : List Built) → countAll xs ≤ 2 ^ 32 → All SmallTree xs
+    → All Small (concat (map cellNumbers (cellsAll 0 xs)))
+all-cells-small xs l h =
+    all-concat Small _ (all-map (All Small) cellNumbers SmallCell (λ c g. g) (cellsAll 0 xs)
+    (cellsAll-small xs 0 (omega arith) h))

@@ -12,7 +12,7 @@ use Rattle.rules.specs.Lists.{mapOption}
 use Rattle.rules.specs.Lines.{Word, decimal}
 use Rattle.rules.specs.Ast.{Expr, star, column, literal, call, unary, binary, is, size}
 use Rattle.rules.specs.Schema.{Column}
-use Rattle.rules.specs.Reader.{Place, Read, _>>=_, count}
+use Rattle.rules.specs.Reader.{Place, Read, _>>=_, countField}
 use Rattle.rules.specs.ReadExpression.{callHead, times, operands, deep, expression}
 use Rattle.rules.specs.ReadStatement.{rowBody}
 use Rattle.rules.specs.ReadCatalog.{keyFits}
@@ -90,8 +90,8 @@ key-alike l m n cs p a b c = rw (le-ltb m (length cs) (omega arith), le-ltb n (l
 abbrev pub cap : ℕ → ℕ
 cap n = min (suc mostCells) n
 
-pub count-cap : (w : Word) → count w ≡ mapOption cap (decimal (w .bytes))
-unfolding count
+pub count-cap : (w : Word) → countField w ≡ mapOption cap (decimal (w .bytes))
+unfolding countField
 count-cap w = refl
 
 capped : {A : Type 0} (f : ℕ → A) → ((m n : ℕ) → mostCells < m → mostCells < n → f m ≡ f n) → (n : ℕ) → f (cap n) ≡ f n

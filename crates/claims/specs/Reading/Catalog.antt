@@ -12,7 +12,7 @@ use Rattle.rules.specs.Limits.{mostTables, mostTableColumns}
 use Rattle.rules.specs.Lists.{Bytes, same, any}
 use Rattle.rules.specs.Lines.{Word, bytes}
 use Rattle.rules.specs.Schema.{Value, Datatype, Column, Table}
-use Rattle.rules.specs.Reader.{Place, start, stop, lineHere, next, at, oneOf, name, count, noField, twoFields, literals, recordWithin, turns}
+use Rattle.rules.specs.Reader.{Place, start, stop, lineHere, next, at, oneOf, name, countField, noField, twoFields, literals, recordWithin, turns}
 use Rattle.rules.specs.ReadColumn.{columnFields}
 use Rattle.rules.specs.ReadCatalog.{defaultRecords, defaultHere, columnBody, tableFields, keyFits, tables, readCatalog}
 use Rattle.claims.specs.Answers.{Ensures, weaken, All, Given, all-weaken}
@@ -45,7 +45,7 @@ module _ {F : Word → Type 0} {Q : Value → Type 0} {N : Word → Type 0} {I :
 
   makes-table : (ns : List Bytes) → Makes F (tableFields ns) (λ r. N (r .0))
   unfolding tableFields Given
-  makes-table ns r h = given-kept _ _ (twoFields name count r) (given-weaken _ _ (λ x g. g .0) (twoFields name count r) (makes-nameAnd s count r h))
+  makes-table ns r h = given-kept _ _ (twoFields name countField r) (given-weaken _ _ (λ x g. g .0) (twoFields name countField r) (makes-nameAnd s countField r h))
       λ x g. either-way (Given _) (any (same (x .0 .bytes)) ns) none (some x) tt g
 
   gives-key : (l k : ℕ) (cs : List Column) → Gives I (keyFits l k cs) (λ u. k < length cs)

@@ -1,20 +1,20 @@
 -- A statement that is read keeps to the limits.
 use Prim.Native.Nat.{ℕ, zero, suc, _+_, _≤_}
 use native.Mathlib.Omega.{arith}
-use mathlib.Core.Path.{_≡_, refl}
+use mathlib.Core.Path.{_≡_, refl, ap}
 use mathlib.Core.Bool.{Bool}
 use mathlib.Core.List.{List, [], _∷_}
 use mathlib.Core.Option.{Option, none, some}
 use lib.Dec.{ltb}
 use lib.ListN.{length}
 use borrow.Author.Tests.{ltb-true}
-use Rattle.rules.specs.Refusals.{statement}
+use Rattle.rules.specs.Refusals.{statement, Answer, ok, refused, _>>=_}
 use Rattle.rules.specs.Limits.{mostCells, mostFromTables, mostEntries, mostRows, mostTableColumns}
 use Rattle.rules.specs.Lists.{Bytes, same, any}
 use Rattle.rules.specs.Lines.{Word, bytes}
 use Rattle.rules.specs.Ast.{Exprs, nil, cons, size, sizeAll, listOf, From, table, join, Item, Key, Select, Delete, Named, Insert, Update, NewColumn, Create, Statement, select, delete, insert, update, create, drop, other}
 use Rattle.rules.specs.Sizes.{total, optionSize, clauseSize, fromSize, itemsSize, keysSize, selectSize, rowsSize, setsSize, columnsSize, statementSize}
-use Rattle.rules.specs.Reader.{Place, Read, start, stop, lineHere, next, key, at, lineNumber, oneOf, nothingLeft}
+use Rattle.rules.specs.Reader.{Place, Read, start, stop, lineHere, next, key, at, lineNumber, oneOf, nothingLeft, valueOf}
 use Rattle.rules.specs.ReadExpression.{expression}
 use Rattle.rules.specs.ReadColumn.{ColumnHead}
 use Rattle.rules.specs.ReadStatement.{FromHead, tableHead, joinHead, fromHeads, tabled, fromHere, fromBody, fromTree, froms, itemBody, groupBody, orderBody, selectBody, deleteBody, nameBody, rowBody, columnsHere, insertBody, sets, updateBody, newColumn, columnBody, createBody, StatementHead, selectHead, otherHead, deleteHead, insertHead, updateHead, createHead, dropHead, statementBody, statementHere, statementHeads, statementRecords, readStatement}
@@ -202,3 +202,20 @@ statement-counted p u = weaken (statementRecords p) _ _ (λ r h. h .0) (limited-
 pub statement-limited : (t : Bytes) → Ensures (readStatement t) (λ s. (statementSize s ≤ mostCells) × Limited s)
 unfolding readStatement start
 statement-limited t = reads-value (statementRecords (start statement t)) _ (weaken (statementRecords (start statement t)) _ _ (λ r h. (h .1, h .2)) (limited-records (start statement t) tt))
+
+-- the expression records of a statement's text, as reading counts them against the limit of 512
+unfoldable pub expressionCells : Bytes → Answer ℕ
+expressionCells t = statementRecords (start statement t) >>= λ r. ok (r .1 .cells)
+
+-- they are the expression cells of the statement that is read
+pub expression-cells : (t : Bytes) (s : Statement) → readStatement t ≡ ok s → expressionCells t ≡ ok (statementSize s)
+unfolding expressionCells readStatement valueOf start _>>=_
+expression-cells t s = go (statementRecords (start statement t)) (statement-counted (start statement t) tt)
+  where
+    go : (m : Answer (Statement × Place)) → Ensures m (λ r. r .1 .cells ≡ 0 + statementSize (r .0)) → valueOf m ≡ ok s
+        → (m >>= λ r. ok (r .1 .cells)) ≡ ok (statementSize s)
+    go (ok r) h e =
+        let p : r .0 ≡ s = cc in
+        let n : r .1 .cells ≡ statementSize s = omega (arith, h, ap statementSize p) in
+        ap (λ (k : ℕ). ok k) n
+    go (refused r) h e = absurd (let z : _≡_ {A = ℕ} 0 1 = cc in omega arith)

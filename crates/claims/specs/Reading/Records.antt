@@ -5,7 +5,7 @@ use Rattle.rules.specs.Lists.{Bytes}
 use Rattle.rules.specs.Lines.{Word}
 use Rattle.rules.specs.Lines as Lines
 use Rattle.rules.specs.Schema.{Value}
-use Rattle.rules.specs.Reader.{Place, name, word, count, noField, oneField, both, twoFields, optionalName, nameAlias, literals}
+use Rattle.rules.specs.Reader.{Place, name, word, countField, noField, oneField, both, twoFields, optionalName, nameAlias, literals}
 use Rattle.rules.specs.ReadColumn.{datatypes, nullables, columnFields, flagged, nullness, newColumnFields}
 use Rattle.rules.specs.ReadExpression.{Head, starHead, isHead, columnHead, valueHead, callHead, unaryHead, binaryHead, operators, callFields, valueHeads, heads}
 use Rattle.rules.specs.ReadExpression as E
@@ -66,7 +66,7 @@ module _ {F : Word → Type 0} {Q : Value → Type 0} {N : Word → Type 0} {I :
 
   makes-call : Makes F callFields Headed
   unfolding callFields HeadHas
-  makes-call r h = given-map _ _ Headed (λ q g. g .0) (twoFields name count r) (makes-nameAnd count r h)
+  makes-call r h = given-map _ _ Headed (λ q g. g .0) (twoFields name countField r) (makes-nameAnd countField r h)
 
   makes-values : (es : List (Bytes × (List Word → Option Value))) → All (λ e. Makes F (e .1) Q) es → All (λ e. Makes F (e .1) Headed) (valueHeads es)
   unfolding valueHeads All HeadHas

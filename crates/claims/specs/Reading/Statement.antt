@@ -12,7 +12,7 @@ use Rattle.rules.specs.Schema.{Value}
 use Rattle.rules.specs.Ast.{Expr, From}
 use Rattle.rules.specs.Ast as Ast
 use Rattle.rules.specs.BuildExpression.{clauseExpr}
-use Rattle.rules.specs.Reader.{Place, Read, start, stop, lineHere, next, rest, key, at, lineNumber, oneOf, name, word, count, noField, oneField, both, twoFields, optionalName, nameAlias, recordWithin, turns, nothingLeft, optional}
+use Rattle.rules.specs.Reader.{Place, Read, start, stop, lineHere, next, rest, key, at, lineNumber, oneOf, name, word, countField, noField, oneField, both, twoFields, optionalName, nameAlias, recordWithin, turns, nothingLeft, optional}
 use Rattle.rules.specs.ReadExpression.{expression, times, clause}
 use Rattle.rules.specs.ReadColumn.{ColumnHead, newColumnFields}
 use Rattle.rules.specs.ReadStatement.{tabled, FromHead, tableHead, joinHead, joins, predicates, fromHeads, fromHere, fromBody, fromTree, froms, itemBody, directions, orderBody, groupBody, selectBody, deleteBody, nameBody, rowBody, columnsHere, insertBody, defaults, setFields, rises, risingSet, sets, updateBody, newColumn, columnBody, createBody, StatementHead, selectHead, deleteHead, insertHead, updateHead, createHead, dropHead, otherHead, answers, statementHeads, statementHere, statementBody, statementRecords, readStatement}
@@ -138,7 +138,7 @@ module _ {F : Word → Type 0} {Q : Value → Type 0} {N : Word → Type 0} {I :
   unfolding insertBody
   gives-insert l n h =
       gives-then s _ _ _ _ gives-columns λ cs g.
-      gives-then s _ _ _ _ (reads-atLeastOne _ _ _ (gives-many s (bytes "row") (oneField count) mostRows rowBody _ _ (makes-any F (oneField count)) gives-row)) λ rs k.
+      gives-then s _ _ _ _ (reads-atLeastOne _ _ _ (gives-many s (bytes "row") (oneField countField) mostRows rowBody _ _ (makes-any F (oneField countField)) gives-row)) λ rs k.
       gives-give s _ _ (h, g, k)
 
   -- UPDATE

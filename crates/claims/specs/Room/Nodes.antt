@@ -9,11 +9,17 @@ use lib.ListN.{length, length-append, length-map}
 use Rattle.rules.specs.Lists.{concat}
 use Rattle.rules.specs.Lines.{Word}
 use Rattle.rules.specs.Schema.{Value, null, bool, int, float, text}
-use Rattle.rules.specs.Plan.{Built, Aggregate, Node, Made, Plan}
+use Rattle.rules.specs.Plan.{Built, Aggregate, Node, TablePosition, cindex, ValuePosition, vindex, Mapping, Made, Plan}
 use Rattle.rules.specs.Plan as P
-use Rattle.rules.specs.Cells.{Cell, constant, column, unary, binary, is, roots, numberRows, numberFirst, numberSecond, numberNode, numberPlan, planCells, countAll, count, cellCount}
-use Rattle.rules.specs.Nodes.{NodeRecord, scan, values, join, filter, aggregate, project, order, offset, limit, remap, records, nodes, last, nodeOf, nodeRecords, planRecords}
-use Rattle.rules.specs.Area.{halves, span, optionSpan, valueNumbers, isNumbers, cellNumbers, rowNumbers, functionNumbers, itemNumbers, keyNumbers, sized, recordNumbers, pairs, mapNumbers, defaultNumbers, madeNumbers, ownNumbers, headerSize, cellPart, nodePart, header, planNumbers}
+use Rattle.rules.specs.Cells.{Cell, constant, column, unary, binary, is, roots, numberRows, numberFirst, numberSecond}
+use Rattle.rules.specs.Cells.{numberNode, numberPlan, planCells, countAll, builtCount, cellCount}
+use Rattle.rules.specs.Nodes.{NodeRecord, scan, values, join, filter, aggregate, project, order, offset, limit, remap}
+use Rattle.rules.specs.Nodes.{records, nodes, last, nodeOf, nodeRecords, planRecords}
+use Rattle.rules.specs.Area.{halves, span, optionSpan, valueNumbers, isNumbers, cellNumbers, rowNumbers}
+use Rattle.rules.specs.Area.{functionNumbers, itemNumbers, keyNumbers}
+use Rattle.rules.specs.Area.{sized, recordNumbers, mappingNumbers, mapNumbers, setNumbers, defaultNumbers, madeNumbers}
+use Rattle.rules.specs.Area.{ownNumbers}
+use Rattle.rules.specs.Area.{headerSize, cellPart, nodePart, header, planNumbers}
 
 -- the numbers of given rows: a length and its cells for each
 unfoldable pub rowsRoom : {E : Type 0} → List (List E) → ℕ
@@ -22,7 +28,7 @@ rowsRoom (r ∷ rs) = suc (length r) + rowsRoom rs
 
 -- the numbers of a node and its sources
 unfoldable pub nodeRoom : {E : Type 0} → Node E → ℕ
-nodeRoom (P.scan i t a x) = 6
+nodeRoom (P.scan t a x) = 7
 nodeRoom (P.values rs) = 2 + rowsRoom rs
 nodeRoom (P.join a b x o) = nodeRoom a + nodeRoom b + 6
 nodeRoom (P.filter n x) = nodeRoom n + 4
@@ -59,10 +65,17 @@ unfolding keyNumbers
 keys-size [] = refl
 keys-size (x ∷ xs) = omega (arith, keys-size xs)
 
-pub pairs-size : (xs : List (ℕ × ℕ)) → length (pairs xs) ≡ 2 * length xs
-unfolding pairs
-pairs-size [] = refl
-pairs-size (x ∷ xs) = omega (arith, pairs-size xs)
+sets-size : (xs : List (ℕ × ℕ)) → length (setNumbers xs) ≡ 2 * length xs
+unfolding setNumbers
+sets-size [] = refl
+sets-size (x ∷ xs) = omega (arith, sets-size xs)
+
+mapping-size : (m : Mapping) → length (mappingNumbers m) ≡ 2
+unfolding mappingNumbers
+mapping-size m = go (m .column) (m .value)
+  where
+    go : (i : TablePosition) (j : ValuePosition) → length (mappingNumbers (record { column = i; value = j })) ≡ 2
+    go (cindex i) (vindex j) = refl
 
 value-size : (v : Value) → length (valueNumbers v) ≡ 4
 unfolding valueNumbers halves span
@@ -98,7 +111,8 @@ unfolding madeNumbers span
 made-size c = simp length-append (omega (arith, alias-size (c .reference), default-size (c .default)))
 
 -- as many numbers each
-concat-size : {A : Type 0} (f : A → List ℕ) (k : ℕ) → ((a : A) → length (f a) ≡ k) → (as′ : List A) → length (concat (map f as′)) ≡ k * length as′
+concat-size : {A : Type 0} (f : A → List ℕ) (k : ℕ) → ((a : A) → length (f a) ≡ k) → (as′ : List A)
+    → length (concat (map f as′)) ≡ k * length as′
 unfolding concat
 concat-size f k h [] = omega arith
 concat-size f k h (a ∷ as′) = simp length-append (omega (arith, h a, concat-size f k h as′))
@@ -125,42 +139,50 @@ append-room [] ys = omega arith
 append-room (x ∷ xs) ys = simp length-append (omega (arith, append-room xs ys))
 
 -- behind the records of the sources, one more
-last-room : (xs : List NodeRecord) (r : NodeRecord) (m k : ℕ) → recordsRoom xs ≡ m → length (recordNumbers r) ≡ k → recordsRoom (xs ++ (r ∷ [])) ≡ m + k
+last-room : (xs : List NodeRecord) (r : NodeRecord) (m k : ℕ) → recordsRoom xs ≡ m → length (recordNumbers r) ≡ k
+    → recordsRoom (xs ++ (r ∷ [])) ≡ m + k
 unfolding concat
 last-room xs r m k h g = append-room xs (r ∷ []) ∙ simp length-append (omega arith)
 
 pub records-room : (n : Node ℕ) (i : ℕ) → recordsRoom (records i n) ≡ nodeRoom n
-unfolding records nodeRoom concat recordNumbers sized halves
-records-room (P.scan k t a x) i = simp length-append (omega (arith, alias-size a))
+unfolding records nodeRoom concat recordNumbers sized halves span
+records-room (P.scan t a x) i = simp length-append (omega (arith, alias-size a))
 records-room (P.values rs) i = simp length-append (omega (arith, rows-size rs))
 records-room (P.join a b x o) i =
-    append-room (records i a) _ ∙ go (records-room a i) (last-room (records (i + nodes a) b) (join (last i a) (last (i + nodes a) b) x o) _ 6 (records-room b (i + nodes a)) refl)
+    append-room (records i a) _ ∙ go (records-room a i)
+    (last-room (records (i + nodes a) b) (join (last i a) (last (i + nodes a) b) x o) _ 6
+    (records-room b (i + nodes a)) refl)
   where
     go : {l r : ℕ} → l ≡ nodeRoom a → r ≡ nodeRoom b + 6 → l + r ≡ nodeRoom a + nodeRoom b + 6
     go h g = omega arith
 records-room (P.filter n x) i = last-room (records i n) _ _ 4 (records-room n i) refl
-records-room (P.aggregate n gs fs) i = last-room (records i n) _ _ (4 + (length gs + 2 * length fs)) (records-room n i) (simp length-append (omega (arith, functions-size fs))) ∙ omega arith
-records-room (P.project n xs) i = last-room (records i n) _ _ (3 + 3 * length xs) (records-room n i) (omega (arith, items-size xs)) ∙ omega arith
-records-room (P.order n xs) i = last-room (records i n) _ _ (3 + 2 * length xs) (records-room n i) (omega (arith, keys-size xs)) ∙ omega arith
+records-room (P.aggregate n gs fs) i =
+    last-room (records i n) _ _ (4 + (length gs + 2 * length fs)) (records-room n i)
+    (simp length-append (omega (arith, functions-size fs))) ∙ omega arith
+records-room (P.project n xs) i =
+    last-room (records i n) _ _ (3 + 3 * length xs) (records-room n i) (omega (arith, items-size xs)) ∙ omega arith
+records-room (P.order n xs) i =
+    last-room (records i n) _ _ (3 + 2 * length xs) (records-room n i) (omega (arith, keys-size xs)) ∙ omega arith
 records-room (P.offset n k) i = last-room (records i n) _ _ 5 (records-room n i) refl
 records-room (P.limit n k) i = last-room (records i n) _ _ 5 (records-room n i) refl
-records-room (P.remap n ts) i = last-room (records i n) _ _ (3 + length ts) (records-room n i) (simp length-map (omega arith)) ∙ omega arith
+records-room (P.remap n ts) i =
+    last-room (records i n) _ _ (3 + length ts) (records-room n i) (simp length-map (omega arith)) ∙ omega arith
 
 -- NUMBERING leaves every length as it is
 roots-size : (i : ℕ) (xs : List Built) → length (roots i xs) ≡ length xs
 unfolding roots
 roots-size i [] = refl
-roots-size i (x ∷ xs) = ap suc (roots-size (i + count x) xs)
+roots-size i (x ∷ xs) = ap suc (roots-size (i + builtCount x) xs)
 
 first-size : {B : Type 0} (i : ℕ) (xs : List (Built × B)) → length (numberFirst i xs) ≡ length xs
 unfolding numberFirst
 first-size i [] = refl
-first-size i (x ∷ xs) = ap suc (first-size (i + count (x .0)) xs)
+first-size i (x ∷ xs) = ap suc (first-size (i + builtCount (x .0)) xs)
 
 pub second-size : {B : Type 0} (i : ℕ) (xs : List (B × Built)) → length (numberSecond i xs) ≡ length xs
 unfolding numberSecond
 second-size i [] = refl
-second-size i (x ∷ xs) = ap suc (second-size (i + count (x .1)) xs)
+second-size i (x ∷ xs) = ap suc (second-size (i + builtCount (x .1)) xs)
 
 numberRows-room : (i : ℕ) (rs : List (List Built)) → rowsRoom (numberRows i rs) ≡ rowsRoom rs
 unfolding numberRows rowsRoom
@@ -169,11 +191,12 @@ numberRows-room i (r ∷ rs) = omega (arith, roots-size i r, numberRows-room (i 
 
 pub number-room : (n : Node Built) (i : ℕ) → nodeRoom (numberNode i n) ≡ nodeRoom n
 unfolding numberNode nodeRoom
-number-room (P.scan k t a x) i = refl
+number-room (P.scan t a x) i = refl
 number-room (P.values rs) i = rw (numberRows-room i rs)
 number-room (P.join a b x o) i = omega (arith, number-room a i, number-room b (i + cellCount a))
 number-room (P.filter n x) i = omega (arith, number-room n i)
-number-room (P.aggregate n gs fs) i = omega (arith, number-room n i, roots-size (i + cellCount n) gs, second-size (i + cellCount n + countAll gs) fs)
+number-room (P.aggregate n gs fs) i =
+    omega (arith, number-room n i, roots-size (i + cellCount n) gs, second-size (i + cellCount n + countAll gs) fs)
 number-room (P.project n xs) i = omega (arith, number-room n i, first-size (i + cellCount n) xs)
 number-room (P.order n xs) i = omega (arith, number-room n i, first-size (i + cellCount n) xs)
 number-room (P.offset n k) i = omega (arith, number-room n i)
@@ -184,9 +207,9 @@ number-room (P.remap n ts) i = omega (arith, number-room n i)
 -- the numbers of a plan's nodes
 unfoldable pub planNodeRoom : Plan Built → ℕ
 planNodeRoom (P.select n) = nodeRoom n
-planNodeRoom (P.delete i t n) = nodeRoom n
-planNodeRoom (P.insert i t m n) = nodeRoom n
-planNodeRoom (P.update i t n xs) = nodeRoom n
+planNodeRoom (P.delete t n) = nodeRoom n
+planNodeRoom (P.insert t m n) = nodeRoom n
+planNodeRoom (P.update t n xs) = nodeRoom n
 planNodeRoom (P.create n k cs) = 0
 planNodeRoom (P.drop n y) = 0
 
@@ -196,40 +219,41 @@ one-node n = records-room (numberNode 0 n) 0 ∙ number-room n 0
 node-part : (p : Plan Built) → length (nodePart p) ≡ planNodeRoom p
 unfolding nodePart planNodeRoom planRecords nodeRecords nodeOf numberPlan concat
 node-part (P.select n) = one-node n
-node-part (P.delete i t n) = one-node n
-node-part (P.insert i t m n) = one-node n
-node-part (P.update i t n xs) = one-node n
+node-part (P.delete t n) = one-node n
+node-part (P.insert t m n) = one-node n
+node-part (P.update t n xs) = one-node n
 node-part (P.create n k cs) = refl
 node-part (P.drop n y) = refl
 
 -- the statement's own numbers
-unfoldable pub mapRoom : Option (List (ℕ × ℕ)) → ℕ
+unfoldable pub mapRoom : Option (List Mapping) → ℕ
 mapRoom none = 1
 mapRoom (some m) = 1 + 2 * length m
 
 unfoldable pub ownRoom : Plan Built → ℕ
 ownRoom (P.select n) = 0
-ownRoom (P.delete i t n) = 2
-ownRoom (P.insert i t m n) = 1 + mapRoom m
-ownRoom (P.update i t n xs) = 3 + 2 * length xs
+ownRoom (P.delete t n) = 3
+ownRoom (P.insert t m n) = 2 + mapRoom m
+ownRoom (P.update t n xs) = 4 + 2 * length xs
 ownRoom (P.create n k cs) = 4 + 12 * length cs
 ownRoom (P.drop n y) = 3
 
-map-size : (m : Option (List (ℕ × ℕ))) → length (mapNumbers m) ≡ mapRoom m
+map-size : (m : Option (List Mapping)) → length (mapNumbers m) ≡ mapRoom m
 unfolding mapNumbers mapRoom
 map-size none = refl
-map-size (some m) = omega (arith, pairs-size m)
+map-size (some m) = omega (arith, concat-size mappingNumbers 2 mapping-size m)
 
 own-part : (p : Plan Built) → length (ownNumbers (numberPlan p)) ≡ ownRoom p
 unfolding ownNumbers numberPlan ownRoom span
 own-part (P.select n) = refl
-own-part (P.delete i t n) = refl
-own-part (P.insert i t m n) = omega (arith, map-size m)
-own-part (P.update i t n xs) = omega (arith, pairs-size (numberSecond (cellCount n) xs), second-size (cellCount n) xs)
+own-part (P.delete t n) = refl
+own-part (P.insert t m n) = omega (arith, map-size m)
+own-part (P.update t n xs) = omega (arith, sets-size (numberSecond (cellCount n) xs), second-size (cellCount n) xs)
 own-part (P.create n k cs) = omega (arith, made-room cs)
 own-part (P.drop n y) = refl
 
 -- header, cells, nodes and own numbers
-pub plan-room : (p : Plan Built) → length (planNumbers p) ≡ headerSize + 4 * length (planCells p) + planNodeRoom p + ownRoom p
+pub plan-room : (p : Plan Built)
+    → length (planNumbers p) ≡ headerSize + 4 * length (planCells p) + planNodeRoom p + ownRoom p
 unfolding planNumbers header
 plan-room p = simp length-append (omega (arith, cells-room p, node-part p, own-part p))

@@ -14,9 +14,10 @@ use Rattle.rules.specs.ReadCatalog.{readCatalog}
 use Rattle.rules.specs.ReadStatement.{readStatement}
 use Rattle.rules.specs.Sizes.{total, rowsSize, statementSize}
 use Rattle.rules.specs.Plan.{Built, Plan}
-use Rattle.rules.specs.Scope.{empty, fromTable}
+use Rattle.rules.specs.Scope.{empty}
 use Rattle.rules.specs.BuildExpression.{build, each, buildOption, clauseExpr}
-use Rattle.rules.specs.BuildStatement.{mapFrom, columnMap, buildDelete, buildInsert, buildUpdate, setBuilt, keyColumns, primaryKey, madeColumn, buildCreate, buildStatement}
+use Rattle.rules.specs.BuildStatement.{tableScope, mapFrom, columnMap, buildDelete, buildInsert, buildUpdate, setBuilt}
+use Rattle.rules.specs.BuildStatement.{keyColumns, primaryKey, madeColumn, buildCreate, buildStatement}
 use Rattle.rules.specs.Area.{planNumbers}
 use Rattle.rules.specs.Entry.{planOf}
 use Rattle.claims.specs.Answers.{Ensures, then, refusing, both, weaken, All, Given, past, each-length}
@@ -44,44 +45,47 @@ length-size [] = omega arith
 length-size (e ∷ es) = omega (arith, size-positive e, length-size es)
 
 -- built rows take as many numbers as there are rows and cells
-rows-room : (rs : List (List Expr)) → Ensures (each (each (build empty)) rs) (λ bs. rowsRoom bs ≤ length rs + rowsSize rs)
+rows-room : (rs : List (List Expr))
+    → Ensures (each (each (build empty)) rs) (λ bs. rowsRoom bs ≤ length rs + rowsSize rs)
 unfolding each rowsRoom rowsSize total
 rows-room [] = omega arith
 rows-room (r ∷ rs) =
     then (each (build empty) r) _ _ _ (each-length (build empty) r) λ b hb.
     then (each (each (build empty)) rs) _ _ _ (rows-room rs) λ bs hbs. omega (arith, hb, length-size r)
 
-map-room : (cs : List Column) (ns : Option (List Named)) → Given (λ (n : List Named). length n ≤ 64) ns → Ensures (columnMap cs ns) (λ m. mapRoom m ≤ 129)
+map-room : (cs : List Column) (ns : Option (List Named)) → Given (λ (n : List Named). length n ≤ 64) ns
+    → Ensures (columnMap cs ns) (λ m. mapRoom m ≤ 129)
 unfolding columnMap mapRoom Given All
 map-room cs none h = omega arith
 map-room cs (some ns) h = then (mapFrom cs ns 0 []) _ _ _ (from-mapped cs ns [] tt) λ m hm. omega (arith, hm .0)
 
 -- NODES AND OWN NUMBERS of each statement
 Small : Plan Built → Type 0
-Small p = planNodeRoom p + ownRoom p ≤ 5766
+Small p = planNodeRoom p + ownRoom p ≤ 5782
 
 delete-small : (c : Catalog) (d : Delete) → Ensures (buildDelete c d) Small
 unfolding buildDelete Small planNodeRoom ownRoom nodeRoom
 delete-small c d =
-    past (mustGetTable c (d .line) (d .table .bytes)) _ _ λ t.
-    past (buildOption (fromTable (t .1 .name) (t .1)) (clauseExpr (d .filter))) _ _ λ w.
+    past (mustGetTable c (d .line) (d .table)) _ _ λ t.
+    past (buildOption (tableScope t) (clauseExpr (d .filter))) _ _ λ w.
     omega arith
 
-insert-small : (c : Catalog) (d : Insert) → rowsSize (d .rows) ≤ mostCells → LimitedInsert d → Ensures (buildInsert c d) Small
+insert-small : (c : Catalog) (d : Insert) → rowsSize (d .rows) ≤ mostCells → LimitedInsert d
+    → Ensures (buildInsert c d) Small
 unfolding buildInsert Small planNodeRoom ownRoom nodeRoom
 insert-small c d k h =
-    past (mustGetTable c (d .line) (d .table .bytes)) _ _ λ t.
-    then (columnMap (t .1 .columns) (d .columns)) _ _ _ (map-room (t .1 .columns) (d .columns) (h .columns)) λ m hm.
+    past (mustGetTable c (d .line) (d .table)) _ _ λ t.
+    then (columnMap (t .columns) (d .columns)) _ _ _ (map-room (t .columns) (d .columns) (h .columns)) λ m hm.
     then (each (each (build empty)) (d .rows)) _ _ _ (rows-room (d .rows)) λ rs hr.
     omega (arith, h .rows)
 
 update-small : (c : Catalog) (d : Update) → length (d .sets) ≤ mostEntries → Ensures (buildUpdate c d) Small
 unfolding buildUpdate Small planNodeRoom ownRoom nodeRoom
 update-small c d h =
-    past (mustGetTable c (d .line) (d .table .bytes)) _ _ λ t.
-    let s = fromTable (t .1 .name) (t .1) in
-    past (buildOption s (clauseExpr (d .filter))) _ _ λ w.
-    then (each (setBuilt s (t .1 .columns)) (d .sets)) _ _ _ (each-length (setBuilt s (t .1 .columns)) (d .sets)) λ xs hx.
+    past (mustGetTable c (d .line) (d .table)) _ _ λ t.
+    let set = setBuilt (tableScope t) (t .columns) in
+    past (buildOption (tableScope t) (clauseExpr (d .filter))) _ _ λ w.
+    then (each set (d .sets)) _ _ _ (each-length set (d .sets)) λ xs hx.
     omega (arith, hx)
 
 create-small : (d : Create) → length (d .columns) ≤ mostTableColumns → Ensures (buildCreate d) Small
@@ -91,7 +95,8 @@ create-small d h =
     then (each madeColumn (d .columns)) _ _ _ (each-length madeColumn (d .columns)) λ cs hc.
     omega (arith, hc)
 
-statement-small : (c : Catalog) (s : Statement) → statementSize s ≤ mostCells → Limited s → Ensures (buildStatement c s) Small
+statement-small : (c : Catalog) (s : Statement) → statementSize s ≤ mostCells → Limited s
+    → Ensures (buildStatement c s) Small
 unfolding buildStatement statementSize Small
 statement-small c (Ast.select q) k h = select-room c q (h .from) (h .order)
 statement-small c (Ast.delete d) k h = delete-small c d
@@ -112,9 +117,11 @@ cells-most (Ast.create d) k h = omega arith
 cells-most (Ast.drop d) k h = omega arith
 cells-most (Ast.other l) k h = omega arith
 
-statement-room : (c : Catalog) (s : Statement) → statementSize s ≤ mostCells → Limited s → Ensures (buildStatement c s) (λ p. length (planNumbers p) ≤ leastArea)
+statement-room : (c : Catalog) (s : Statement) → statementSize s ≤ mostCells → Limited s
+    → Ensures (buildStatement c s) (λ p. length (planNumbers p) ≤ leastArea)
 unfolding Small
-statement-room c s k h = weaken (buildStatement c s) _ _ (λ p g. omega (arith, plan-room p, g .0, g .1, cells-most s k h))
+statement-room c s k h =
+    weaken (buildStatement c s) _ _ (λ p g. omega (arith, plan-room p, g .0, g .1, cells-most s k h))
     (both (buildStatement c s) _ _ (statement-cells c s) (statement-small c s k h))
 
 -- the numbers of every accepted plan fit in 16,384

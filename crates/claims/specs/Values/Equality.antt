@@ -1,19 +1,23 @@
 -- Two expressions are equal exactly when they are the same tree without lines and places; floats go by bits.
-use Prim.Native.Nat.{ℕ}
+use Prim.Native.Nat.{ℕ, _-_}
 use mathlib.Core.Path.{_≡_, refl, sym, ap, _∙_}
 use mathlib.Core.Logic.{_↔_}
-use mathlib.Core.Bool.{Bool, true, false}
-use mathlib.Core.List.{List, [], _∷_, _++_, map, headD, tail, append-assoc}
-use mathlib.Core.Option.{none, some}
+use mathlib.Core.Bool.{Bool, true, false, _&&_}
+use mathlib.Core.List.{List, [], _∷_, _++_, map, tail}
+use mathlib.Core.Option.{Option, none, some}
 use lib.Dec.{eqb}
 use lib.IntN.{pos, negsuc}
+use lib.ListN.{getD}
 use borrow.Author.Tests.{eqb-true, eq-eqb}
-use Rattle.rules.specs.Lists.{Bytes, same, sameAll, mapOption}
+use Rattle.rules.specs.Lists.{Bytes, same, isSome, mapOption}
 use Rattle.rules.specs.Lines.{Word}
 use Rattle.rules.specs.Schema.{Value, null, bool, int, float, text}
-use Rattle.rules.specs.Ast.{Unary, not, fact, ident, neg, sqrt, and, or, eq, gt, lt, add, div, pow, mul, rem, sub, like, Binary, plain, ge, le, ne}
+use Rattle.rules.specs.Ast.{Unary, not, fact, ident, neg, sqrt, Binary, plain, ge, le, ne}
+use Rattle.rules.specs.Ast.{and, or, eq, gt, lt, add, div, pow, mul, rem, sub, like}
 use Rattle.rules.specs.Ast.{Expr, star, column, literal, call, unary, binary, is, Exprs, nil, cons}
-use Rattle.rules.specs.Equality.{Spelling, unaryCode, plainCode, binaryCode, spellValue, spell, spellAll, equal}
+use Rattle.rules.specs.Views.{asStar, asColumn, asLiteral, asCall, asUnary, asBinary, asIs}
+use Rattle.rules.specs.Codes.{unaryCode, plainCode, binaryCode}
+use Rattle.rules.specs.Equality.{sameName, sameOptionalName, contents, sameValue, equal, equalAll}
 
 -- a word of the same bytes at 0
 unfoldable pub bareWord : Word → Word
@@ -56,108 +60,69 @@ same-equal [] (y ∷ ys) = (λ e. cc, λ e. cc)
 same-equal (x ∷ xs) [] = (λ e. cc, λ e. cc)
 same-equal (x ∷ xs) (y ∷ ys) = equal-cons x y xs ys (eqb x y) (same xs ys) (eqb-true x y, eq-eqb x y) (same-equal xs ys)
 
--- and lists of bytes likewise
-pub same-all-equal : (xs ys : List Bytes) → (sameAll xs ys ≡ true) ↔ (xs ≡ ys)
-unfolding sameAll
-same-all-equal [] [] = (λ e. refl, λ e. refl)
-same-all-equal [] (y ∷ ys) = (λ e. cc, λ e. cc)
-same-all-equal (x ∷ xs) [] = (λ e. cc, λ e. cc)
-same-all-equal (x ∷ xs) (y ∷ ys) = equal-cons x y xs ys (same x y) (sameAll xs ys) (same-equal x y) (same-all-equal xs ys)
+-- NAMES
+same-name : (v w : Word) → (sameName v w ≡ true) ↔ (bareWord v ≡ bareWord w)
+unfolding sameName bareWord
+same-name v w = (
+  λ e. ap (λ (bs : Bytes). record { bytes = bs; start = 0 }) (same-equal _ _ .0 e),
+  λ e. same-equal _ _ .1 (ap (λ (x : Word). x .bytes) e),
+)
 
--- READING BACK, from a spelling's last record to its first
--- the expressions read, and the lists of arguments, the last one first
-record State : Type 0 where
-  exprs : List Expr
-  lists : List Exprs
+same-table : (t u : Option Word) → (sameOptionalName t u ≡ true) ↔ (mapOption bareWord t ≡ mapOption bareWord u)
+unfolding sameOptionalName mapOption
+same-table none none = (λ e. refl, λ e. refl)
+same-table none (some w) = (λ e. cc, λ e. cc)
+same-table (some v) none = (λ e. cc, λ e. cc)
+same-table (some v) (some w) = (λ e. ap some (same-name v w .0 e), λ e. same-name v w .1 (cc))
 
-abbrev top : State → Expr
-top s = headD (s .exprs) (star 0)
+-- LITERALS
+-- the value of some contents
+unfoldable valueFrom : List ℕ → Value
+valueFrom xs = getD (
+    null ∷ null ∷ bool (eqb (getD xs 1 0) 1)
+    ∷ int (elim (eqb (getD xs 1 0) 0) [ true ↦ pos (getD xs 2 0) | false ↦ negsuc (getD xs 2 0) ])
+    ∷ float (getD xs 1 0) ∷ text (record { bytes = tail xs; start = 0 }) ∷ []
+    ) (getD xs 0 0) null
 
-abbrev pop : State → State
-pop s = record { exprs = tail (s .exprs); lists = s .lists }
+value-from : (v : Value) → valueFrom (contents v) ≡ bareValue v
+unfolding valueFrom contents bareValue bareWord
+value-from null = refl
+value-from (bool true) = refl
+value-from (bool false) = refl
+value-from (int (pos n)) = refl
+value-from (int (negsuc n)) = refl
+value-from (float b) = refl
+value-from (text w) = refl
 
-abbrev push : Expr → State → State
-push e s = record { exprs = e ∷ s .exprs; lists = s .lists }
+contents-bare : (v : Value) → contents (bareValue v) ≡ contents v
+unfolding contents bareValue bareWord
+contents-bare v = elim v [ null ↦ refl | bool b ↦ refl | int n ↦ refl | float b ↦ refl | text w ↦ refl ]
 
-abbrev topList : State → Exprs
-topList s = headD (s .lists) nil
+same-value : (v w : Value) → (sameValue v w ≡ true) ↔ (bareValue v ≡ bareValue w)
+unfolding sameValue
+same-value v w = (
+  λ e. sym (value-from v) ∙ ap valueFrom (same-equal _ _ .0 e) ∙ value-from w,
+  λ e. same-equal _ _ .1 (sym (contents-bare v) ∙ ap contents e ∙ contents-bare w),
+)
 
-abbrev popList : State → State
-popList s = record { exprs = s .exprs; lists = tail (s .lists) }
+-- OPERATORS
+-- those of one code are the same, where a code can be read back
+same-code : {A : Type 0} (code : A → ℕ) (back : ℕ → A) → ((a : A) → back (code a) ≡ a)
+    → (a b : A) → (eqb (code a) (code b) ≡ true) ↔ (a ≡ b)
+same-code code back h a b = (λ e. sym (h a) ∙ ap back (eqb-true _ _ e) ∙ h b, λ e. eq-eqb _ _ (ap code e))
 
-abbrev pushList : Exprs → State → State
-pushList as′ s = record { exprs = s .exprs; lists = as′ ∷ s .lists }
+same-unary : (o p : Unary) → (eqb (unaryCode o) (unaryCode p) ≡ true) ↔ (o ≡ p)
+unfolding unaryCode
+same-unary = same-code unaryCode
+    (λ k. getD (not ∷ fact ∷ ident ∷ neg ∷ sqrt ∷ []) (k - 8) not)
+    (λ o. elim o [ not ↦ refl | fact ↦ refl | ident ↦ refl | neg ↦ refl | sqrt ↦ refl ])
 
-abbrev word : Bytes → Word
-word bs = record { bytes = bs; start = 0 }
-
--- what a table has at a code, or else d
-unfoldable entryAt : {A : Type 0} → ℕ → List (ℕ × A) → A → A
-entryAt c [] d = d
-entryAt c (e ∷ es) d = elim (eqb c (e .0)) [ true ↦ e .1 | false ↦ entryAt c es d ]
-
-unfoldable readInteger : Bytes → Value
-readInteger bs = elim (eqb (headD bs 0) 1) [ true ↦ int (negsuc (headD (tail bs) 0)) | false ↦ int (pos (headD (tail bs) 0)) ]
-
-unfoldable readValue : Bytes → Value
-readValue [] = null
-readValue (c ∷ bs) = entryAt c ((2, bool (eqb (headD bs 0) 1)) ∷ (3, readInteger bs) ∷ (4, float (headD bs 0)) ∷ (5, text (word bs)) ∷ []) null
-
-unfoldable unaries : List Unary
-unaries = not ∷ fact ∷ ident ∷ neg ∷ sqrt ∷ []
-
-unfoldable binaries : List Binary
+binaries : List Binary
 binaries = map plain (and ∷ or ∷ eq ∷ gt ∷ lt ∷ add ∷ div ∷ pow ∷ mul ∷ rem ∷ sub ∷ like ∷ []) ++ (ge ∷ le ∷ ne ∷ [])
 
--- a record c ∷ bs read in front of the record q: s is the state from q on, t the state behind q
-unfoldable step : ℕ → Bytes → Bytes → State → State → State
-step c bs q s t = entryAt c (
-    (31, push (star 0) s) ∷ (32, push (column 0 none (word bs)) s) ∷ (33, push (column 0 (some (word bs)) (word q)) t)
-    ∷ (34, push (call 0 (word bs) (topList s)) (popList s)) ∷ (35, push (is 0 (top t) (readValue q)) (pop t))
-    ∷ (36, pushList nil s) ∷ (37, pushList (cons (top s) (topList s)) (pop (popList s)))
-    ∷ map (λ o. (unaryCode o, push (unary 0 o (top s)) (pop s))) unaries
-    ++ map (λ o. (binaryCode o, push (binary 0 o (top s) (top (pop s))) (pop (pop s)))) binaries)
-    (push (literal 0 (readValue (c ∷ bs))) s)
-
-unfoldable stepRecord : Bytes → Bytes → State → State → State
-stepRecord [] q s t = s
-stepRecord (c ∷ bs) q s t = step c bs q s t
-
--- the state of a spelling, and the state behind its first record
-unfoldable states : Spelling → State × State
-states [] = let s : State = record { exprs = []; lists = [] } in (s, s)
-states (r ∷ rs) = let s = states rs in (stepRecord r (headD rs []) (s .0) (s .1), s .0)
-
-unfoldable state : Spelling → State
-state r = states r .0
-
-read-value : (v : Value) → readValue (spellValue v) ≡ bareValue v
-unfolding readValue spellValue bareValue entryAt readInteger headD bareWord
-read-value null = refl
-read-value (bool true) = refl
-read-value (bool false) = refl
-read-value (int (pos n)) = refl
-read-value (int (negsuc n)) = refl
-read-value (float b) = refl
-read-value (text w) = refl
-
-read-literal : (v : Value) (r : Spelling) → state (spellValue v ∷ r) ≡ push (literal 0 (readValue (spellValue v))) (state r)
-unfolding state states stepRecord step entryAt unaries binaries unaryCode plainCode binaryCode spellValue
-read-literal null r = refl
-read-literal (bool true) r = refl
-read-literal (bool false) r = refl
-read-literal (int (pos n)) r = refl
-read-literal (int (negsuc n)) r = refl
-read-literal (float b) r = refl
-read-literal (text w) r = refl
-
-read-unary : (o : Unary) (r : Spelling) → state ((unaryCode o ∷ []) ∷ r) ≡ push (unary 0 o (top (state r))) (pop (state r))
-unfolding state states stepRecord step entryAt unaries unaryCode
-read-unary o r = elim o [ not ↦ refl | fact ↦ refl | ident ↦ refl | neg ↦ refl | sqrt ↦ refl ]
-
-read-binary : (o : Binary) (r : Spelling) → state ((binaryCode o ∷ []) ∷ r) ≡ push (binary 0 o (top (state r)) (top (pop (state r)))) (pop (pop (state r)))
-unfolding state states stepRecord step entryAt unaries unaryCode binaries plainCode binaryCode
-read-binary o r = elim o [
+same-binary : (o p : Binary) → (eqb (binaryCode o) (binaryCode p) ≡ true) ↔ (o ≡ p)
+unfolding binaryCode plainCode binaries
+same-binary = same-code binaryCode (λ k. getD binaries (k - 16) ge) λ o. elim o [
   | plain and ↦ refl
   | plain or ↦ refl
   | plain eq ↦ refl
@@ -175,59 +140,76 @@ read-binary o r = elim o [
   | ne ↦ refl
 ]
 
-read-argument : (r : Spelling) → state ((37 ∷ []) ∷ r) ≡ pushList (cons (top (state r)) (topList (state r))) (pop (popList (state r)))
-unfolding state states stepRecord step entryAt
-read-argument r = refl
+-- TREES
+-- both are true
+and-iff : {P Q : Type 0} {x y : Bool} → (x ≡ true) ↔ P → (y ≡ true) ↔ Q → ((x && y) ≡ true) ↔ (P × Q)
+and-iff {x = true} h k = (λ e. (h .0 refl, k .0 e), λ e. k .1 (e .1))
+and-iff {x = false} h k = (λ e. (h .0 e, k .0 (cc)), λ e. h .1 (e .0))
 
--- a spelling tells the tree
+-- what holds exactly when the fields are the same does when the whole is
+fields : {P Q R : Type 0} → P ↔ Q → (Q → R) → (R → Q) → P ↔ R
+fields h f g = (λ p. f (h .0 p), λ r. h .1 (g r))
+
 mutual
-  unfolding state states spell stepRecord step entryAt headD bare bareWord mapOption
+  unfolding equal isSome asStar asColumn asLiteral asCall asUnary asBinary asIs bare
 
-  read-back : (a : Expr) (r : Spelling) → state (spell a ++ r) ≡ push (bare a) (state r)
-  read-back (star l) r = refl
-  read-back (column l none n) r = refl
-  read-back (column l (some t) n) r = refl
-  read-back (literal l v) r = rw (← read-value v) (read-literal v r)
-  read-back (call l n as′) r = rw (read-back-all as′ r)
-  read-back (unary l o a) r = read-unary o (spell a ++ r) ∙ rw (read-back a r)
-  read-back (binary l o a b) r = read-binary o (spell a ++ spell b ++ r) ∙ rw (append-assoc, read-back a (spell b ++ r), read-back b r)
-  read-back (is l a v) r = rw (read-back a r, read-value v)
+  -- Two expressions match exactly when they differ at most in lines and places.
+  pub equal-bare : (a b : Expr) → (equal a b ≡ true) ↔ (bare a ≡ bare b)
+  equal-bare (star l) (star m) = (λ e. refl, λ e. refl)
+  equal-bare (star l) (column m u k) = (λ e. cc, λ e. cc)
+  equal-bare (star l) (literal m w) = (λ e. cc, λ e. cc)
+  equal-bare (star l) (call m k bs) = (λ e. cc, λ e. cc)
+  equal-bare (star l) (unary m p b) = (λ e. cc, λ e. cc)
+  equal-bare (star l) (binary m p b d) = (λ e. cc, λ e. cc)
+  equal-bare (star l) (is m b w) = (λ e. cc, λ e. cc)
+  equal-bare (column l t n) (star m) = (λ e. cc, λ e. cc)
+  equal-bare (column l t n) (column m u k) = fields (and-iff (same-table t u) (same-name n k)) (λ h. cc) (λ e. (cc, cc))
+  equal-bare (column l t n) (literal m w) = (λ e. cc, λ e. cc)
+  equal-bare (column l t n) (call m k bs) = (λ e. cc, λ e. cc)
+  equal-bare (column l t n) (unary m p b) = (λ e. cc, λ e. cc)
+  equal-bare (column l t n) (binary m p b d) = (λ e. cc, λ e. cc)
+  equal-bare (column l t n) (is m b w) = (λ e. cc, λ e. cc)
+  equal-bare (literal l v) (star m) = (λ e. cc, λ e. cc)
+  equal-bare (literal l v) (column m u k) = (λ e. cc, λ e. cc)
+  equal-bare (literal l v) (literal m w) = fields (same-value v w) (λ h. cc) (λ e. cc)
+  equal-bare (literal l v) (call m k bs) = (λ e. cc, λ e. cc)
+  equal-bare (literal l v) (unary m p b) = (λ e. cc, λ e. cc)
+  equal-bare (literal l v) (binary m p b d) = (λ e. cc, λ e. cc)
+  equal-bare (literal l v) (is m b w) = (λ e. cc, λ e. cc)
+  equal-bare (call l n as′) (star m) = (λ e. cc, λ e. cc)
+  equal-bare (call l n as′) (column m u k) = (λ e. cc, λ e. cc)
+  equal-bare (call l n as′) (literal m w) = (λ e. cc, λ e. cc)
+  equal-bare (call l n as′) (call m k bs) =
+      fields (and-iff (same-name n k) (equal-bare-all as′ bs)) (λ h. cc) (λ e. (cc, cc))
+  equal-bare (call l n as′) (unary m p b) = (λ e. cc, λ e. cc)
+  equal-bare (call l n as′) (binary m p b d) = (λ e. cc, λ e. cc)
+  equal-bare (call l n as′) (is m b w) = (λ e. cc, λ e. cc)
+  equal-bare (unary l o a) (star m) = (λ e. cc, λ e. cc)
+  equal-bare (unary l o a) (column m u k) = (λ e. cc, λ e. cc)
+  equal-bare (unary l o a) (literal m w) = (λ e. cc, λ e. cc)
+  equal-bare (unary l o a) (call m k bs) = (λ e. cc, λ e. cc)
+  equal-bare (unary l o a) (unary m p b) = fields (and-iff (same-unary o p) (equal-bare a b)) (λ h. cc) (λ e. (cc, cc))
+  equal-bare (unary l o a) (binary m p b d) = (λ e. cc, λ e. cc)
+  equal-bare (unary l o a) (is m b w) = (λ e. cc, λ e. cc)
+  equal-bare (binary l o a c) (star m) = (λ e. cc, λ e. cc)
+  equal-bare (binary l o a c) (column m u k) = (λ e. cc, λ e. cc)
+  equal-bare (binary l o a c) (literal m w) = (λ e. cc, λ e. cc)
+  equal-bare (binary l o a c) (call m k bs) = (λ e. cc, λ e. cc)
+  equal-bare (binary l o a c) (unary m p b) = (λ e. cc, λ e. cc)
+  equal-bare (binary l o a c) (binary m p b d) =
+      fields (and-iff (and-iff (same-binary o p) (equal-bare a b)) (equal-bare c d)) (λ h. cc) (λ e. ((cc, cc), cc))
+  equal-bare (binary l o a c) (is m b w) = (λ e. cc, λ e. cc)
+  equal-bare (is l a v) (star m) = (λ e. cc, λ e. cc)
+  equal-bare (is l a v) (column m u k) = (λ e. cc, λ e. cc)
+  equal-bare (is l a v) (literal m w) = (λ e. cc, λ e. cc)
+  equal-bare (is l a v) (call m k bs) = (λ e. cc, λ e. cc)
+  equal-bare (is l a v) (unary m p b) = (λ e. cc, λ e. cc)
+  equal-bare (is l a v) (binary m p b d) = (λ e. cc, λ e. cc)
+  equal-bare (is l a v) (is m b w) = fields (and-iff (same-value v w) (equal-bare a b)) (λ h. cc) (λ e. (cc, cc))
 
-  read-back-all : (as′ : Exprs) (r : Spelling) → state (spellAll as′ ++ r) ≡ pushList (bareAll as′) (state r)
-  read-back-all nil r = refl
-  read-back-all (cons a as′) r = read-argument (spell a ++ spellAll as′ ++ r) ∙ rw (append-assoc, read-back a (spellAll as′ ++ r), read-back-all as′ r)
-
--- THE CLAIM
-spell-value-bare : (v : Value) → spellValue (bareValue v) ≡ spellValue v
-unfolding spellValue bareValue bareWord
-spell-value-bare null = refl
-spell-value-bare (bool b) = refl
-spell-value-bare (int n) = refl
-spell-value-bare (float b) = refl
-spell-value-bare (text w) = refl
-
--- a spelling leaves lines and places out
-mutual
-  unfolding spell bare bareWord mapOption
-
-  spell-bare : (a : Expr) → spell (bare a) ≡ spell a
-  spell-bare (star l) = refl
-  spell-bare (column l none n) = refl
-  spell-bare (column l (some t) n) = refl
-  spell-bare (literal l v) = rw (spell-value-bare v)
-  spell-bare (call l n as′) = rw (spell-all-bare as′)
-  spell-bare (unary l o a) = rw (spell-bare a)
-  spell-bare (binary l o a b) = rw (spell-bare a, spell-bare b)
-  spell-bare (is l a v) = rw (spell-bare a, spell-value-bare v)
-
-  spell-all-bare : (as′ : Exprs) → spellAll (bareAll as′) ≡ spellAll as′
-  spell-all-bare nil = refl
-  spell-all-bare (cons a as′) = rw (spell-bare a, spell-all-bare as′)
-
--- Two expressions match exactly when they differ at most in lines and places.
-pub equal-bare : (a b : Expr) → (equal a b ≡ true) ↔ (bare a ≡ bare b)
-unfolding equal headD
-equal-bare a b = (λ e. tree (same-all-equal (spell a) (spell b) .0 e), λ e. same-all-equal (spell a) (spell b) .1 (sym (spell-bare a) ∙ ap spell e ∙ spell-bare b))
-  where
-    tree : spell a ≡ spell b → bare a ≡ bare b
-    tree e = ap top (sym (read-back a []) ∙ ap (λ (r : Spelling). state (r ++ [])) e ∙ read-back b [])
+  equal-bare-all : (as′ bs : Exprs) → (equalAll as′ bs ≡ true) ↔ (bareAll as′ ≡ bareAll bs)
+  equal-bare-all nil nil = (λ e. refl, λ e. refl)
+  equal-bare-all nil (cons b bs) = (λ e. cc, λ e. cc)
+  equal-bare-all (cons a as′) nil = (λ e. cc, λ e. cc)
+  equal-bare-all (cons a as′) (cons b bs) =
+      fields (and-iff (equal-bare a b) (equal-bare-all as′ bs)) (λ h. cc) (λ e. (cc, cc))

@@ -14,7 +14,7 @@ use borrow.Author.Tests.{ltb-true}
 use Rattle.rules.specs.Refusals.{Reason, integerOverflow, divisionByZero, wrongOperand, notWorkedOut}
 use Rattle.rules.specs.Schema.{Value, null, bool, int, float, text}
 use Rattle.rules.specs.Ast.{Unary, not, fact, ident, neg, sqrt, Plain, and, or, eq, gt, lt, add, div, pow, mul, rem, sub, like, Binary, plain, ge, le, ne}
-use Rattle.rules.specs.Arithmetic.{Worked, gives, fails, fitted, quotient, remainder, power, raised, product, factorial, floating, number, rounded, Pair, integers, floats, absent, unlike, numbers, arithmetic, sumOf, differenceOf, productOf, quotientOf, remainderOf, powerOf}
+use Rattle.rules.specs.Arithmetic.{Worked, gives, fails, fitted, quotient, remainder, power, raised, product, factorial, floating, floatOf, rounded, Pair, integers, floats, absent, unlike, numbers, arithmetic, sumOf, differenceOf, productOf, quotientOf, remainderOf, powerOf}
 use Rattle.rules.specs.Comparison.{Order, Compared, ordered, unknown, incomparable, compare, compared}
 use Rattle.rules.specs.Operators.{logic, andUnknown, orUnknown, likeOf, plainOf, binaryOf, notOf, factorialOf, identityOf, negationOf, rootOf, unaryOf, isNan}
 
@@ -93,7 +93,7 @@ module _ (Q : Value → Type 0) (k : Kept Q) where
   raised-outcome m (negsuc e) = later
 
   numbers-operands : (v w : Value) → Q v → Operands Q (numbers v w)
-  unfolding numbers Operands number rounded
+  unfolding numbers Operands floatOf rounded
   numbers-operands null null h = tt
   numbers-operands null (bool b) h = tt
   numbers-operands null (int n) h = tt
@@ -198,7 +198,7 @@ module _ (Q : Value → Type 0) (k : Kept Q) where
 
   -- what a unary operator gives of an operand with the property
   pub unary-outcome : (o : Unary) (v : Value) → Q v → Outcome Q (unaryOf o v)
-  unfolding unaryOf notOf factorialOf identityOf negationOf number
+  unfolding unaryOf notOf factorialOf identityOf negationOf floatOf
   unary-outcome not null h = k .nulls
   unary-outcome not (bool a) h = k .truths _
   unary-outcome not (int n) h = wrong

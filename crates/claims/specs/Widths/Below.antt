@@ -8,10 +8,11 @@ use lib.ListN.{length}
 use Rattle.rules.specs.Lists.{any, positions, isEmpty}
 use Rattle.rules.specs.Lines.{Word}
 use Rattle.rules.specs.Ast.{Expr, column, unary, binary, is}
-use Rattle.rules.specs.Equality.{equal}
-use Rattle.rules.specs.Plan.{Tree, Built}
+use Rattle.rules.specs.Equality.{sameName, equal}
+use Rattle.rules.specs.Plan.{Tree}
 use Rattle.rules.specs.Plan as P
-use Rattle.rules.specs.Scope.{Scope, width, sameName, isQualified, isNamed, Found, at, missing, notFound, theLast, theOnly, lookupNamed, lookup, aggregateAt, matched}
+use Rattle.rules.specs.Scope.{Match, Scope, width, isQualified, isNamed, Found, at, missing, notFound, theLast, theOnly}
+use Rattle.rules.specs.Scope.{lookupNamed, lookup, matchAt, matched}
 use Rattle.rules.specs.BuildExpression.{found, build}
 use Rattle.claims.specs.Answers.{Ensures, refusing, All, Given}
 use Rattle.claims.specs.Cases.{either-way}
@@ -32,18 +33,21 @@ FoundBelow w (at i) = i < w
 FoundBelow w (missing n) = Unit {0}
 
 -- the positions of a list of matches are below w
-unfoldable pub MatchesBelow : ℕ → List (Expr × ℕ) → Type 0
-MatchesBelow w es = All (λ e. e .1 < w) es
+unfoldable pub MatchesBelow : ℕ → List Match → Type 0
+MatchesBelow w ms = All (λ (m : Match). m .column < w) ms
 
 -- the positions of a scope's matches are below its width
 unfoldable pub Sound : Scope → Type 0
 Sound s = MatchesBelow (width s) (s .aggregates)
 
 -- LOOKUP
-positions-below : {A : Type 0} (t : A → Bool) (as′ : List A) (i w : ℕ) → i + length as′ ≤ w → All (λ j. j < w) (positions t i as′)
+positions-below : {A : Type 0} (t : A → Bool) (as′ : List A) (i w : ℕ) → i + length as′ ≤ w
+    → All (λ j. j < w) (positions t i as′)
 unfolding All positions
 positions-below t [] i w h = tt
-positions-below t (a ∷ as′) i w h = let r = positions-below t as′ (suc i) w (omega arith) in either-way (All (λ j. j < w)) (t a) _ _ (omega arith, r) r
+positions-below t (a ∷ as′) i w h =
+    let r = positions-below t as′ (suc i) w (omega arith) in
+    either-way (All (λ j. j < w)) (t a) _ _ (omega arith, r) r
 
 notFound-below : (s : Scope) (w : ℕ) → FoundBelow w (notFound s)
 unfolding notFound FoundBelow
@@ -63,8 +67,10 @@ theLast-below s w (i ∷ (j ∷ r)) h = theLast-below s w (j ∷ r) (h .1)
 
 lookupNamed-below : (s : Scope) (t : Option Word) (n : Word) → FoundBelow (width s) (lookupNamed s t n)
 unfolding lookupNamed FoundBelow width
-lookupNamed-below s none n = theOnly-below s (width s) _ (positions-below (isNamed n) (s .columns) 0 _ (omega arith))
-lookupNamed-below s (some t) n = either-way (FoundBelow (width s)) (any (sameName t) (s .tables)) _ _ (theLast-below s (width s) _ (positions-below (isQualified t n) (s .columns) 0 _ (omega arith))) tt
+lookupNamed-below s none n =
+    theOnly-below s (width s) _ (positions-below (isNamed n) (s .columns) 0 _ (omega arith))
+lookupNamed-below s (some t) n = either-way (FoundBelow (width s)) (any (sameName t) (s .tables)) _ _
+    (theLast-below s (width s) _ (positions-below (isQualified t n) (s .columns) 0 _ (omega arith))) tt
 
 -- a column that is found stands below the scope's width
 pub lookup-below : (s : Scope) (t : Option Word) (n : Word) → FoundBelow (width s) (lookup s t n)
@@ -78,15 +84,16 @@ found-below w l (at i) h = h
 found-below w l (missing n) h = refusing n l _
 
 -- MATCHES
-aggregateAt-below : (es : List (Expr × ℕ)) (k : Expr) (w : ℕ) → MatchesBelow w es → Given (λ i. i < w) (aggregateAt es k)
-unfolding MatchesBelow All aggregateAt Given
-aggregateAt-below [] k w h = tt
-aggregateAt-below (e ∷ es) k w h = either-way (Given (λ i. i < w)) (equal (e .0) k) _ _ (h .0) (aggregateAt-below es k w (h .1))
+matchAt-below : (ms : List Match) (e : Expr) (w : ℕ) → MatchesBelow w ms → Given (λ i. i < w) (matchAt ms e)
+unfolding MatchesBelow All matchAt Given
+matchAt-below [] e w h = tt
+matchAt-below (m ∷ ms) e w h =
+    either-way (Given (λ i. i < w)) (equal (m .expr) e) _ _ (h .0) (matchAt-below ms e w (h .1))
 
 -- a match of a sound scope stands below its width
 pub matched-below : (s : Scope) (e : Expr) → Sound s → Given (λ i. i < width s) (matched s e)
 unfolding Sound matched
-matched-below s e h = aggregateAt-below (s .aggregates) e (width s) h
+matched-below s e h = matchAt-below (s .aggregates) e (width s) h
 
 -- EXPRESSIONS
 module _ (s : Scope) (sound : Sound s) where

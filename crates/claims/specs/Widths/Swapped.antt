@@ -1,4 +1,5 @@
--- The targets by which a right join swaps its columns back: each column has one target, and the opposite swap gives the sources.
+-- The targets by which a right join swaps its columns back: each column has one target, and the opposite swap gives the
+-- sources.
 use Prim.Native.Nat.{ℕ, zero, suc, _+_, _-_, _<_}
 use native.Mathlib.Omega.{arith}
 use native.Mathlib.Nat.{zero-add}
@@ -11,10 +12,12 @@ use borrow.Author.Tests.{eq-eqb, ne-eqb}
 use Rattle.rules.specs.Plan.{targetCount, lastSource, firstSource, invertRemap}
 use Rattle.rules.specs.BuildFrom.{rising, swapped}
 use Rattle.claims.specs.Answers.{All, all-append}
-use Rattle.claims.specs.Widths.Tabulate.{tabulate, length-tabulate, tabulate-append, tabulate-same, rising-is, sources-are}
+use Rattle.claims.specs.Widths.Tabulate.{tabulate, length-tabulate, tabulate-append, tabulate-same}
+use Rattle.claims.specs.Widths.Tabulate.{rising-is, sources-are}
 
 -- WIDTH
-targetCount-append : (xs ys : List (Option ℕ)) → targetCount (xs ++ ys) ≡ Prim.Native.Nat.max (targetCount xs) (targetCount ys)
+targetCount-append : (xs ys : List (Option ℕ))
+    → targetCount (xs ++ ys) ≡ Prim.Native.Nat.max (targetCount xs) (targetCount ys)
 unfolding targetCount
 targetCount-append [] ys = omega arith
 targetCount-append (none ∷ xs) ys = targetCount-append xs ys
@@ -50,11 +53,13 @@ pub record Once (t j : ℕ) (ts : List (Option ℕ)) : Type 0 where
   pub absent-front : Absent t front
   pub absent-back : Absent t back
 
-first-split : (xs ys : List (Option ℕ)) (t i : ℕ) → Absent t xs → firstSource t i (xs ++ some t ∷ ys) ≡ some (i + length xs)
+first-split : (xs ys : List (Option ℕ)) (t i : ℕ) → Absent t xs
+    → firstSource t i (xs ++ some t ∷ ys) ≡ some (i + length xs)
 unfolding firstSource Absent All
 first-split [] ys t i h = rw (eq-eqb t t refl, firstSource) (ap some (omega arith))
 first-split (none ∷ xs) ys t i h = first-split xs ys t (suc i) (h .1) ∙ ap some (omega arith)
-first-split (some u ∷ xs) ys t i h = rw (ne-eqb u t λ e. h .0 (ap some e), firstSource) (first-split xs ys t (suc i) (h .1) ∙ ap some (omega arith))
+first-split (some u ∷ xs) ys t i h = rw (ne-eqb u t λ e. h .0 (ap some e), firstSource)
+    (first-split xs ys t (suc i) (h .1) ∙ ap some (omega arith))
 
 last-absent : (ts : List (Option ℕ)) (t i : ℕ) → Absent t ts → lastSource t i ts ≡ none
 unfolding lastSource Absent All
@@ -62,7 +67,8 @@ last-absent [] t i h = refl
 last-absent (none ∷ ts) t i h = last-absent ts t (suc i) (h .1)
 last-absent (some u ∷ ts) t i h = rw (last-absent ts t (suc i) (h .1), ne-eqb u t λ e. h .0 (ap some e))
 
-last-split : (xs ys : List (Option ℕ)) (t i : ℕ) → Absent t ys → lastSource t i (xs ++ some t ∷ ys) ≡ some (i + length xs)
+last-split : (xs ys : List (Option ℕ)) (t i : ℕ) → Absent t ys
+    → lastSource t i (xs ++ some t ∷ ys) ≡ some (i + length xs)
 unfolding lastSource
 last-split [] ys t i h = rw (last-absent ys t (suc i) h, eq-eqb t t refl) (ap some (omega arith))
 last-split (none ∷ xs) ys t i h = last-split xs ys t (suc i) h ∙ ap some (omega arith)
@@ -70,24 +76,29 @@ last-split (some u ∷ xs) ys t i h = rw (last-split xs ys t (suc i) h) (ap some
 
 -- the first and the last source of such a target
 pub first-once : (t j : ℕ) (ts : List (Option ℕ)) → Once t j ts → firstSource t 0 ts ≡ some j
-first-once t j ts h = rw (h .split, first-split (h .front) (h .back) t 0 (h .absent-front), h .place) (ap some (omega arith))
+first-once t j ts h =
+    rw (h .split, first-split (h .front) (h .back) t 0 (h .absent-front), h .place) (ap some (omega arith))
 
 last-once : (t j : ℕ) (ts : List (Option ℕ)) → Once t j ts → lastSource t 0 ts ≡ some j
-last-once t j ts h = rw (h .split, last-split (h .front) (h .back) t 0 (h .absent-back), h .place) (ap some (omega arith))
+last-once t j ts h =
+    rw (h .split, last-split (h .front) (h .back) t 0 (h .absent-back), h .place) (ap some (omega arith))
 
 -- SWAPS
 rising-absent : (n i t : ℕ) → ((k : ℕ) → k < n → ¬ (i + k ≡ t)) → Absent t (rising i n)
 unfolding rising Absent All
 rising-absent zero i t h = tt
-rising-absent (suc n) i t h =
-    (λ e. h 0 (omega arith) (let q : i ≡ t = cc in omega arith), rising-absent n (i + 1) t λ k l e. h (suc k) (omega arith) (omega arith))
+rising-absent (suc n) i t h = (
+  λ e. h 0 (omega arith) (let q : i ≡ t = cc in omega arith),
+  rising-absent n (i + 1) t λ k l e. h (suc k) (omega arith) (omega arith),
+)
 
 -- the k-th of n targets from i on
 rising-split : (n k i : ℕ) → k < n → rising i n ≡ rising i k ++ some (i + k) ∷ rising (i + k + 1) (n - suc k)
 unfolding tabulate
 rising-split n k i h =
     let e : n ≡ k + suc (n - suc k) = omega arith in
-    rw (rising-is n i, rising-is k i, rising-is (n - suc k) (i + k + 1), add-one) (ap (tabulate some i) e ∙ tabulate-append some k (suc (n - suc k)) i)
+    rw (rising-is n i, rising-is k i, rising-is (n - suc k) (i + k + 1), add-one)
+    (ap (tabulate some i) e ∙ tabulate-append some k (suc (n - suc k)) i)
 
 length-rising : (n i : ℕ) → length (rising i n) ≡ n
 length-rising n i = rw (rising-is n i) (length-tabulate some n i)
@@ -106,7 +117,9 @@ swapped-front a b k h = record {
   split = rw (rising-split a k b h) (append-assoc (rising b k) _ _);
   place = length-rising k b;
   absent-front = rising-absent k b (b + k) λ m l e. omega arith;
-  absent-back = all-append _ (rising (b + k + 1) (a - suc k)) (rising 0 b) (rising-absent (a - suc k) (b + k + 1) (b + k) λ m l e. omega arith) (rising-absent b 0 (b + k) λ m l e. omega arith);
+  absent-back = all-append _ (rising (b + k + 1) (a - suc k)) (rising 0 b)
+      (rising-absent (a - suc k) (b + k + 1) (b + k) λ m l e. omega arith)
+      (rising-absent b 0 (b + k) λ m l e. omega arith);
 }
 
 -- the b others go to the front
@@ -117,7 +130,8 @@ swapped-back a b k h = record {
   back = rising (k + 1) (b - suc k);
   split = rw append-assoc (ap (λ r. rising b a ++ r) (rw zero-add at (rising-split b k 0 h)));
   place = simp (length-append, length-rising);
-  absent-front = all-append _ (rising b a) (rising 0 k) (rising-absent a b k λ m l e. omega arith) (rising-absent k 0 k λ m l e. omega arith);
+  absent-front = all-append _ (rising b a) (rising 0 k)
+      (rising-absent a b k λ m l e. omega arith) (rising-absent k 0 k λ m l e. omega arith);
   absent-back = rising-absent (b - suc k) (k + 1) k λ m l e. omega arith;
 }
 
@@ -128,6 +142,8 @@ swapped-sources a b =
     let e : a + b ≡ b + a = omega arith in
     rw (swapped-count, sources-are, e, tabulate-append)
     (ap₂ _++_
-    (tabulate-same _ some b 0 a (λ k h. rw zero-add (last-once k (a + k) (swapped a b) (swapped-back a b k h))) ∙ sym (rising-is b a))
-    (tabulate-same _ some a (0 + b) 0 (λ k h. simp zero-add (last-once (b + k) k (swapped a b) (swapped-front a b k h))) ∙ sym (rising-is a 0))
+    (tabulate-same _ some b 0 a (λ k h. rw zero-add (last-once k (a + k) (swapped a b) (swapped-back a b k h)))
+    ∙ sym (rising-is b a))
+    (tabulate-same _ some a (0 + b) 0
+    (λ k h. simp zero-add (last-once (b + k) k (swapped a b) (swapped-front a b k h))) ∙ sym (rising-is a 0))
     ∙ unfold swapped in refl)

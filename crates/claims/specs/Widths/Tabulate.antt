@@ -29,7 +29,8 @@ module _ {A : Type 0} (f : ℕ → A) where
       rw suc-add (ap (λ r. f i ∷ r) (rw e at (tabulate-append m n (suc i))))
 
   -- the same values, from another number on
-  pub tabulate-same : (g : ℕ → A) (n i j : ℕ) → ((k : ℕ) → k < n → f (i + k) ≡ g (j + k)) → tabulate f i n ≡ tabulate g j n
+  pub tabulate-same : (g : ℕ → A) (n i j : ℕ) → ((k : ℕ) → k < n → f (i + k) ≡ g (j + k))
+      → tabulate f i n ≡ tabulate g j n
   unfolding tabulate
   tabulate-same g zero i j h = refl
   tabulate-same g (suc n) i j h = ap₂ _∷_ (simp add-zero at (h 0 (omega arith)))

@@ -31,7 +31,8 @@ Ends w = w .start + length (w .bytes) ≤ endAddress
 -- every field ends by there where what is left of its text does
 ending : Running (λ o xs. o + length xs ≤ endAddress) Ends
 unfolding Ends empty
-ending = record { rest = λ o x xs h. omega arith; empties = λ o xs h. omega arith; longer = λ o x xs w h e g. omega arith }
+ending =
+    record { rest = λ o x xs h. omega arith; empties = λ o xs h. omega arith; longer = λ o x xs w h e g. omega arith }
 
 -- a value within 64 bits, whose word ends by there
 abbrev pub EndsValue : Value → Type 0
@@ -39,13 +40,22 @@ EndsValue v = Fits v × WordedValue itself Ends v
 
 ends-kept : Kept EndsValue
 unfolding Fits valueWords All
-ends-kept = record { nulls = (tt, tt); truths = λ a. (tt, tt); within = λ z h. (h, tt); remainders = λ m n h. (fits-kept .remainders m n (h .0), tt); floats = λ b h. (h, tt) }
+ends-kept = record {
+  nulls = (tt, tt);
+  truths = λ a. (tt, tt);
+  within = λ z h. (h, tt);
+  remainders = λ m n h. (fits-kept .remainders m n (h .0), tt);
+  floats = λ b h. (h, tt);
+}
 
 -- the values and names of an accepted plan
-pub plan-ends : (c q : Bytes) → length c ≤ mostBytes → length q ≤ mostBytes → (ts : Catalog) → readCatalog c ≡ ok ts → Ensures (planOf c q) (PlanHas EndsValue Ends ts)
+pub plan-ends : (c q : Bytes) → length c ≤ mostBytes → length q ≤ mostBytes → (ts : Catalog) → readCatalog c ≡ ok ts
+    → Ensures (planOf c q) (PlanHas EndsValue Ends ts)
 unfolding Fits valueWords All start baseAddress
-plan-ends c q l m = let s = running ending ends-kept (λ w h. (tt, (h, tt))) (λ w h i. h) in planned s s c q (omega arith) (omega arith)
+plan-ends c q l m =
+    let s = running ending ends-kept (λ w h. (tt, (h, tt))) (λ w h i. h) in planned s s c q (omega arith) (omega arith)
 
 -- its words
-pub words-end : (c q : Bytes) → length c ≤ mostBytes → length q ≤ mostBytes → Ensures (planOf c q) (λ p. All Ends (planWords p))
+pub words-end : (c q : Bytes) → length c ≤ mostBytes → length q ≤ mostBytes
+    → Ensures (planOf c q) (λ p. All Ends (planWords p))
 words-end c q l m = planned-words EndsValue Ends itself (λ v h. h .1) c q (plan-ends c q l m)

@@ -26,7 +26,8 @@ Left t b o xs = (b ≤ o) × (drop (o - b) t ≡ xs)
 pub stands : (t : Bytes) (b : ℕ) → Running (Left t b) (Stands t b)
 unfolding Left Stands empty
 stands t b = record {
-  rest = λ o x xs h. let e : suc o - b ≡ o - b + 1 = omega arith in (omega arith, rw (e, ← drop-drop 1 (o - b) t, h .1));
+  rest = λ o x xs h.
+      let e : suc o - b ≡ o - b + 1 = omega arith in (omega arith, rw (e, ← drop-drop 1 (o - b) t, h .1));
   empties = λ o xs h. (h .0, refl);
   longer = λ o x xs w h e g.
       let d : suc o - b ≡ o - b + 1 = omega arith in
@@ -40,7 +41,10 @@ unfolding Stands Placed bytesAt
 placed-statement c q w h = go (ltb (w .start) mostBytes) refl
   where
     go : (k : Bool) → ltb (w .start) mostBytes ≡ k
-        → elim k [ true ↦ take (length (w .bytes)) (drop (w .start) c) | false ↦ take (length (w .bytes)) (drop (w .start - mostBytes) q) ] ≡ w .bytes
+        → elim k [
+          | true ↦ take (length (w .bytes)) (drop (w .start) c)
+          | false ↦ take (length (w .bytes)) (drop (w .start - mostBytes) q)
+        ] ≡ w .bytes
     go true e = absurd (omega (arith, ltb→lt (w .start) mostBytes (rw e tt)))
     go false e = h .1
 
@@ -53,7 +57,10 @@ placed-catalog c q l w h = go (ltb (w .start) mostBytes) refl
     start′ = omega arith
 
     go : (k : Bool) → ltb (w .start) mostBytes ≡ k
-        → elim k [ true ↦ take (length (w .bytes)) (drop (w .start) c) | false ↦ take (length (w .bytes)) (drop (w .start - mostBytes) q) ] ≡ w .bytes
+        → elim k [
+          | true ↦ take (length (w .bytes)) (drop (w .start) c)
+          | false ↦ take (length (w .bytes)) (drop (w .start - mostBytes) q)
+        ] ≡ w .bytes
     go true e = rw start′ at (h .1)
     go false e =
         let b : mostBytes ≤ w .start = nltb→le (w .start) mostBytes (rw e tt) in

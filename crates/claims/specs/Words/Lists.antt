@@ -14,38 +14,41 @@ wordsOf f [] = []
 wordsOf f (a ∷ as′) = f a ++ wordsOf f as′
 
 -- all of them have a property where those of each entry do
-pub all-words : {A : Type 0} (Q : Word → Type 0) (f : A → List Word) (as′ : List A) → All (λ a. All Q (f a)) as′ → All Q (wordsOf f as′)
+pub all-words : {A : Type 0} (Q : Word → Type 0) (f : A → List Word) (as′ : List A) → All (λ a. All Q (f a)) as′
+    → All Q (wordsOf f as′)
 unfolding wordsOf All
 all-words Q f [] h = tt
 all-words Q f (a ∷ as′) h = all-append Q (f a) (wordsOf f as′) (h .0) (all-words Q f as′ (h .1))
 
 -- those of each entry have it where all do
-pub words-all : {A : Type 0} (Q : Word → Type 0) (f : A → List Word) (as′ : List A) → All Q (wordsOf f as′) → All (λ a. All Q (f a)) as′
+pub words-all : {A : Type 0} (Q : Word → Type 0) (f : A → List Word) (as′ : List A) → All Q (wordsOf f as′)
+    → All (λ a. All Q (f a)) as′
 unfolding wordsOf All
 words-all Q f [] h = tt
-words-all Q f (a ∷ as′) h = (all-left Q (f a) (wordsOf f as′) h, words-all Q f as′ (all-right Q (f a) (wordsOf f as′) h))
+words-all Q f (a ∷ as′) h =
+    (all-left Q (f a) (wordsOf f as′) h, words-all Q f as′ (all-right Q (f a) (wordsOf f as′) h))
 
--- the aliases of a node's scans and projected items
-unfoldable pub nodeAliases : Node Built → List Word
-nodeAliases (P.scan i a n x) = given n
-nodeAliases (P.values rs) = []
-nodeAliases (P.join a b x o) = nodeAliases a ++ nodeAliases b
-nodeAliases (P.filter n x) = nodeAliases n
-nodeAliases (P.aggregate n gs fs) = nodeAliases n
-nodeAliases (P.project n xs) = nodeAliases n ++ wordsOf (λ x. given (x .1)) xs
-nodeAliases (P.order n xs) = nodeAliases n
-nodeAliases (P.offset n k) = nodeAliases n
-nodeAliases (P.limit n k) = nodeAliases n
-nodeAliases (P.remap n ts) = nodeAliases n
+-- the names in a node: of its scanned tables, and the aliases of those and of its items
+unfoldable pub nodeNames : {E : Type 0} → Node E → List Word
+nodeNames (P.scan t a x) = t .name ∷ given a
+nodeNames (P.values rs) = []
+nodeNames (P.join a b x o) = nodeNames a ++ nodeNames b
+nodeNames (P.filter n x) = nodeNames n
+nodeNames (P.aggregate n gs fs) = nodeNames n
+nodeNames (P.project n xs) = nodeNames n ++ wordsOf (λ x. given (x .1)) xs
+nodeNames (P.order n xs) = nodeNames n
+nodeNames (P.offset n k) = nodeNames n
+nodeNames (P.limit n k) = nodeNames n
+nodeNames (P.remap n ts) = nodeNames n
 
--- those of a plan, and the references of created columns
-unfoldable pub planAliases : Plan Built → List Word
-planAliases (P.select n) = nodeAliases n
-planAliases (P.delete i a n) = nodeAliases n
-planAliases (P.insert i a m n) = nodeAliases n
-planAliases (P.update i a n xs) = nodeAliases n
-planAliases (P.create n k cs) = wordsOf (λ c. given (c .reference)) cs
-planAliases (P.drop n y) = []
+-- those of a plan's node
+unfoldable pub planNodeNames : {E : Type 0} → Plan E → List Word
+planNodeNames (P.select n) = nodeNames n
+planNodeNames (P.delete t n) = nodeNames n
+planNodeNames (P.insert t m n) = nodeNames n
+planNodeNames (P.update t n xs) = nodeNames n
+planNodeNames (P.create n k cs) = []
+planNodeNames (P.drop n y) = []
 
 -- what a text counts for
 abbrev pub itself : Word → List Word
@@ -69,22 +72,22 @@ module _ (t : Word → List Word) where
   builtWords (P.binary o a b) = builtWords a ++ builtWords b
   builtWords (P.is a v) = builtWords a ++ valueWords v
 
-  -- a created column's name and its default's
+  -- a created column's name, its reference and its default's
   unfoldable pub madeWords : Made → List Word
-  madeWords c = c .name ∷ wordsOf valueWords (given (c .default))
+  madeWords c = c .name ∷ (given (c .reference) ++ wordsOf valueWords (given (c .default)))
 
-  -- those of a table that is created or dropped; a scanned table's own words are the catalog's
-  unfoldable pub tableWords : Plan Built → List Word
+  -- those of the table that a statement names
+  unfoldable pub tableWords : {E : Type 0} → Plan E → List Word
   tableWords (P.select n) = []
-  tableWords (P.delete i a n) = []
-  tableWords (P.insert i a m n) = []
-  tableWords (P.update i a n xs) = []
+  tableWords (P.delete t n) = t .name ∷ []
+  tableWords (P.insert t m n) = t .name ∷ []
+  tableWords (P.update t n xs) = t .name ∷ []
   tableWords (P.create n k cs) = n ∷ wordsOf madeWords cs
   tableWords (P.drop n y) = n ∷ []
 
-  -- those of a plan: its aliases, its expressions' words and those of its own table
+  -- those of a plan: its node's names, its expressions' words and those of its own table
   unfoldable pub planWordsBy : Plan Built → List Word
-  planWordsBy p = planAliases p ++ (wordsOf builtWords (planExpressions p) ++ tableWords p)
+  planWordsBy p = planNodeNames p ++ (wordsOf builtWords (planExpressions p) ++ tableWords p)
 
 -- the words of a value have a property
 abbrev pub WordedValue : (Word → List Word) → (Word → Type 0) → Value → Type 0

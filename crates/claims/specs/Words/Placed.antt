@@ -31,7 +31,8 @@ use Rattle.claims.specs.Words.Lists.{itself, valueWords, WordedValue}
 -- operators make no text
 pub words-kept : (t : Word → List Word) (P : Word → Type 0) → Kept (WordedValue t P)
 unfolding valueWords All
-words-kept t P = record { nulls = tt; truths = λ a. tt; within = λ z h. tt; remainders = λ m n h. tt; floats = λ b h. tt }
+words-kept t P =
+    record { nulls = tt; truths = λ a. tt; within = λ z h. tt; remainders = λ m n h. tt; floats = λ b h. tt }
 
 -- at the start all is left
 whole-left : (t : Bytes) (b : ℕ) → Left t b b t
@@ -39,9 +40,11 @@ unfolding Left
 whole-left t b = let e : b - b ≡ 0 = omega arith in (omega arith, rw e refl)
 
 -- READING TWO TEXTS, the catalog within its length
-module _ (c q : Bytes) (Q : Value → Type 0) (N : Word → Type 0) (kept : Kept Q) (texts : (w : Word) → Placed c q w → Q (text w)) (names : (w : Word) → Placed c q w → IsName w → N w) where
+module _ (c q : Bytes) (Q : Value → Type 0) (N : Word → Type 0) (kept : Kept Q)
+    (texts : (w : Word) → Placed c q w → Q (text w)) (names : (w : Word) → Placed c q w → IsName w → N w) where
   -- a text whose words are placed
-  text-sound : (t : Bytes) (b : ℕ) → ((w : Word) → Stands t b w → Placed c q w) → Sound (Stands t b) Q N (λ p. Left t b (p .address) (p .left))
+  text-sound : (t : Bytes) (b : ℕ) → ((w : Word) → Stands t b w → Placed c q w)
+      → Sound (Stands t b) Q N (λ p. Left t b (p .address) (p .left))
   text-sound t b k = running (stands t b) kept (λ w h. texts w (k w h)) λ w h i. names w (k w h) i
 
   catalog-sound : length c ≤ mostBytes → Sound (Stands c 0) Q N (λ p. Left c 0 (p .address) (p .left))
@@ -51,7 +54,8 @@ module _ (c q : Bytes) (Q : Value → Type 0) (N : Word → Type 0) (kept : Kept
   statement-sound = text-sound q mostBytes (placed-statement c q)
 
   -- and their plan
-  pub placed-planned : length c ≤ mostBytes → (ts : Catalog) → readCatalog c ≡ ok ts → Ensures (planOf c q) (PlanHas Q N ts)
+  pub placed-planned : length c ≤ mostBytes → (ts : Catalog) → readCatalog c ≡ ok ts
+      → Ensures (planOf c q) (PlanHas Q N ts)
   unfolding start baseAddress
   placed-planned l = planned (catalog-sound l) statement-sound c q (whole-left c 0) (whole-left q mostBytes)
 
@@ -61,15 +65,20 @@ abbrev pub PlacedValue : Bytes → Bytes → Value → Type 0
 PlacedValue c q v = WordedValue itself (Placed c q) v
 
 -- the words of an accepted catalog stand in it
-pub catalog-placed : (c q : Bytes) → length c ≤ mostBytes → Ensures (readCatalog c) (All (TableHas (PlacedValue c q) (Placed c q)))
+pub catalog-placed : (c q : Bytes) → length c ≤ mostBytes
+    → Ensures (readCatalog c) (All (TableHas (PlacedValue c q) (Placed c q)))
 unfolding valueWords All start baseAddress
-catalog-placed c q l = catalog-has (catalog-sound c q _ (Placed c q) (words-kept itself (Placed c q)) (λ w h. (h, tt)) (λ w h i. h) l) c (whole-left c 0)
+catalog-placed c q l =
+    catalog-has (catalog-sound c q _ (Placed c q) (words-kept itself (Placed c q)) (λ w h. (h, tt)) (λ w h i. h) l) c
+    (whole-left c 0)
 
 -- those of an accepted statement stand in it
-pub statement-placed : (c q : Bytes) → Ensures (readStatement q) (StatementHas (ExprHas (PlacedValue c q) (Placed c q)) (Placed c q))
+pub statement-placed : (c q : Bytes)
+    → Ensures (readStatement q) (StatementHas (ExprHas (PlacedValue c q) (Placed c q)) (Placed c q))
 unfolding valueWords All start baseAddress
 statement-placed c q =
-    let s = statement-sound c q (PlacedValue c q) (Placed c q) (words-kept itself (Placed c q)) (λ w h. (h, tt)) (λ w h i. h) in
+    let s = statement-sound c q (PlacedValue c q) (Placed c q) (words-kept itself (Placed c q)) (λ w h. (h, tt))
+    (λ w h i. h) in
     statement-has s _ (gives-expression s) q (whole-left q mostBytes)
 
 -- their literals fit 64 bits, and their names have 1 to 64 bytes

@@ -19,13 +19,16 @@ use Rattle.claims.specs.Area.Accepted.{catalog-read}
 use Rattle.claims.specs.Area.ProperPlan.{plan-proper}
 use Rattle.claims.specs.Values.Values.{Fits}
 use Rattle.claims.specs.Words.Places.{Placed}
-use Rattle.claims.specs.Words.Lists.{itself, nothing, planAliases, valueWords, builtWords, planWordsBy, planWords, planNames}
-use Rattle.claims.specs.Words.Parts.{plan-words, words-aliases, words-expressions}
+use Rattle.claims.specs.Words.Lists.{itself, nothing, planNodeNames, valueWords, builtWords, planWordsBy}
+use Rattle.claims.specs.Words.Lists.{planWords, planNames}
+use Rattle.claims.specs.Words.Parts.{plan-words, words-nodeNames, words-expressions}
 use Rattle.claims.specs.Words.Placed.{words-kept, placed-planned, PlacedValue}
 
 -- from what a plan's values and names have to its words
-pub planned-words : (Q : Value → Type 0) (N : Word → Type 0) (t : Word → List Word) → ((v : Value) → Q v → All N (valueWords t v)) → (c q : Bytes)
-    → ((ts : Catalog) → readCatalog c ≡ ok ts → Ensures (planOf c q) (PlanHas Q N ts)) → Ensures (planOf c q) (λ p. All N (planWordsBy t p))
+pub planned-words : (Q : Value → Type 0) (N : Word → Type 0) (t : Word → List Word)
+    → ((v : Value) → Q v → All N (valueWords t v)) → (c q : Bytes)
+    → ((ts : Catalog) → readCatalog c ≡ ok ts → Ensures (planOf c q) (PlanHas Q N ts))
+    → Ensures (planOf c q) (λ p. All N (planWordsBy t p))
 planned-words Q N t k c q h = ensures (planOf c q) _ λ p e.
     let ts = catalog-read c q p e in
     plan-words Q N (ts .0) t k p (ensured (planOf c q) _ (h (ts .0) (ts .1)) p e)
@@ -33,7 +36,9 @@ planned-words Q N t k c q h = ensures (planOf c q) _ λ p e.
 -- the words of an accepted plan stand in the texts
 pub plan-placed : (c q : Bytes) → length c ≤ mostBytes → Ensures (planOf c q) (λ p. All (Placed c q) (planWords p))
 unfolding valueWords All
-plan-placed c q l = planned-words (PlacedValue c q) (Placed c q) itself (λ v h. h) c q (placed-planned c q _ _ (words-kept itself (Placed c q)) (λ w h. (h, tt)) (λ w h i. h) l)
+plan-placed c q l =
+    planned-words (PlacedValue c q) (Placed c q) itself (λ v h. h) c q
+    (placed-planned c q _ _ (words-kept itself (Placed c q)) (λ w h. (h, tt)) (λ w h i. h) l)
 
 no-names : (v : Value) → Fits v → All IsName (valueWords nothing v)
 unfolding valueWords
@@ -51,15 +56,19 @@ plan-names c q = planned-words Fits IsName nothing no-names c q (plan-proper c q
 unfoldable pub NotEmpty : Word → Type 0
 NotEmpty w = 1 ≤ length (w .bytes)
 
--- the aliases and references of an accepted plan stand in the texts
-pub aliases-placed : (c q : Bytes) → length c ≤ mostBytes → Ensures (planOf c q) (λ p. All (Placed c q) (planAliases p))
-aliases-placed c q l = weaken (planOf c q) _ _ (words-aliases itself (Placed c q)) (plan-placed c q l)
+-- the names of an accepted plan's node stand in the texts
+pub nodeNames-placed : (c q : Bytes) → length c ≤ mostBytes
+    → Ensures (planOf c q) (λ p. All (Placed c q) (planNodeNames p))
+nodeNames-placed c q l = weaken (planOf c q) _ _ (words-nodeNames itself (Placed c q)) (plan-placed c q l)
 
 -- and none of them is empty
-pub aliases-notEmpty : (c q : Bytes) → Ensures (planOf c q) (λ p. All NotEmpty (planAliases p))
+pub nodeNames-notEmpty : (c q : Bytes) → Ensures (planOf c q) (λ p. All NotEmpty (planNodeNames p))
 unfolding IsName NotEmpty
-aliases-notEmpty c q = weaken (planOf c q) _ _ (λ p h. all-weaken IsName NotEmpty (λ w g. g .0) (planAliases p) (words-aliases nothing IsName p h)) (plan-names c q)
+nodeNames-notEmpty c q = weaken (planOf c q) _ _
+    (λ p h. all-weaken IsName NotEmpty (λ w g. g .0) (planNodeNames p) (words-nodeNames nothing IsName p h))
+    (plan-names c q)
 
 -- the words of its expressions stand in the texts
-pub expressions-placed : (c q : Bytes) → length c ≤ mostBytes → Ensures (planOf c q) (λ p. All (λ x. All (Placed c q) (builtWords itself x)) (planExpressions p))
+pub expressions-placed : (c q : Bytes) → length c ≤ mostBytes
+    → Ensures (planOf c q) (λ p. All (λ x. All (Placed c q) (builtWords itself x)) (planExpressions p))
 expressions-placed c q l = weaken (planOf c q) _ _ (words-expressions itself (Placed c q)) (plan-placed c q l)

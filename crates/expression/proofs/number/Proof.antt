@@ -32,36 +32,36 @@ enum-told-8 : tie.Need-enum-told-8
 enum-told-8 c = search needs
 
 returns : tie.Need-returns
-unfolding rule.number reasonOf
-returns c = ap (λ (n : Reason). rule.number (reasonOf n)) (sym (c .enum-told .given .1))
+unfolding rule.refusalNumber reasonOf
+returns c = ap (λ (n : Reason). rule.refusalNumber (reasonOf n)) (sym (c .enum-told .given .1))
 
 returns-2 : tie.Need-returns-2
-unfolding rule.number reasonOf
-returns-2 c = ap (λ (n : Reason). rule.number (reasonOf n)) (sym (c .enum-told2 .given .1))
+unfolding rule.refusalNumber reasonOf
+returns-2 c = ap (λ (n : Reason). rule.refusalNumber (reasonOf n)) (sym (c .enum-told2 .given .1))
 
 returns-3 : tie.Need-returns-3
-unfolding rule.number reasonOf
-returns-3 c = ap (λ (n : Reason). rule.number (reasonOf n)) (sym (c .enum-told3 .given .1))
+unfolding rule.refusalNumber reasonOf
+returns-3 c = ap (λ (n : Reason). rule.refusalNumber (reasonOf n)) (sym (c .enum-told3 .given .1))
 
 returns-4 : tie.Need-returns-4
-unfolding rule.number reasonOf
-returns-4 c = ap (λ (n : Reason). rule.number (reasonOf n)) (sym (c .enum-told4 .given .1))
+unfolding rule.refusalNumber reasonOf
+returns-4 c = ap (λ (n : Reason). rule.refusalNumber (reasonOf n)) (sym (c .enum-told4 .given .1))
 
 returns-5 : tie.Need-returns-5
-unfolding rule.number reasonOf
-returns-5 c = ap (λ (n : Reason). rule.number (reasonOf n)) (sym (c .enum-told5 .given .1))
+unfolding rule.refusalNumber reasonOf
+returns-5 c = ap (λ (n : Reason). rule.refusalNumber (reasonOf n)) (sym (c .enum-told5 .given .1))
 
 returns-6 : tie.Need-returns-6
-unfolding rule.number reasonOf
-returns-6 c = ap (λ (n : Reason). rule.number (reasonOf n)) (sym (c .enum-told6 .given .1))
+unfolding rule.refusalNumber reasonOf
+returns-6 c = ap (λ (n : Reason). rule.refusalNumber (reasonOf n)) (sym (c .enum-told6 .given .1))
 
 returns-7 : tie.Need-returns-7
-unfolding rule.number reasonOf
-returns-7 c = ap (λ (n : Reason). rule.number (reasonOf n)) (sym (c .enum-told7 .given .1))
+unfolding rule.refusalNumber reasonOf
+returns-7 c = ap (λ (n : Reason). rule.refusalNumber (reasonOf n)) (sym (c .enum-told7 .given .1))
 
 returns-8 : tie.Need-returns-8
-unfolding rule.number reasonOf
-returns-8 c = ap (λ (n : Reason). rule.number (reasonOf n)) (sym (c .enum-told8 .given .1))
+unfolding rule.refusalNumber reasonOf
+returns-8 c = ap (λ (n : Reason). rule.refusalNumber (reasonOf n)) (sym (c .enum-told8 .given .1))
 
 pub number-spec : {M : Type 1} → statement M
 number-spec =

@@ -11,7 +11,7 @@ decimal-requires : tie.Need-decimal-requires
 decimal-requires c κs = search needs
 
 returns : tie.Need-returns
-unfolding reader.count
+unfolding reader.countField
 returns c = λ o. c .decimal .ensures
 
 pub count-spec : {M : Type 1} → statement M

@@ -2,7 +2,7 @@
 use mathlib.Core.Path.{sym, ap, _∙_}
 use borrow.Author.Needs.{needs}
 use Rattle.rules.specs.Lists.{Bytes}
-use Rattle.rules.specs.Refusals.{number}
+use Rattle.rules.specs.Refusals.{refusalNumber}
 use Rattle.value.specs.Values.{valueOf, workedOf}
 use Rattle.value.specs.declared.Worked.{Worked}
 use Rattle.value_host.specs.declared.Answer.{Answer}
@@ -48,23 +48,23 @@ refused-requires-4 : tie.Need-refused-requires-4
 refused-requires-4 c κs = search needs
 
 returns : tie.Need-returns
-unfolding answerOf workedOf number
+unfolding answerOf workedOf refusalNumber
 returns c = λ t q. gave _ (c .before .kind-of .ensures t q) (c .bits-of .ensures t q) ∙ sym (ap (rule t q) (c .before .before .before .w .given .1))
 
 returns-2 : tie.Need-returns-2
-unfolding answerOf workedOf number
+unfolding answerOf workedOf refusalNumber
 returns-2 c = λ t q. c .refused .ensures ∙ sym (ap (rule t q) (c .before .enum-told .given .1))
 
 returns-3 : tie.Need-returns-3
-unfolding answerOf workedOf number
+unfolding answerOf workedOf refusalNumber
 returns-3 c = λ t q. c .refused2 .ensures ∙ sym (ap (rule t q) (c .before .enum-told2 .given .1))
 
 returns-4 : tie.Need-returns-4
-unfolding answerOf workedOf number
+unfolding answerOf workedOf refusalNumber
 returns-4 c = λ t q. c .refused3 .ensures ∙ sym (ap (rule t q) (c .before .enum-told3 .given .1))
 
 returns-5 : tie.Need-returns-5
-unfolding answerOf workedOf number
+unfolding answerOf workedOf refusalNumber
 returns-5 c = λ t q. c .refused4 .ensures ∙ sym (ap (rule t q) (c .before .enum-told4 .given .1))
 
 pub answered-spec : {M : Type 1} → statement M

@@ -2,7 +2,7 @@
 use mathlib.Core.Path.{_∙_}
 use borrow.Author.Needs.{needs}
 use Rattle.rules.specs.Ast.{plain, and, or, eq, gt, lt, add, div, pow, mul, rem, sub, like, ge, le, ne}
-use Rattle.rules.specs.Equality.{plainCode, binaryCode}
+use Rattle.rules.specs.Codes.{plainCode, binaryCode}
 use Rattle.rules.specs.Operators.{binaryOf}
 use Rattle.value.specs.Values.{workedOf}
 use Rattle.value_host.proofs.Found.{binary-coded, binary-uncoded}

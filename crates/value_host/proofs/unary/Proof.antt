@@ -2,7 +2,7 @@
 use mathlib.Core.Path.{_∙_}
 use borrow.Author.Needs.{needs}
 use Rattle.rules.specs.Ast.{not, fact, ident, neg, sqrt}
-use Rattle.rules.specs.Equality.{unaryCode}
+use Rattle.rules.specs.Codes.{unaryCode}
 use Rattle.value.specs.Values.{workedOf}
 use Rattle.value_host.proofs.Found.{unary-coded, unary-uncoded}
 use Rattle.value_host.proofs.unary.Statement.{statement}

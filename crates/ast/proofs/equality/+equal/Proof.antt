@@ -10,7 +10,6 @@ use Rattle.rules.specs.Equality as rules
 use Rattle.ast.specs.Operands.{operands-inside}
 use Rattle.ast.specs.Table.{argumentsAt, treeAt}
 use Rattle.ast.proofs.EqualWalk.{equal-cut, same-operands, roots-differ, roots-same, equal-end, equal-more, equal-stop}
-use Rattle.ast.proofs.Equal.{equalAll}
 use Rattle.ast.proofs.equality.+equal.{statement}
 use Rattle.ast.proofs.equality.+equal.Tie.{close}
 use Rattle.ast.proofs.equality.equal.Reads as equal
@@ -30,7 +29,7 @@ abbrev equal-below : ℕ → In 3 equal-kinds.ps
 equal-below t = and 3 equal-kinds.ps (falls 3 equal-kinds.ps _<_ μ-equal t) equal.Pre
 
 abbrev equal-Inv-loop : equal-lts.InvT-loop
-equal-Inv-loop catalog statement table depth i j left₀ p₀ q₀ left p q = equalAll (argumentsAt (treeAt catalog statement table (depth - 1)) table left p) (argumentsAt (treeAt catalog statement table (depth - 1)) table left q) ≡ rules.equal (treeAt catalog statement table depth i) (treeAt catalog statement table depth j)
+equal-Inv-loop catalog statement table depth i j left₀ p₀ q₀ left p q = rules.equalAll (argumentsAt (treeAt catalog statement table (depth - 1)) table left p) (argumentsAt (treeAt catalog statement table (depth - 1)) table left q) ≡ rules.equal (treeAt catalog statement table depth i) (treeAt catalog statement table depth j)
 
 abbrev equal-μ-loop : equal-lts.MeasureT-loop
 equal-μ-loop catalog statement table depth i j left₀ p₀ q₀ left p q = left

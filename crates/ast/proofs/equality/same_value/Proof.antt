@@ -4,7 +4,7 @@ use mathlib.Core.Path.{sym, _∙_}
 use borrow.Author.Needs.{needs}
 use Rattle.rules.specs.Places.{wordAt}
 use Rattle.rules.specs.Lists.{same}
-use Rattle.rules.specs.Equality.{spellValue}
+use Rattle.rules.specs.Equality.{contents, sameValue}
 use Rattle.ast.proofs.Literals.{values-apart, both-null, value-bool, value-int, value-float, value-text, bool-one, bool-other, ints, floats, low-differ, low-same}
 use Rattle.ast.proofs.equality.same_value.Statement.{statement}
 use Rattle.ast.proofs.equality.same_value.Tie as tie
@@ -40,7 +40,7 @@ returns-7 : tie.Need-returns-7
 returns-7 c = rw (value-float _ _ _ _ _ (sym (c .before .before .before .before .or-least .ensures) ∙ c .before .match .keys3), value-float _ _ _ _ _ (sym (c .before .before .before .or-least2 .ensures) ∙ sym (c .before .before .if1 .left) ∙ c .before .match .keys3)) (sym (floats _ _ ∙ low-same _ _ _ _ (c .if4 .left)))
 
 returns-8 : tie.Need-returns-8
-unfolding spellValue same wordAt
+unfolding sameValue contents same wordAt
 returns-8 c = rw (value-text _ _ _ _ _ (sym (c .before .before .before .before .or-least .ensures) ∙ c .before .match .keys4), value-text _ _ _ _ _ (sym (c .before .before .before .or-least2 .ensures) ∙ sym (c .before .before .if1 .left) ∙ c .before .match .keys4)) (c .same-bytes .ensures)
 
 returns-9 : tie.Need-returns-9
