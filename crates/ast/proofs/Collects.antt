@@ -11,10 +11,11 @@ use lib.ListN.{length, set, length-set}
 use lib.Seq.{sets, set-out}
 use borrow.Author.Tests.{ltb-true, ltb-false, lt-ltb, le-ltb}
 use Rattle.rules.specs.Lists.{Bytes}
-use Rattle.ast.specs.Table.{rowsAt, treeAt}
+use Rattle.ast.specs.Table.{rowsAt, rootAt}
 use Rattle.ast.specs.Operands.{operandsAt}
 use Rattle.ast.specs.Walk.{isAggregateCall}
-use Rattle.ast.specs.Collect.{rowsOf, collectRows, collected}
+use Rattle.ast.specs.Collect.{rowsOf, collectBy, collectRows, collected}
+use Rattle.ast.specs.Trees.{rows-at}
 use Rattle.ast.specs.declared.walk.Collected.{Collected}
 use Rattle.ast.specs.declared.walk.Collected.the-variants.{Rows, NoRoom}
 
@@ -93,19 +94,15 @@ unfolding rowsOf
 rows-more g t zero p h = absurd (omega arith)
 rows-more g t (suc n) p h = rw (sub-one (suc n))
 
-pub rows-cut : (c q : Bytes) (t : List ℕ) (d r : ℕ) → d ≡ 0 → collectRows c q t d r ≡ []
-unfolding collectRows
-rows-cut c q t d r e = rw e
+pub rows-match : (c q : Bytes) (t : List ℕ) (r : ℕ) → isAggregateCall (rootAt c q t r) ≡ true
+    → collectRows c q t r ≡ r ∷ []
+unfolding collectBy
+rows-match c q t r h = rows-at c q t r ∙ rw (h, collectBy)
 
-pub rows-match : (c q : Bytes) (t : List ℕ) (d r : ℕ) → (d ≡ 0 → ⊥) → isAggregateCall (treeAt c q t 1 r) ≡ true → collectRows c q t d r ≡ r ∷ []
-unfolding collectRows
-rows-match c q t zero r ne h = absurd (ne refl)
-rows-match c q t (suc d) r ne h = rw (h, collectRows)
-
-pub rows-on : (c q : Bytes) (t : List ℕ) (d r n : ℕ) → (d ≡ 0 → ⊥) → isAggregateCall (treeAt c q t 1 r) ≡ false → n ≡ operandsAt t r → rowsOf (collectRows c q t (d - 1)) t n (r + 1) ≡ collectRows c q t d r
-unfolding collectRows
-rows-on c q t zero r n ne h e = absurd (ne refl)
-rows-on c q t (suc d) r n ne h e = rw (h, collectRows, e, add-one r, sub-one (suc d))
+pub rows-on : (c q : Bytes) (t : List ℕ) (r n : ℕ) → isAggregateCall (rootAt c q t r) ≡ false → n ≡ operandsAt t r
+    → rowsOf (collectRows c q t) t n (r + 1) ≡ collectRows c q t r
+unfolding collectBy
+rows-on c q t r n h e = sym (rows-at c q t r ∙ rw (h, collectBy, e, add-one r))
 
 -- THE LOOP
 -- of the operands left, those at p were written behind n others into s, and s₁ came of it

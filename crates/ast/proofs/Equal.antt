@@ -12,7 +12,7 @@ use Rattle.rules.specs.Schema.{Value}
 use Rattle.rules.specs.Ast.{Unary, Binary, Expr, star, column, literal, call, unary, binary, is, Exprs, nil, cons}
 use Rattle.rules.specs.Views.{asStar, asColumn, asLiteral, asCall, asUnary, asBinary, asIs}
 use Rattle.rules.specs.Equality.{sameName, sameOptionalName, equal, equalAll}
-use Rattle.ast.specs.Table.{argumentsAt, treeBy, treeAt}
+use Rattle.ast.specs.Table.{argumentsAt, treeBy, starAt, rootAt}
 use Rattle.ast.specs.Operands.{operandsOf, kindOf, cut, cutAll, kindAt, operandsAt, kind-at, operands-at, cut-at}
 
 pub stars : equal (star 0) (star 0) ≡ true
@@ -88,17 +88,17 @@ kinds-apart f c q t i j h = by-root _ _ ∙ rw (kind-at f c q t i, kind-at f c q
 
 -- the trees cut below their roots decide whether the roots are equal
 pub equal-at : (f : ℕ → Expr) (c q : Bytes) (t : List ℕ) (i j : ℕ) → equal (treeBy f c q t i) (treeBy f c q t j)
-    ≡ (equal (treeAt c q t 1 i) (treeAt c q t 1 j)
+    ≡ (equal (rootAt c q t i) (rootAt c q t j)
     && equalAll (argumentsAt f t (operandsAt t i) (suc i)) (argumentsAt f t (operandsAt t j) (suc j)))
-unfolding ByRoot treeAt
+unfolding ByRoot rootAt
 equal-at f c q t i j = pick (eqb (kindAt t i) (kindAt t j)) refl
   where
     pick : (b : Bool) → eqb (kindAt t i) (kindAt t j) ≡ b → equal (treeBy f c q t i) (treeBy f c q t j)
-        ≡ (equal (treeAt c q t 1 i) (treeAt c q t 1 j)
+        ≡ (equal (rootAt c q t i) (rootAt c q t j)
         && equalAll (argumentsAt f t (operandsAt t i) (suc i)) (argumentsAt f t (operandsAt t j) (suc j)))
     pick true e =
         by-root _ _
         ∙ rw (kind-at f c q t i, kind-at f c q t j, e, cut-at f c q t i, cut-at f c q t j)
         (rw (operands-at f c q t i, operands-at f c q t j))
     pick false e =
-        rw (kinds-apart f c q t i j (eqb-false _ _ e), kinds-apart (treeAt c q t 0) c q t i j (eqb-false _ _ e))
+        rw (kinds-apart f c q t i j (eqb-false _ _ e), kinds-apart starAt c q t i j (eqb-false _ _ e))

@@ -11,7 +11,7 @@ use Rattle.rules.specs.Ast.{Expr, star, column, literal, call, unary, binary, i
 use Rattle.rules.specs.Views.{asStar, asColumn, asLiteral, asCall, asUnary, asBinary, asIs}
 use Rattle.rules.specs.Codes.{unaryCode, plainCode, binaryCode}
 use Rattle.rules.specs.Equality.{sameName, sameOptionalName, sameValue, equal, equalAll}
-use Rattle.ast.specs.Table.{at, rowsAt, unaryAt, binaryAt, valueAt, argumentsAt, treeAt}
+use Rattle.ast.specs.Table.{at, rowsAt, unaryAt, binaryAt, valueAt, argumentsAt, starAt, rootAt}
 use Rattle.ast.specs.Codes.{orLeast, countFrom, coded-map, coded-least}
 use Rattle.ast.specs.Operands.{kindOf, kindAt, kind-at, tree-column, tree-qualified, tree-call, tree-unary, tree-binary, tree-is, tree-literal}
 use Rattle.ast.proofs.Equal.{stars, kinds-apart}
@@ -38,48 +38,62 @@ only-star (is l a v) k h n2 n3 n4 n5 n6 n7 n8 = absurd (n7 (sym h))
 only-star (literal l v) k h n2 n3 n4 n5 n6 n7 n8 = absurd (n8 (sym h))
 
 module _ (c q : Bytes) (t : List ℕ) (i j : ℕ) where
-  pub stars-count : (x y i j : ℕ) → equalAll (argumentsAt (treeAt c q t 0) t x i) (argumentsAt (treeAt c q t 0) t y j) ≡ eqb x y
-  unfolding argumentsAt treeAt equal
+  pub stars-count : (x y i j : ℕ) → equalAll (argumentsAt starAt t x i) (argumentsAt starAt t y j) ≡ eqb x y
+  unfolding argumentsAt starAt equal
   stars-count zero zero i j = refl
   stars-count zero (suc y) i j = sym (eqb·zero-suc y)
   stars-count (suc x) zero i j = sym (eqb·suc-zero x)
   stars-count (suc x) (suc y) i j = rw stars (stars-count x y (i + rowsAt t i) (j + rowsAt t j) ∙ sym (eqb·suc-suc x y))
 
-  pub roots-apart : (kindAt t i ≡ kindAt t j → ⊥) → equal (treeAt c q t 1 i) (treeAt c q t 1 j) ≡ false
-  unfolding treeAt
-  roots-apart = kinds-apart (treeAt c q t 0) c q t i j
+  pub roots-apart : (kindAt t i ≡ kindAt t j → ⊥) → equal (rootAt c q t i) (rootAt c q t j) ≡ false
+  unfolding rootAt starAt
+  roots-apart = kinds-apart starAt c q t i j
 
-  pub roots-column : kindAt t i ≡ 2 → kindAt t j ≡ 2 → equal (treeAt c q t 1 i) (treeAt c q t 1 j) ≡ same (bytesAt c q (at t i 4) (at t i 5)) (bytesAt c q (at t j 4) (at t j 5))
-  unfolding treeAt wordAt equal asColumn sameOptionalName sameName
+  pub roots-column : kindAt t i ≡ 2 → kindAt t j ≡ 2
+      → equal (rootAt c q t i) (rootAt c q t j)
+      ≡ same (bytesAt c q (at t i 4) (at t i 5)) (bytesAt c q (at t j 4) (at t j 5))
+  unfolding rootAt starAt wordAt equal asColumn sameOptionalName sameName
   roots-column hi hj = rw (tree-column _ c q t i hi, tree-column _ c q t j hj)
 
-  pub roots-qualified : kindAt t i ≡ 3 → kindAt t j ≡ 3 → equal (treeAt c q t 1 i) (treeAt c q t 1 j) ≡ (same (bytesAt c q (at t i 6) (at t i 7)) (bytesAt c q (at t j 6) (at t j 7)) && same (bytesAt c q (at t i 4) (at t i 5)) (bytesAt c q (at t j 4) (at t j 5)))
-  unfolding treeAt wordAt equal asColumn sameOptionalName sameName
+  pub roots-qualified : kindAt t i ≡ 3 → kindAt t j ≡ 3
+      → equal (rootAt c q t i) (rootAt c q t j)
+      ≡ (same (bytesAt c q (at t i 6) (at t i 7)) (bytesAt c q (at t j 6) (at t j 7))
+      && same (bytesAt c q (at t i 4) (at t i 5)) (bytesAt c q (at t j 4) (at t j 5)))
+  unfolding rootAt starAt wordAt equal asColumn sameOptionalName sameName
   roots-qualified hi hj = rw (tree-qualified _ c q t i hi, tree-qualified _ c q t j hj)
 
-  pub roots-call : kindAt t i ≡ 4 → kindAt t j ≡ 4 → equal (treeAt c q t 1 i) (treeAt c q t 1 j) ≡ (same (bytesAt c q (at t i 4) (at t i 5)) (bytesAt c q (at t j 4) (at t j 5)) && eqb (at t i 3) (at t j 3))
-  unfolding treeAt wordAt equal asCall sameName
+  pub roots-call : kindAt t i ≡ 4 → kindAt t j ≡ 4
+      → equal (rootAt c q t i) (rootAt c q t j)
+      ≡ (same (bytesAt c q (at t i 4) (at t i 5)) (bytesAt c q (at t j 4) (at t j 5)) && eqb (at t i 3) (at t j 3))
+  unfolding rootAt starAt wordAt equal asCall sameName
   roots-call hi hj = rw (tree-call _ c q t i hi, tree-call _ c q t j hj) (ap (λ (x : Bool). same (bytesAt c q (at t i 4) (at t i 5)) (bytesAt c q (at t j 4) (at t j 5)) && x) (stars-count _ _ _ _))
 
-  pub roots-unary : kindAt t i ≡ 5 → kindAt t j ≡ 5 → equal (treeAt c q t 1 i) (treeAt c q t 1 j) ≡ eqb (orLeast 8 12 (at t i 3)) (orLeast 8 12 (at t j 3))
-  unfolding treeAt equal asUnary asStar isSome
+  pub roots-unary : kindAt t i ≡ 5 → kindAt t j ≡ 5
+      → equal (rootAt c q t i) (rootAt c q t j) ≡ eqb (orLeast 8 12 (at t i 3)) (orLeast 8 12 (at t j 3))
+  unfolding rootAt starAt equal asUnary asStar isSome
   roots-unary hi hj = rw (tree-unary _ c q t i hi, tree-unary _ c q t j hj) (rw (unary-code (at t i 3), unary-code (at t j 3), and-true))
 
-  pub roots-binary : kindAt t i ≡ 6 → kindAt t j ≡ 6 → equal (treeAt c q t 1 i) (treeAt c q t 1 j) ≡ eqb (orLeast 16 30 (at t i 3)) (orLeast 16 30 (at t j 3))
-  unfolding treeAt equal asBinary asStar isSome
+  pub roots-binary : kindAt t i ≡ 6 → kindAt t j ≡ 6
+      → equal (rootAt c q t i) (rootAt c q t j) ≡ eqb (orLeast 16 30 (at t i 3)) (orLeast 16 30 (at t j 3))
+  unfolding rootAt starAt equal asBinary asStar isSome
   roots-binary hi hj = rw (tree-binary _ c q t i hi, tree-binary _ c q t j hj) (rw (binary-code (at t i 3), binary-code (at t j 3)) (simp and-true))
 
-  pub roots-is : kindAt t i ≡ 7 → kindAt t j ≡ 7 → equal (treeAt c q t 1 i) (treeAt c q t 1 j) ≡ sameValue (valueAt c q (at t i 3) (at t i 4) (at t i 5)) (valueAt c q (at t j 3) (at t j 4) (at t j 5))
-  unfolding treeAt equal asIs asStar isSome
+  pub roots-is : kindAt t i ≡ 7 → kindAt t j ≡ 7
+      → equal (rootAt c q t i) (rootAt c q t j)
+      ≡ sameValue (valueAt c q (at t i 3) (at t i 4) (at t i 5)) (valueAt c q (at t j 3) (at t j 4) (at t j 5))
+  unfolding rootAt starAt equal asIs asStar isSome
   roots-is hi hj = rw (tree-is _ c q t i hi, tree-is _ c q t j hj) (and-true _)
 
-  pub roots-literal : kindAt t i ≡ 8 → kindAt t j ≡ 8 → equal (treeAt c q t 1 i) (treeAt c q t 1 j) ≡ sameValue (valueAt c q (at t i 3) (at t i 4) (at t i 5)) (valueAt c q (at t j 3) (at t j 4) (at t j 5))
-  unfolding treeAt equal asLiteral
+  pub roots-literal : kindAt t i ≡ 8 → kindAt t j ≡ 8
+      → equal (rootAt c q t i) (rootAt c q t j)
+      ≡ sameValue (valueAt c q (at t i 3) (at t i 4) (at t i 5)) (valueAt c q (at t j 3) (at t j 4) (at t j 5))
+  unfolding rootAt starAt equal asLiteral
   roots-literal hi hj = rw (tree-literal _ c q t i hi, tree-literal _ c q t j hj)
 
-  pub roots-star : (k : ℕ) → kindAt t i ≡ k → kindAt t j ≡ k → (k ≡ 2 → ⊥) → (k ≡ 3 → ⊥) → (k ≡ 4 → ⊥) → (k ≡ 5 → ⊥) → (k ≡ 6 → ⊥) → (k ≡ 7 → ⊥) → (k ≡ 8 → ⊥) → equal (treeAt c q t 1 i) (treeAt c q t 1 j) ≡ true
-  unfolding treeAt equal asStar isSome
+  pub roots-star : (k : ℕ) → kindAt t i ≡ k → kindAt t j ≡ k → (k ≡ 2 → ⊥) → (k ≡ 3 → ⊥) → (k ≡ 4 → ⊥) → (k ≡ 5 → ⊥)
+      → (k ≡ 6 → ⊥) → (k ≡ 7 → ⊥) → (k ≡ 8 → ⊥) → equal (rootAt c q t i) (rootAt c q t j) ≡ true
+  unfolding rootAt starAt equal asStar isSome
   roots-star k hi hj n2 n3 n4 n5 n6 n7 n8 = rw (star-at i hi, star-at j hj)
     where
-      star-at : (r : ℕ) → kindAt t r ≡ k → treeAt c q t 1 r ≡ star (lineOf (treeAt c q t 1 r))
-      star-at r h = only-star _ k (kind-at (treeAt c q t 0) c q t r ∙ h) n2 n3 n4 n5 n6 n7 n8
+      star-at : (r : ℕ) → kindAt t r ≡ k → rootAt c q t r ≡ star (lineOf (rootAt c q t r))
+      star-at r h = only-star _ k (kind-at starAt c q t r ∙ h) n2 n3 n4 n5 n6 n7 n8

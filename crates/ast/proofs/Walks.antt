@@ -1,7 +1,7 @@
 -- The walk that stops at an aggregate, by the root and the operands of a tree of the table.
 use Prim.Native.Nat.{ℕ, _+_, _-_, _≤_, _<_}
 use native.Mathlib.Numerals.{add-one}
-use mathlib.Core.Path.{_≡_, refl, sym, _∙_}
+use mathlib.Core.Path.{_≡_, refl, sym, ap, _∙_}
 use mathlib.Core.Bool.{Bool, true, false, _&&_, _||_, not, and-true, Bool·beq}
 use mathlib.Core.List.{List}
 use mathlib.Core.Option.{none, some}
@@ -9,9 +9,10 @@ use lib.Dec.{eqb}
 use Rattle.rules.specs.Lists.{Bytes}
 use Rattle.rules.specs.Ast.{Expr, star, column, literal, call, unary, binary, is, Exprs, nil, cons}
 use Rattle.rules.specs.BuildAggregate.{isAggregate, walkFree, anyFree}
-use Rattle.ast.specs.Table.{rowsAt, argumentsAt, treeAt}
-use Rattle.ast.specs.Operands.{operandsOf, kindOf, kindAt, operandsAt, kind-at, operands-at, tree-deep, arguments-none, arguments-more}
-use Rattle.ast.specs.Walk.{isAggregateCall, call-at}
+use Rattle.ast.specs.Table.{rowsAt, argumentsAt, rootAt, treeAt}
+use Rattle.ast.specs.Operands.{operandsOf, kindOf, kindAt, operandsAt, kind-at, operands-at, tree-at}
+use Rattle.ast.specs.Operands.{arguments-none, arguments-more}
+use Rattle.ast.specs.Walk.{isAggregateCall, call-root}
 
 -- the operands' walks: any of them, or all
 unfoldable pub walked : Bool → Exprs → Bool
@@ -48,16 +49,20 @@ at-aggregate (unary l o a) h = cc
 at-aggregate (binary l o a b) h = cc
 at-aggregate (is l a v) h = cc
 
-pub walk-cut : (c q : Bytes) (t : List ℕ) (d r : ℕ) → d ≡ 0 → walkFree (treeAt c q t d r) ≡ true
-unfolding treeAt walkFree
-walk-cut c q t d r e = rw e
+module _ (c q : Bytes) (t : List ℕ) (r : ℕ) where
+  pub walk-stops : isAggregateCall (rootAt c q t r) ≡ true → walkFree (treeAt c q t r) ≡ false
+  walk-stops h = at-aggregate (treeAt c q t r) (call-root c q t r ∙ h)
 
-module _ (c q : Bytes) (t : List ℕ) (d r : ℕ) (ne : d ≡ 0 → ⊥) where
-  pub walk-stops : isAggregateCall (treeAt c q t 1 r) ≡ true → walkFree (treeAt c q t d r) ≡ false
-  walk-stops h = rw (tree-deep c q t d r ne) (at-aggregate _ (call-at c q t r (treeAt c q t (d - 1)) ∙ h))
-
-  pub walk-on : (n k : ℕ) → isAggregateCall (treeAt c q t 1 r) ≡ false → n ≡ operandsAt t r → k ≡ kindAt t r → walked (eqb k 4) (argumentsAt (treeAt c q t (d - 1)) t n (r + 1)) ≡ walkFree (treeAt c q t d r)
-  walk-on n k h e g = rw (tree-deep c q t d r ne, by-root _ (call-at c q t r (treeAt c q t (d - 1)) ∙ h), kind-at (treeAt c q t (d - 1)) c q t r, operands-at (treeAt c q t (d - 1)) c q t r, e, g, add-one r)
+  pub walk-on : (n k : ℕ) → isAggregateCall (rootAt c q t r) ≡ false → n ≡ operandsAt t r → k ≡ kindAt t r
+      → walked (eqb k 4) (argumentsAt (treeAt c q t) t n (r + 1)) ≡ walkFree (treeAt c q t r)
+  walk-on n k h e g = rw (
+    by-root (treeAt c q t r) (call-root c q t r ∙ h),
+    ap kindOf (tree-at c q t r) ∙ kind-at (treeAt c q t) c q t r,
+    ap operandsOf (tree-at c q t r) ∙ operands-at (treeAt c q t) c q t r,
+    e,
+    g,
+    add-one r,
+  )
 
 next-walk : (any : Bool) (a : Expr) (as′ : Exprs) → Bool·beq (walkFree a) any ≡ false → walked any as′ ≡ walked any (cons a as′)
 unfolding walked anyFree

@@ -13,7 +13,7 @@ use Rattle.rules.specs.Reader.{Place, Read, give, literalHere, _>>=_}
 use Rattle.rules.specs.ReadExpression.{Head, starHead, isHead, columnHead, valueHead, callHead, unaryHead, binaryHead, times, operands}
 use Rattle.text.specs.Answers.{bind-ok, bind-no}
 use Rattle.ast.specs.Encode.{headNumbers, isNumbers, arity, rowOf, countOf, encode, encodeAll}
-use Rattle.ast.specs.Fits.{Deeper, HeadFits, Fits, FitsAll}
+use Rattle.ast.specs.Fits.{HeadFits, Fits, FitsAll}
 use Rattle.ast.specs.Times.{joined, before, times-end, times-no, times-on, ok-same, ok-not}
 
 -- the expression of a record other than an `is`; a star where it has too few operands
@@ -33,24 +33,34 @@ build isHead l as′ = star l
 pub record Built (h : Head) (l : ℕ) (as′ : Exprs) (e : Expr) : Type 0 where
   pub rows : encode e ≡ rowOf l (suc (sizeAll as′)) (headNumbers (some h)) ++ encodeAll as′
   pub size : size e ≡ suc (sizeAll as′)
-  pub fits : (b t : Bytes) (d : ℕ) → HeadFits b t (some h) → FitsAll b t as′ d → Fits b t e (suc d)
+  pub fits : (b t : Bytes) → HeadFits b t (some h) → FitsAll b t as′ → Fits b t e
 
 pub built : (h : Head) (l : ℕ) (as′ : Exprs) → (h ≡ isHead → ⊥) → countOf as′ ≡ arity (some h) → Built h l as′ (build h l as′)
-unfolding build encode encodeAll arity countOf size sizeAll Fits FitsAll HeadFits Deeper
-built starHead l nil n s = record { rows = sym (append-nil _); size = refl; fits = λ b t d f g. tt }
+unfolding build encode encodeAll arity countOf size sizeAll Fits FitsAll HeadFits
+built starHead l nil n s = record { rows = sym (append-nil _); size = refl; fits = λ b t f g. tt }
 built starHead l (cons a as′) n s = absurd (omega arith)
-built (columnHead w m) l nil n s = record { rows = sym (append-nil _); size = refl; fits = λ b t d f g. f }
+built (columnHead w m) l nil n s = record { rows = sym (append-nil _); size = refl; fits = λ b t f g. f }
 built (columnHead w m) l (cons a as′) n s = absurd (omega arith)
-built (valueHead v) l nil n s = record { rows = sym (append-nil _); size = refl; fits = λ b t d f g. f }
+built (valueHead v) l nil n s = record { rows = sym (append-nil _); size = refl; fits = λ b t f g. f }
 built (valueHead v) l (cons a as′) n s = absurd (omega arith)
 built isHead l as′ n s = absurd (n refl)
-built (callHead m k) l as′ n s = record { rows = rw s; size = refl; fits = λ b t d f g. (f, g) }
+built (callHead m k) l as′ n s = record { rows = rw s; size = refl; fits = λ b t f g. (f, g) }
 built (unaryHead o) l nil n s = absurd (omega arith)
-built (unaryHead o) l (cons a nil) n s = record { rows = rw (append-nil (encode a), add-zero (size a)); size = rw (add-zero (size a)); fits = λ b t d f g. g .0 }
+built (unaryHead o) l (cons a nil) n s =
+    record {
+      rows = rw (append-nil (encode a), add-zero (size a));
+      size = rw (add-zero (size a));
+      fits = λ b t f g. g .0;
+    }
 built (unaryHead o) l (cons a (cons b as′)) n s = absurd (omega arith)
 built (binaryHead o) l nil n s = absurd (omega arith)
 built (binaryHead o) l (cons a nil) n s = absurd (omega arith)
-built (binaryHead o) l (cons a (cons b nil)) n s = record { rows = rw (append-nil (encode b), add-zero (size b)); size = rw (add-zero (size b)); fits = λ b′ t d f g. (g .0, g .1 .0) }
+built (binaryHead o) l (cons a (cons b nil)) n s =
+    record {
+      rows = rw (append-nil (encode b), add-zero (size b));
+      size = rw (add-zero (size b));
+      fits = λ b′ t f g. (g .0, g .1 .0);
+    }
 built (binaryHead o) l (cons a (cons b (cons x as′))) n s = absurd (omega arith)
 
 -- OPERANDS BY NUMBER

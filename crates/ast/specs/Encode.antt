@@ -12,6 +12,7 @@ use Rattle.rules.specs.Schema.{Value, null, bool, int, float, text}
 use Rattle.rules.specs.Codes.{unaryCode, binaryCode}
 use Rattle.rules.specs.Ast.{Expr, star, column, literal, call, unary, binary, is, Exprs, nil, cons, size, sizeAll}
 use Rattle.rules.specs.ReadExpression.{Head, starHead, isHead, columnHead, valueHead, callHead, unaryHead, binaryHead}
+use Rattle.ast.specs.Table.{rowSize}
 
 -- the 64 bits of an integer in two's complement
 unfoldable pub integerBits : ℤ → ℕ
@@ -118,7 +119,7 @@ is-length l n v = rw (three v .is)
 mutual
   unfolding encode encodeAll size sizeAll
 
-  pub encode-length : (e : Expr) → length (encode e) ≡ 8 * size e
+  pub encode-length : (e : Expr) → length (encode e) ≡ rowSize * size e
   encode-length (star l) = row-length l 1 starHead
   encode-length (column l t n) = row-length l 1 (columnHead t n)
   encode-length (literal l v) = row-length l 1 (valueHead v)
@@ -127,6 +128,6 @@ mutual
   encode-length (binary l o a b) = rw (length-append, length-append (encode a) (encode b)) (omega (arith, row-length l (suc (size a + size b)) (binaryHead o), encode-length a, encode-length b))
   encode-length (is l a v) = rw length-append (omega (arith, is-length l (suc (size a)) v, encode-length a))
 
-  pub encode-all-length : (as′ : Exprs) → length (encodeAll as′) ≡ 8 * sizeAll as′
+  pub encode-all-length : (as′ : Exprs) → length (encodeAll as′) ≡ rowSize * sizeAll as′
   encode-all-length nil = refl
   encode-all-length (cons a as′) = rw length-append (omega (arith, encode-length a, encode-all-length as′))

@@ -16,12 +16,13 @@ use Rattle.rules.specs.Reader.{Read, lineHere, oneOf, literals, literalHere}
 use Rattle.rules.specs.ReadExpression.{Head, isHead, heads, times, operands, deep}
 use Rattle.text.specs.Lines.{lineEnd}
 use Rattle.text.specs.Answers.{wrongAt, limitAt}
+use Rattle.ast.specs.Table.{rowSize}
 use Rattle.ast.specs.declared.reading.Read as Rd
 use Rattle.ast.specs.declared.reading.Read.the-variants as R
 use Rattle.ast.specs.declared.heads.Row.{Row}
 use Rattle.ast.specs.declared.heads.Literal.{Literal}
 use Rattle.ast.specs.Encode.{valueNumbers, headNumbers, isNumbers, arity, rowOf, encode, encodeAll, encode-length}
-use Rattle.ast.specs.Fits.{ValueFits, Deeper, Fits, FitsAll}
+use Rattle.ast.specs.Fits.{ValueFits, Fits, FitsAll}
 use Rattle.ast.specs.Says.{Says, Speaks}
 use Rattle.ast.specs.Reading.{here, Position, Took, Given, Rows, IsRow}
 use Rattle.ast.specs.Stores.{sets-before}
@@ -33,21 +34,24 @@ use Rattle.ast.specs.Built.{build, built, operands-ok, operands-no, is-w
 
 -- EXPRESSIONS IN A ROW
 -- n are to be read from row c₀ on, and those before row c are read
-pub record Loop (t : Bytes) (e : Read Expr) (d n p₀ l₀ c₀ : ℕ) (cells₀ : List ℕ) (k p l c left : ℕ) (cells : List ℕ) : Type 0 where
+pub record Loop (t : Bytes) (e : Read Expr) (n p₀ l₀ c₀ : ℕ) (cells₀ : List ℕ) (k p l c left : ℕ)
+    (cells : List ℕ) : Type 0 where
   pub so-far : Exprs
   pub is : times n e (here t p₀ l₀ c₀ k) ≡ before so-far (times left e (here t p l c k))
-  pub rows : Rows t c₀ cells₀ cells d c so-far
+  pub rows : Rows t c₀ cells₀ cells c so-far
   pub position : Position t p l c
   pub moved : p₀ ≤ p
 
-pub loop-start : {t : Bytes} {e : Read Expr} {d n p l c : ℕ} {cells : List ℕ} {k : ℕ} → Position t p l c → Loop t e d n p l c cells k p l c n cells
+pub loop-start : {t : Bytes} {e : Read Expr} {n p l c : ℕ} {cells : List ℕ} {k : ℕ} → Position t p l c
+    → Loop t e n p l c cells k p l c n cells
 loop-start {cells = cells} w = record { so-far = nil; is = sym (before-none _); rows = rows-none cells; position = w; moved = omega arith }
 
-module _ {t : Bytes} {e : Read Expr} {d n p₀ l₀ c₀ : ℕ} {cells₀ : List ℕ} {k p l c left : ℕ} {cells : List ℕ} (h : Loop t e d n p₀ l₀ c₀ cells₀ k p l c left cells) where
+module _ {t : Bytes} {e : Read Expr} {n p₀ l₀ c₀ : ℕ} {cells₀ : List ℕ} {k p l c left : ℕ} {cells : List ℕ}
+    (h : Loop t e n p₀ l₀ c₀ cells₀ k p l c left cells) where
   pub loop-length : length cells ≡ length cells₀
   loop-length = rows-length (h .rows)
 
-  pub loop-end : left ≤ 0 → Given (times n e) (Rows t c₀ cells₀ cells d) t p₀ l₀ c₀ k (R.Done p l c)
+  pub loop-end : left ≤ 0 → Given (times n e) (Rows t c₀ cells₀ cells) t p₀ l₀ c₀ k (R.Done p l c)
   unfolding before
   loop-end z = gives-done _ _ _ _ _ _ _ p l c (record {
     value = h .so-far;
@@ -59,16 +63,17 @@ module _ {t : Bytes} {e : Read Expr} {d n p₀ l₀ c₀ : ℕ} {cells₀ : List
   })
 
   module _ (z : 0 < left) (H : ℕ → Expr → Type 0) {r : Rd.Read} (g : Given e H t p l c k r) (cells′ : List ℕ) where
-    pub loop-wrong : (x : ℕ) → r ≡ R.Wrong x → Given (times n e) (Rows t c₀ cells₀ cells′ d) t p₀ l₀ c₀ k (R.Wrong x)
+    pub loop-wrong : (x : ℕ) → r ≡ R.Wrong x → Given (times n e) (Rows t c₀ cells₀ cells′) t p₀ l₀ c₀ k (R.Wrong x)
     unfolding before wrongAt
     loop-wrong x f = gives-wrong _ _ _ _ _ _ _ x (h .is ∙ ap (before (h .so-far)) (times-no left e _ z _ (given-wrong _ _ _ _ _ _ _ x g f)))
 
-    pub loop-limit : (x : ℕ) → r ≡ R.Limit x → Given (times n e) (Rows t c₀ cells₀ cells′ d) t p₀ l₀ c₀ k (R.Limit x)
+    pub loop-limit : (x : ℕ) → r ≡ R.Limit x → Given (times n e) (Rows t c₀ cells₀ cells′) t p₀ l₀ c₀ k (R.Limit x)
     unfolding before limitAt
     loop-limit x f = gives-limit _ _ _ _ _ _ _ x (h .is ∙ ap (before (h .so-far)) (times-no left e _ z _ (given-limit _ _ _ _ _ _ _ x g f)))
 
-  pub loop-on : {r : Rd.Read} (cells′ : List ℕ) → 0 < left → Given e (λ c′ a. Rows t c cells cells′ d c′ (cons a nil)) t p l c k r → (p′ l′ c′ : ℕ) → r ≡ R.Done p′ l′ c′
-      → Loop t e d n p₀ l₀ c₀ cells₀ k p′ l′ c′ (left - 1) cells′
+  pub loop-on : {r : Rd.Read} (cells′ : List ℕ) → 0 < left
+      → Given e (λ c′ a. Rows t c cells cells′ c′ (cons a nil)) t p l c k r → (p′ l′ c′ : ℕ) → r ≡ R.Done p′ l′ c′
+      → Loop t e n p₀ l₀ c₀ cells₀ k p′ l′ c′ (left - 1) cells′
   loop-on cells′ z g p′ l′ c′ f =
       let w = given-done _ _ _ _ _ _ _ p′ l′ c′ g f in
       record {
@@ -89,7 +94,8 @@ module _ {t : Bytes} (p l d k : ℕ) {r : Literal} (s : (l c k : ℕ) → Speaks
   is-row-wrong H z = gives-wrong _ H _ _ _ _ _ l (literal-wrong t p l d k (speaks-none (s l d k) z))
 
   pub is-row : (c line : ℕ) {q : ℕ} (cells : List ℕ) {cells′ : List ℕ} → Position t p l d → (r .kind ≡ 0 → ⊥) → q ≡ lineEnd t p
-      → cells′ ≡ sets cells (8 * c) (7 ∷ line ∷ (d - c) ∷ r .kind ∷ r .a ∷ r .b ∷ 0 ∷ 0 ∷ []) → Given literalHere (IsRow t c d line cells cells′) t p l d k (R.Done q (l + 1) d)
+      → cells′ ≡ sets cells (rowSize * c) (7 ∷ line ∷ (d - c) ∷ r .kind ∷ r .a ∷ r .b ∷ 0 ∷ 0 ∷ [])
+      → Given literalHere (IsRow t c d line cells cells′) t p l d k (R.Done q (l + 1) d)
   is-row c line {q} cells w z f e =
       let v = speaks-some (s l d k) z in
       let i = literal-inside t p l d k (v .0) (v .1) in
@@ -99,35 +105,39 @@ module _ {t : Bytes} (p l d k : ℕ) {r : Literal} (s : (l c k : ℕ) → Speaks
         position = position-next w i f (w .rows);
         moved = line-passed t i f;
         more = omega arith;
-        holds = record { written = e ∙ ap (sets cells (8 * c)) (is-numbers line (d - c) (v .0) (v .2)); rows = refl; fits = v .3 };
+        holds = record {
+          written = e ∙ ap (sets cells (rowSize * c)) (is-numbers line (d - c) (v .0) (v .2));
+          rows = refl;
+          fits = v .3;
+        };
       })
 
 -- ONE EXPRESSION
 -- a row stored after those of its operands
-row-first : (c : ℕ) (row xs : List ℕ) (s s₁ s₂ : List ℕ) → length row ≡ 8 → s₁ ≡ sets s (8 * (c + 1)) xs → s₂ ≡ sets s₁ (8 * c) row → s₂ ≡ sets s (8 * c) (row ++ xs)
+row-first : (c : ℕ) (row xs : List ℕ) (s s₁ s₂ : List ℕ) → length row ≡ 8 → s₁ ≡ sets s (rowSize * (c + 1)) xs
+    → s₂ ≡ sets s₁ (rowSize * c) row → s₂ ≡ sets s (rowSize * c) (row ++ xs)
 row-first c row xs s s₁ s₂ n e f =
-    let g : 8 * (c + 1) ≡ 8 * c + length row = omega arith in
-    f ∙ rw (e, g) (sets-before row xs s (8 * c))
+    let g : rowSize * (c + 1) ≡ rowSize * c + length row = omega arith in
+    f ∙ rw (e, g) (sets-before row xs s (rowSize * c))
 
 head-row : (l : ℕ) {n m k o a b x y : ℕ} {xs : List ℕ} → xs ≡ k ∷ o ∷ a ∷ b ∷ x ∷ y ∷ [] → n ≡ m → rowOf l n xs ≡ k ∷ l ∷ m ∷ o ∷ a ∷ b ∷ x ∷ y ∷ []
 unfolding rowOf
 head-row l e f = rw (e, f)
 
-fits-at : (b t : Bytes) (e : Expr) (d : ℕ) → (d ≡ 0 → ⊥) → Fits b t e (suc (d - 1)) → Fits b t e d
-fits-at b t e d z f = let n : suc (d - 1) ≡ d = omega (arith, z) in rw n at f
-
 -- the rows of one expression
-rows-one : {t : Bytes} {c d c′ : ℕ} {s s′ : List ℕ} {e : Expr} → s′ ≡ sets s (8 * c) (encode e) → c′ ≡ c + size e → ((b : Bytes) → Fits b t e d) → Rows t c s s′ d c′ (cons e nil)
+rows-one : {t : Bytes} {c c′ : ℕ} {s s′ : List ℕ} {e : Expr} → s′ ≡ sets s (rowSize * c) (encode e) → c′ ≡ c + size e
+    → ((b : Bytes) → Fits b t e) → Rows t c s s′ c′ (cons e nil)
 unfolding encodeAll sizeAll FitsAll
 rows-one {e = e} w n f = record { written = rw (append-nil (encode e)) w; rows = rw (add-zero (size e)) n; fits = λ b. (f b, tt) }
 
-row-of-one : {t : Bytes} {c d c′ : ℕ} {s s′ : List ℕ} {e : Expr} → Rows t c s s′ d c′ (cons e nil) → (s′ ≡ sets s (8 * c) (encode e)) × (c′ ≡ c + size e) × ((b : Bytes) → Fits b t e d)
+row-of-one : {t : Bytes} {c c′ : ℕ} {s s′ : List ℕ} {e : Expr} → Rows t c s s′ c′ (cons e nil)
+    → (s′ ≡ sets s (rowSize * c) (encode e)) × (c′ ≡ c + size e) × ((b : Bytes) → Fits b t e)
 unfolding encodeAll sizeAll FitsAll
 row-of-one {e = e} r = (rw (append-nil (encode e)) at (r .written), rw (add-zero (size e)) at (r .rows), λ b. r .fits b .0)
 
-is-fits : (b t : Bytes) (l : ℕ) (a : Expr) (v : Value) (d : ℕ) → Fits b t a d → ValueFits b t v → Fits b t (is l a v) (suc d)
-unfolding Fits Deeper
-is-fits b t l a v d f g = (f, g)
+is-fits : (b t : Bytes) (l : ℕ) (a : Expr) (v : Value) → Fits b t a → ValueFits b t v → Fits b t (is l a v)
+unfolding Fits
+is-fits b t l a v f g = (f, g)
 
 is-length : (l : ℕ) (a : Expr) (v : Value) → length (rowOf l (suc (size a)) (isNumbers v)) ≡ 8
 unfolding size
@@ -167,11 +177,12 @@ module _ {t : Bytes} (p l c k : ℕ) {row : Row} (s : (l c k : ℕ) → Says t (
 
 module _ {t : Bytes} (p l c k : ℕ) {row : Row} (s : (l c k : ℕ) → Says t (oneOf heads (lineHere (here t p l c k))) row) (d : ℕ) (z : row .kind ≡ 0 → ⊥) (m : c < mostCells)
     (y : d ≡ 0 → ⊥) {q : ℕ} (f : q ≡ lineEnd t p) (cells cells₁ : List ℕ) {r : Rd.Read}
-    (g : Given (times (row .operands) (deep (d - 1))) (Rows t (c + 1) cells cells₁ (d - 1)) t q (l + 1) (c + 1) k r) (p₁ l₁ c₁ : ℕ) (o : r ≡ R.Done p₁ l₁ c₁) where
+    (g : Given (times (row .operands) (deep (d - 1))) (Rows t (c + 1) cells cells₁) t q (l + 1) (c + 1) k r)
+    (p₁ l₁ c₁ : ℕ) (o : r ≡ R.Done p₁ l₁ c₁) where
   h : (x : Head) × (oneOf heads (lineHere (here t p l c k)) ≡ some x) × Says t (some x) row
   h = says-some (s l c k) z
 
-  took : Took (times (row .operands) (deep (d - 1))) (Rows t (c + 1) cells cells₁ (d - 1) c₁) t q (l + 1) (c + 1) k p₁ l₁ c₁
+  took : Took (times (row .operands) (deep (d - 1))) (Rows t (c + 1) cells cells₁ c₁) t q (l + 1) (c + 1) k p₁ l₁ c₁
   took = given-done _ _ _ _ _ _ _ p₁ l₁ c₁ g o
 
   many : times (arity (some (h .0))) (deep (d - 1)) (here t q (l + 1) (c + 1) k) ≡ ok (took .value, here t p₁ l₁ c₁ k)
@@ -180,8 +191,10 @@ module _ {t : Bytes} (p l c k : ℕ) {row : Row} (s : (l c k : ℕ) → Says t (
   passed : p ≤ q
   passed = line-passed t (head-inside t p l c k (h .0) (h .1)) f
 
-  pub deep-done : (cells₂ : List ℕ) → (row .kind ≡ 7 → ⊥) → cells₂ ≡ sets cells₁ (8 * c) (row .kind ∷ l ∷ (c₁ - c) ∷ row .code ∷ row .a ∷ row .b ∷ row .c ∷ row .d ∷ [])
-      → Given (deep d) (λ c′ e. Rows t c cells cells₂ d c′ (cons e nil)) t p l c k (R.Done p₁ l₁ c₁)
+  pub deep-done : (cells₂ : List ℕ) → (row .kind ≡ 7 → ⊥)
+      → cells₂ ≡ sets cells₁ (rowSize * c)
+      (row .kind ∷ l ∷ (c₁ - c) ∷ row .code ∷ row .a ∷ row .b ∷ row .c ∷ row .d ∷ [])
+      → Given (deep d) (λ c′ e. Rows t c cells cells₂ c′ (cons e nil)) t p l c k (R.Done p₁ l₁ c₁)
   deep-done cells₂ n e =
       let other = says-not-is (h .0) (h .2) n in
       let b = built (h .0) l (took .value) other (times-count _ _ _ _ _ many) in
@@ -195,9 +208,11 @@ module _ {t : Bytes} (p l c k : ℕ) {row : Row} (s : (l c k : ℕ) → Says t (
         moved = omega (arith, passed, took .moved);
         more = omega (arith, took .more);
         holds = rows-one
-            (row-first c (row .kind ∷ l ∷ (c₁ - c) ∷ row .code ∷ row .a ∷ row .b ∷ row .c ∷ row .d ∷ []) (encodeAll (took .value)) cells cells₁ cells₂ refl (rows .written) e ∙ ap (sets cells (8 * c)) (sym (b .rows ∙ ap (λ x. x ++ encodeAll (took .value)) row-is)))
+            (row-first c (row .kind ∷ l ∷ (c₁ - c) ∷ row .code ∷ row .a ∷ row .b ∷ row .c ∷ row .d ∷ [])
+            (encodeAll (took .value)) cells cells₁ cells₂ refl (rows .written) e
+            ∙ ap (sets cells (rowSize * c)) (sym (b .rows ∙ ap (λ x. x ++ encodeAll (took .value)) row-is)))
             (omega (arith, rows .rows, b .size))
-            (λ b′. fits-at b′ t _ d y (b .fits b′ t (d - 1) (h .2 .fits b′) (rows .fits b′)));
+            (λ b′. b .fits b′ t (h .2 .fits b′) (rows .fits b′));
       })
 
   -- the operand of an `is`
@@ -215,10 +230,10 @@ module _ {t : Bytes} (p l c k : ℕ) {row : Row} (s : (l c k : ℕ) → Says t (
     reads = deep-read t p l c k d (h .0) (h .1) m y f ∙ ap (λ x. operands x l (deep (d - 1)) (here t q (l + 1) (c + 1) k)) is-head
 
     is-took : (cells₂ : List ℕ) (p₂ l₂ c₂ : ℕ) → Took literalHere (IsRow t c c₁ l cells₁ cells₂ c₂) t p₁ l₁ c₁ k p₂ l₂ c₂
-        → Took (deep d) (λ e. Rows t c cells cells₂ d c₂ (cons e nil)) t p l c k p₂ l₂ c₂
+        → Took (deep d) (λ e. Rows t c cells cells₂ c₂ (cons e nil)) t p l c k p₂ l₂ c₂
     is-took cells₂ p₂ l₂ c₂ v =
         let a = operand .0 in
-        let rows : Rows t (c + 1) cells cells₁ (d - 1) c₁ (cons a nil) = rw (operand .1) at (took .holds) in
+        let rows : Rows t (c + 1) cells cells₁ c₁ (cons a nil) = rw (operand .1) at (took .holds) in
         let one = row-of-one rows in
         let same : c₁ - c ≡ suc (size a) = omega (arith, one .1) in
         record {
@@ -228,12 +243,16 @@ module _ {t : Bytes} (p l c k : ℕ) {row : Row} (s : (l c k : ℕ) → Says t (
           moved = omega (arith, passed, took .moved, v .moved);
           more = omega (arith, took .more, v .more);
           holds = rows-one
-              (row-first c (rowOf l (suc (size a)) (isNumbers (v .value))) (encode a) cells cells₁ cells₂ (is-length l a (v .value)) (one .0) (v .holds .written ∙ ap (λ n. sets cells₁ (8 * c) (rowOf l n (isNumbers (v .value)))) same) ∙ ap (sets cells (8 * c)) (sym (is-built l a (v .value))))
+              (row-first c (rowOf l (suc (size a)) (isNumbers (v .value))) (encode a) cells cells₁ cells₂
+              (is-length l a (v .value)) (one .0) (v .holds .written
+              ∙ ap (λ n. sets cells₁ (rowSize * c) (rowOf l n (isNumbers (v .value)))) same)
+              ∙ ap (sets cells (rowSize * c)) (sym (is-built l a (v .value))))
               (unfold size in omega (arith, one .1, v .holds .rows))
-              (λ b. fits-at b t _ d y (is-fits b t l a (v .value) (d - 1) (one .2 b) (v .holds .fits b)));
+              (λ b. is-fits b t l a (v .value) (one .2 b) (v .holds .fits b));
         }
 
-    pub deep-is : (cells₂ : List ℕ) (r₂ : Rd.Read) → Given literalHere (IsRow t c c₁ l cells₁ cells₂) t p₁ l₁ c₁ k r₂ → Given (deep d) (λ c′ e. Rows t c cells cells₂ d c′ (cons e nil)) t p l c k r₂
+    pub deep-is : (cells₂ : List ℕ) (r₂ : Rd.Read) → Given literalHere (IsRow t c c₁ l cells₁ cells₂) t p₁ l₁ c₁ k r₂
+        → Given (deep d) (λ c′ e. Rows t c cells cells₂ c′ (cons e nil)) t p l c k r₂
     deep-is cells₂ (R.Wrong x) v = gives-wrong _ _ _ _ _ _ _ x (reads ∙ unfold wrongAt in is-wrong (deep (d - 1)) _ l _ (operand .0) (operand .2) _ (given-wrong _ _ _ _ _ _ _ x v refl))
     deep-is cells₂ (R.Limit x) v = gives-limit _ _ _ _ _ _ _ x (reads ∙ unfold limitAt in is-wrong (deep (d - 1)) _ l _ (operand .0) (operand .2) _ (given-limit _ _ _ _ _ _ _ x v refl))
     deep-is cells₂ (R.Done p₂ l₂ c₂) v = gives-done _ _ _ _ _ _ _ p₂ l₂ c₂ (is-took cells₂ p₂ l₂ c₂ (given-done _ _ _ _ _ _ _ p₂ l₂ c₂ v refl))

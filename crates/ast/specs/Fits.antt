@@ -1,8 +1,5 @@
--- Expressions that a table of 32-bit numbers can hold: their words stand in the texts, their integers have 64 bits, and they are
--- at most so deep.
-use Prim.Native.Nat.{ℕ, zero, suc, _/_, _%_, _^_}
+-- Expressions that a table of 32-bit numbers can hold: their words stand in the texts, and their integers have 64 bits.
 use mathlib.Core.Path.{_≡_}
-use mathlib.Core.List.{List}
 use mathlib.Core.Option.{Option, none, some}
 use lib.ListN.{length}
 use Rattle.rules.specs.Lists.{Bytes}
@@ -44,22 +41,16 @@ HeadFits c q (some (callHead n k)) = WordFits c q n
 HeadFits c q (some (unaryHead o)) = Unit {0}
 HeadFits c q (some (binaryHead o)) = Unit {0}
 
--- one level down
-unfoldable pub Deeper : ℕ → (ℕ → Type 0) → Type 0
-Deeper zero P = ⊥
-Deeper (suc d) P = P d
-
--- an expression at most d deep
 unfoldable mutual
-  pub Fits : Bytes → Bytes → Expr → ℕ → Type 0
-  Fits c q (star l) d = Deeper d λ n. Unit {0}
-  Fits c q (column l t w) d = Deeper d λ n. ColumnFits c q t w
-  Fits c q (literal l v) d = Deeper d λ n. ValueFits c q v
-  Fits c q (call l w as′) d = Deeper d λ n. WordFits c q w × FitsAll c q as′ n
-  Fits c q (unary l o a) d = Deeper d λ n. Fits c q a n
-  Fits c q (binary l o a b) d = Deeper d λ n. Fits c q a n × Fits c q b n
-  Fits c q (is l a v) d = Deeper d λ n. Fits c q a n × ValueFits c q v
+  pub Fits : Bytes → Bytes → Expr → Type 0
+  Fits c q (star l) = Unit {0}
+  Fits c q (column l t w) = ColumnFits c q t w
+  Fits c q (literal l v) = ValueFits c q v
+  Fits c q (call l w as′) = WordFits c q w × FitsAll c q as′
+  Fits c q (unary l o a) = Fits c q a
+  Fits c q (binary l o a b) = Fits c q a × Fits c q b
+  Fits c q (is l a v) = Fits c q a × ValueFits c q v
 
-  pub FitsAll : Bytes → Bytes → Exprs → ℕ → Type 0
-  FitsAll c q nil d = Unit {0}
-  FitsAll c q (cons a as′) d = Fits c q a d × FitsAll c q as′ d
+  pub FitsAll : Bytes → Bytes → Exprs → Type 0
+  FitsAll c q nil = Unit {0}
+  FitsAll c q (cons a as′) = Fits c q a × FitsAll c q as′

@@ -1,10 +1,10 @@
+pub mod Behind
 pub mod Table
 pub mod Codes
 pub mod Operands
 pub mod Aggregates
 pub mod Walk
 pub mod Visits
-pub mod Depth
 pub mod Collect
 pub mod Trees
 pub mod Encode
@@ -22,5 +22,6 @@ pub mod Times
 pub mod Given
 pub mod Built
 pub mod Rows
+pub mod Starred
 pub mod ExpressionRuns
 pub mod Names

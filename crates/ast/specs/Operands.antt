@@ -13,7 +13,9 @@ use borrow.Author.Tests.{ltb-true, ltb-false}
 use Rattle.rules.specs.Lists.{Bytes}
 use Rattle.rules.specs.Places.{wordAt}
 use Rattle.rules.specs.Ast.{Expr, star, column, literal, call, unary, binary, is, Exprs, nil, cons}
-use Rattle.ast.specs.Table.{rowSize, at, rowsAt, coded, unaryAt, binaryAt, valueAt, argumentsAt, treeBy, treeAt}
+use Rattle.ast.specs.Table.{rowSize, at, rowsAt, coded, unaryAt, binaryAt, valueAt, argumentsAt, treeBy, starAt}
+use Rattle.ast.specs.Table.{rootAt, treeAt}
+use Rattle.ast.specs.Behind.{behind-step}
 use Rattle.ast.specs.Codes.{orLeast, countFrom, coded-map, coded-beside, coded-least, coded-at, coded-below, least-kept}
 
 unfoldable pub operandsOf : Expr → Exprs
@@ -67,14 +69,14 @@ pub operands-at : (f : ℕ → Expr) (c q : Bytes) (t : List ℕ) (r : ℕ) → 
 unfolding treeBy operandsOf operandsAt argumentsAt
 operands-at f c q t r = coded-map operandsOf _ _ 1 (at t r 0) ∙ sym (coded-map (λ n. argumentsAt f t n (suc r)) _ _ 1 (at t r 0))
 
-cut-all : (f : ℕ → Expr) (c q : Bytes) (t : List ℕ) (n r : ℕ) → cutAll (argumentsAt f t n r) ≡ argumentsAt (treeAt c q t 0) t n r
-unfolding cutAll argumentsAt treeAt
+cut-all : (f : ℕ → Expr) (c q : Bytes) (t : List ℕ) (n r : ℕ) → cutAll (argumentsAt f t n r) ≡ argumentsAt starAt t n r
+unfolding cutAll argumentsAt starAt
 cut-all f c q t zero r = refl
 cut-all f c q t (suc n) r = ap (cons (star 0)) (cut-all f c q t n (r + rowsAt t r))
 
--- the root alone is the tree at most one deep
-pub cut-at : (f : ℕ → Expr) (c q : Bytes) (t : List ℕ) (r : ℕ) → cut (treeBy f c q t r) ≡ treeAt c q t 1 r
-unfolding treeBy cut treeAt
+-- the root alone
+pub cut-at : (f : ℕ → Expr) (c q : Bytes) (t : List ℕ) (r : ℕ) → cut (treeBy f c q t r) ≡ rootAt c q t r
+unfolding treeBy cut rootAt starAt
 cut-at f c q t r = coded-map cut _ _ 1 (at t r 0) ∙ rw (cut-all f c q t (at t r 3) (suc r))
 
 -- trees of one row with the same operands are the same
@@ -150,12 +152,6 @@ no-operands t r = rw (← coded-least 7 1 (at t r 0))
     none a b c d = refl
 
 -- WALKING THE ROWS
--- below a depth other than 0 stands the root's tree, its operands one less deep
-pub tree-deep : (c q : Bytes) (t : List ℕ) (d r : ℕ) → (d ≡ 0 → ⊥) → treeAt c q t d r ≡ treeBy (treeAt c q t (d - 1)) c q t r
-unfolding treeAt
-tree-deep c q t zero r ne = absurd (ne refl)
-tree-deep c q t (suc d) r ne = rw (sub-one (suc d))
-
 pub arguments-none : (f : ℕ → Expr) (t : List ℕ) (n r : ℕ) → n ≤ 0 → argumentsAt f t n r ≡ nil
 unfolding argumentsAt
 arguments-none f t zero r h = refl
@@ -171,6 +167,31 @@ arguments-more f t (suc n) r h = rw (sub-one (suc n))
 pub outside : (t : List ℕ) (r k : ℕ) → length t ≤ rowSize * r + k → at t r k ≡ 0
 unfolding at
 outside t r k h = List·getD-eq-default t 0 h
+
+-- a row there is a star
+pub tree-outside : (f : ℕ → Expr) (c q : Bytes) (t : List ℕ) (r : ℕ) → length t ≤ r → treeBy f c q t r ≡ star 0
+unfolding treeBy
+tree-outside f c q t r h = coded-below _ _ 1 (at t r 0) (omega (arith, outside t r 0 (omega arith)))
+    ∙ rw (outside t r 1 (omega arith))
+
+pub operands-outside : (t : List ℕ) (r : ℕ) → length t ≤ r → operandsAt t r ≡ 0
+unfolding operandsAt
+operands-outside t r h = coded-below _ _ 1 (at t r 0) (omega (arith, outside t r 0 (omega arith)))
+
+-- of expressions from row r on, only what is read from r on matters
+arguments-behind : (f g : ℕ → Expr) (t : List ℕ) (n r : ℕ) → ((p : ℕ) → r ≤ p → f p ≡ g p)
+    → argumentsAt f t n r ≡ argumentsAt g t n r
+unfolding argumentsAt
+arguments-behind f g t zero r same = refl
+arguments-behind f g t (suc n) r same =
+    rw (same r (omega arith), arguments-behind f g t n (r + rowsAt t r) (λ p l. same p (omega arith)))
+
+-- the tree at a row is its root and the trees at its operands' rows, in every table and at every row
+pub tree-at : (c q : Bytes) (t : List ℕ) (r : ℕ) → treeAt c q t r ≡ treeBy (treeAt c q t) c q t r
+unfolding treeAt
+tree-at c q t r = behind-step (λ f. treeBy f c q t) (star 0) (length t)
+    (λ f g r same. tree-same f g c q t r (arguments-behind f g t (operandsAt t r) (suc r)
+    (λ p l. same p (omega arith)))) (λ f r h. tree-outside f c q t r h) r
 
 pub inside : (t : List ℕ) (r k : ℕ) → (at t r k ≡ 0 → ⊥) → rowSize * r + k < length t
 inside t r k ne = pick (ltb (rowSize * r + k) (length t)) refl

@@ -1,5 +1,5 @@
 -- What is read back from the rows of an expression is the expression.
-use Prim.Native.Nat.{ℕ, zero, suc, _+_, _*_, _-_, _/_, _%_, _^_, _≤_, _<_}
+use Prim.Native.Nat.{ℕ, suc, _+_, _*_, _-_, _/_, _%_, _^_, _≤_, _<_}
 use native.Mathlib.Omega.{arith}
 use native.Mathlib.Nat.{add-zero, mod-add-div'}
 use mathlib.Core.Path.{_≡_, refl, sym, ap, _∙_}
@@ -18,9 +18,11 @@ use Rattle.rules.specs.Ast.{Expr, star, column, literal, call, unary, binary, i
 use Rattle.rules.specs.ReadExpression.{Head, starHead, isHead, columnHead, valueHead, callHead, unaryHead, binaryHead}
 use Rattle.numbers.specs.Kept.{sets-before}
 use Rattle.literal.specs.Bits.{signed}
-use Rattle.ast.specs.Table.{at, rowsAt, coded, unaryAt, binaryAt, integerAt, isOne, valueAt, argumentsAt, treeBy, treeAt}
+use Rattle.ast.specs.Table.{rowSize, at, rowsAt, coded, unaryAt, binaryAt, integerAt, isOne, valueAt, argumentsAt}
+use Rattle.ast.specs.Table.{treeBy, treeAt}
+use Rattle.ast.specs.Operands.{tree-at}
 use Rattle.ast.specs.Encode.{integerBits, valueNumbers, headNumbers, isNumbers, rowOf, countOf, encode, encodeAll, encode-length, three}
-use Rattle.ast.specs.Fits.{WordFits, ValueFits, ColumnFits, Deeper, Fits, FitsAll}
+use Rattle.ast.specs.Fits.{WordFits, ValueFits, ColumnFits, Fits, FitsAll}
 
 -- NUMBERS THAT STAND IN A TABLE
 -- these numbers stand in a table from a position on
@@ -56,18 +58,20 @@ pub record Row (t : List ℕ) (r k l n o a b x y : ℕ) : Type 0 where
   pub third : at t r 6 ≡ x
   pub fourth : at t r 7 ≡ y
 
-row-stands : (t rest : List ℕ) (r k l n o a b x y : ℕ) → Stand t (8 * r) (k ∷ l ∷ n ∷ o ∷ a ∷ b ∷ x ∷ y ∷ rest) → Row t r k l n o a b x y × Stand t (8 * suc r) rest
+pub row-stands : (t rest : List ℕ) (r k l n o a b x y : ℕ)
+    → Stand t (rowSize * r) (k ∷ l ∷ n ∷ o ∷ a ∷ b ∷ x ∷ y ∷ rest)
+    → Row t r k l n o a b x y × Stand t (rowSize * suc r) rest
 unfolding Stand at
 row-stands t rest r k l n o a b x y h =
-    let e0 : 8 * r + 0 ≡ 8 * r = omega arith in
-    let e1 : 8 * r + 1 ≡ suc (8 * r) = omega arith in
-    let e2 : 8 * r + 2 ≡ suc (suc (8 * r)) = omega arith in
-    let e3 : 8 * r + 3 ≡ suc (suc (suc (8 * r))) = omega arith in
-    let e4 : 8 * r + 4 ≡ suc (suc (suc (suc (8 * r)))) = omega arith in
-    let e5 : 8 * r + 5 ≡ suc (suc (suc (suc (suc (8 * r))))) = omega arith in
-    let e6 : 8 * r + 6 ≡ suc (suc (suc (suc (suc (suc (8 * r)))))) = omega arith in
-    let e7 : 8 * r + 7 ≡ suc (suc (suc (suc (suc (suc (suc (8 * r))))))) = omega arith in
-    let e8 : 8 * suc r ≡ suc (suc (suc (suc (suc (suc (suc (suc (8 * r)))))))) = omega arith in (
+    let e0 : rowSize * r + 0 ≡ rowSize * r = omega arith in
+    let e1 : rowSize * r + 1 ≡ suc (rowSize * r) = omega arith in
+    let e2 : rowSize * r + 2 ≡ suc (suc (rowSize * r)) = omega arith in
+    let e3 : rowSize * r + 3 ≡ suc (suc (suc (rowSize * r))) = omega arith in
+    let e4 : rowSize * r + 4 ≡ suc (suc (suc (suc (rowSize * r)))) = omega arith in
+    let e5 : rowSize * r + 5 ≡ suc (suc (suc (suc (suc (rowSize * r))))) = omega arith in
+    let e6 : rowSize * r + 6 ≡ suc (suc (suc (suc (suc (suc (rowSize * r)))))) = omega arith in
+    let e7 : rowSize * r + 7 ≡ suc (suc (suc (suc (suc (suc (suc (rowSize * r))))))) = omega arith in
+    let e8 : rowSize * suc r ≡ suc (suc (suc (suc (suc (suc (suc (suc (rowSize * r)))))))) = omega arith in (
       record {
         kind = rw e0 (h .0);
         line = rw e1 (h .1 .0);
@@ -147,7 +151,7 @@ value-back c q (text w) k a b f e =
 -- TREES
 module _ (t : List ℕ) where
   -- how many rows a tree has
-  rows-back : (e : Expr) (r : ℕ) → Stand t (8 * r) (encode e) → rowsAt t r ≡ size e
+  rows-back : (e : Expr) (r : ℕ) → Stand t (rowSize * r) (encode e) → rowsAt t r ≡ size e
   unfolding rowsAt encode rowOf headNumbers isNumbers size
   rows-back (star l) r s = row-stands t _ r _ _ _ _ _ _ _ _ s .0 .rows
   rows-back (column l none n) r s = row-stands t _ r _ _ _ _ _ _ _ _ s .0 .rows
@@ -159,54 +163,75 @@ module _ (t : List ℕ) where
   rows-back (is l a v) r s = row-stands t _ r _ _ _ _ _ _ _ _ (rw (three v .is) at s) .0 .rows
 
   -- the tree behind the one at a row
-  next-stands : (a : Expr) (rest : List ℕ) (r : ℕ) → Stand t (8 * r) (encode a ++ rest) → Stand t (8 * r) (encode a) × Stand t (8 * (r + rowsAt t r)) rest
+  next-stands : (a : Expr) (rest : List ℕ) (r : ℕ) → Stand t (rowSize * r) (encode a ++ rest)
+      → Stand t (rowSize * r) (encode a) × Stand t (rowSize * (r + rowsAt t r)) rest
   next-stands a rest r s =
-      let w = stand-append t (encode a) rest (8 * r) s in
-      let e : 8 * r + length (encode a) ≡ 8 * (r + rowsAt t r) = omega (arith, encode-length a, rows-back a r (w .0)) in
+      let w = stand-append t (encode a) rest (rowSize * r) s in
+      let e : rowSize * r + length (encode a) ≡ rowSize * (r + rowsAt t r) =
+      omega (arith, encode-length a, rows-back a r (w .0)) in
       (w .0, rw e at (w .1))
 
 module _ (c q : Bytes) (t : List ℕ) where
-  column-back : (f : ℕ → Expr) (l : ℕ) (w : Option Word) (n : Word) (r : ℕ) → ColumnFits c q w n → Stand t (8 * r) (encode (column l w n)) → treeBy f c q t r ≡ column l w n
+  column-back : (f : ℕ → Expr) (l : ℕ) (w : Option Word) (n : Word) (r : ℕ) → ColumnFits c q w n
+      → Stand t (rowSize * r) (encode (column l w n)) → treeBy f c q t r ≡ column l w n
   unfolding encode rowOf headNumbers treeBy coded ColumnFits WordFits
   column-back f l none n r g s = let w = row-stands t _ r _ _ _ _ _ _ _ _ s .0 in rw (w .kind, w .line, w .first, w .second, g)
   column-back f l (some m) n r g s = let w = row-stands t _ r _ _ _ _ _ _ _ _ s .0 in rw (w .kind, w .line, w .first, w .second, w .third, w .fourth, g .0, g .1)
 
-  literal-back : (f : ℕ → Expr) (l : ℕ) (v : Value) (r : ℕ) → ValueFits c q v → Stand t (8 * r) (encode (literal l v)) → treeBy f c q t r ≡ literal l v
+  literal-back : (f : ℕ → Expr) (l : ℕ) (v : Value) (r : ℕ) → ValueFits c q v
+      → Stand t (rowSize * r) (encode (literal l v)) → treeBy f c q t r ≡ literal l v
   unfolding encode rowOf headNumbers treeBy coded
   literal-back f l v r g s =
       let w = row-stands t _ r _ _ _ _ _ _ _ _ (rw (three v .is) at s) .0 in
       rw (w .kind, w .line, w .code, w .first, w .second, value-back c q v _ _ _ g (three v .is))
 
   mutual
-    unfolding encode encodeAll rowOf headNumbers isNumbers treeAt treeBy coded Fits FitsAll Deeper WordFits argumentsAt countOf
+    unfolding encode encodeAll rowOf headNumbers isNumbers treeBy coded Fits FitsAll WordFits argumentsAt countOf
 
-    pub read-back : (e : Expr) (d r : ℕ) → Fits c q e d → Stand t (8 * r) (encode e) → treeAt c q t d r ≡ e
-    read-back (star l) zero r f s = absurd f
-    read-back (star l) (suc d) r f s = let w = row-stands t _ r _ _ _ _ _ _ _ _ s .0 in rw (w .kind, w .line)
-    read-back (column l m n) zero r f s = absurd f
-    read-back (column l m n) (suc d) r f s = column-back (treeAt c q t d) l m n r f s
-    read-back (literal l v) zero r f s = absurd f
-    read-back (literal l v) (suc d) r f s = literal-back (treeAt c q t d) l v r f s
-    read-back (call l n as′) zero r f s = absurd f
-    read-back (call l n as′) (suc d) r f s =
+    pub read-back : (e : Expr) (r : ℕ) → Fits c q e → Stand t (rowSize * r) (encode e) → treeAt c q t r ≡ e
+    read-back (star l) r f s = let w = row-stands t _ r _ _ _ _ _ _ _ _ s .0 in tree-at c q t r ∙ rw (w .kind, w .line)
+    read-back (column l m n) r f s = tree-at c q t r ∙ column-back (treeAt c q t) l m n r f s
+    read-back (literal l v) r f s = tree-at c q t r ∙ literal-back (treeAt c q t) l v r f s
+    read-back (call l n as′) r f s =
         let w = row-stands t _ r _ _ _ _ _ _ _ _ s in
-        rw (w .0 .kind, w .0 .line, w .0 .code, w .0 .first, w .0 .second, f .0, read-all as′ d (suc r) (f .1) (w .1))
-    read-back (unary l o a) zero r f s = absurd f
-    read-back (unary l o a) (suc d) r f s =
+        tree-at c q t r ∙ rw (
+          w .0 .kind,
+          w .0 .line,
+          w .0 .code,
+          w .0 .first,
+          w .0 .second,
+          f .0,
+          read-all as′ (suc r) (f .1) (w .1),
+        )
+    read-back (unary l o a) r f s =
         let w = row-stands t _ r _ _ _ _ _ _ _ _ s in
-        rw (w .0 .kind, w .0 .line, w .0 .code, unary-back o, read-back a d (suc r) f (w .1))
-    read-back (binary l o a b) zero r f s = absurd f
-    read-back (binary l o a b) (suc d) r f s =
+        tree-at c q t r ∙ rw (w .0 .kind, w .0 .line, w .0 .code, unary-back o, read-back a (suc r) f (w .1))
+    read-back (binary l o a b) r f s =
         let w = row-stands t _ r _ _ _ _ _ _ _ _ s in
         let n = next-stands t a (encode b) (suc r) (w .1) in
-        rw (w .0 .kind, w .0 .line, w .0 .code, binary-back o, read-back a d (suc r) (f .0) (n .0), read-back b d (suc r + rowsAt t (suc r)) (f .1) (n .1))
-    read-back (is l a v) zero r f s = absurd f
-    read-back (is l a v) (suc d) r f s =
+        tree-at c q t r ∙ rw (
+          w .0 .kind,
+          w .0 .line,
+          w .0 .code,
+          binary-back o,
+          read-back a (suc r) (f .0) (n .0),
+          read-back b (suc r + rowsAt t (suc r)) (f .1) (n .1),
+        )
+    read-back (is l a v) r f s =
         let w = row-stands t _ r _ _ _ _ _ _ _ _ (rw (three v .is) at s) in
-        rw (w .0 .kind, w .0 .line, w .0 .code, w .0 .first, w .0 .second, value-back c q v _ _ _ (f .1) (three v .is), read-back a d (suc r) (f .0) (w .1))
+        tree-at c q t r ∙ rw (
+          w .0 .kind,
+          w .0 .line,
+          w .0 .code,
+          w .0 .first,
+          w .0 .second,
+          value-back c q v _ _ _ (f .1) (three v .is),
+          read-back a (suc r) (f .0) (w .1),
+        )
 
-    pub read-all : (as′ : Exprs) (d r : ℕ) → FitsAll c q as′ d → Stand t (8 * r) (encodeAll as′) → argumentsAt (treeAt c q t d) t (countOf as′) r ≡ as′
-    read-all nil d r f s = refl
-    read-all (cons a as′) d r f s =
+    pub read-all : (as′ : Exprs) (r : ℕ) → FitsAll c q as′ → Stand t (rowSize * r) (encodeAll as′)
+        → argumentsAt (treeAt c q t) t (countOf as′) r ≡ as′
+    read-all nil r f s = refl
+    read-all (cons a as′) r f s =
         let n = next-stands t a (encodeAll as′) r s in
-        rw (read-back a d r (f .0) (n .0), read-all as′ d (r + rowsAt t r) (f .1) (n .1))
+        rw (read-back a r (f .0) (n .0), read-all as′ (r + rowsAt t r) (f .1) (n .1))

@@ -12,6 +12,7 @@ use Rattle.rules.specs.Ast.{Exprs, sizeAll}
 use Rattle.rules.specs.Reader.{Place, Read}
 use Rattle.text.specs.Reading.{place}
 use Rattle.text.specs.Answers.{wrongAt, limitAt}
+use Rattle.ast.specs.Table.{rowSize}
 use Rattle.ast.specs.declared.reading.Read as Rd
 use Rattle.ast.specs.declared.reading.Read.the-variants as R
 use Rattle.ast.specs.Encode.{isNumbers, rowOf, encodeAll}
@@ -43,11 +44,11 @@ Given m H t p l c k (R.Done p′ l′ c′) = Took m (H c′) t p l c k p′ l�
 Given m H t p l c k (R.Wrong x) = m (here t p l c k) ≡ wrongAt statement x
 Given m H t p l c k (R.Limit x) = m (here t p l c k) ≡ limitAt statement x
 
--- the rows from c to c′ are those of these expressions, which are at most d deep, and nothing else was written
-pub record Rows (t : Bytes) (c : ℕ) (cells cells′ : List ℕ) (d c′ : ℕ) (es : Exprs) : Type 0 where
-  pub written : cells′ ≡ sets cells (8 * c) (encodeAll es)
+-- the rows from c to c′ are those of these expressions, and nothing else was written
+pub record Rows (t : Bytes) (c : ℕ) (cells cells′ : List ℕ) (c′ : ℕ) (es : Exprs) : Type 0 where
+  pub written : cells′ ≡ sets cells (rowSize * c) (encodeAll es)
   pub rows : c′ ≡ c + sizeAll es
-  pub fits : (b : Bytes) → FitsAll b t es d
+  pub fits : (b : Bytes) → FitsAll b t es
 
 -- the first n numbers are as they were
 unfoldable pub Below : ℕ → List ℕ → List ℕ → Type 0
@@ -55,6 +56,6 @@ Below n s s′ = (i : ℕ) → i < n → getD s′ i 0 ≡ getD s i 0
 
 -- the row c of an `is` at line l, whose rows end before d, with the literal v
 pub record IsRow (t : Bytes) (c d l : ℕ) (cells cells′ : List ℕ) (d′ : ℕ) (v : Value) : Type 0 where
-  pub written : cells′ ≡ sets cells (8 * c) (rowOf l (d - c) (isNumbers v))
+  pub written : cells′ ≡ sets cells (rowSize * c) (rowOf l (d - c) (isNumbers v))
   pub rows : d′ ≡ d
   pub fits : (b : Bytes) → ValueFits b t v

@@ -9,7 +9,7 @@ use lib.Seq.{sets, getD-set-other, length-sets}
 use Rattle.rules.specs.Limits.{mostCells}
 use Rattle.rules.specs.Lists.{Bytes}
 use Rattle.rules.specs.Ast.{Expr, Exprs, nil, cons, sizeAll}
-use Rattle.ast.specs.Table.{argumentsAt, treeAt}
+use Rattle.ast.specs.Table.{rowSize, tableSize, argumentsAt, treeAt}
 use Rattle.ast.specs.Encode.{countOf, encode, encodeAll, encode-all-length}
 use Rattle.ast.specs.Fits.{FitsAll}
 use Rattle.ast.specs.ReadBack.{Stand, stand-sets, read-back, read-all}
@@ -39,44 +39,55 @@ below-sets n s i [] l = below-refl n s
 below-sets n s i (x ∷ xs) l = below-trans n s (set s i x) _ (below-set n s i x l) (below-sets n (set s i x) (suc i) xs (omega arith))
 
 -- what stands below is kept
-stand-below : (xs : List ℕ) (n : ℕ) (s s′ : List ℕ) (i : ℕ) → i + length xs ≤ n → Below n s s′ → Stand s i xs → Stand s′ i xs
+pub stand-below : (xs : List ℕ) (n : ℕ) (s s′ : List ℕ) (i : ℕ) → i + length xs ≤ n → Below n s s′ → Stand s i xs
+    → Stand s′ i xs
 unfolding Stand Below
 stand-below [] n s s′ i l f h = tt
 stand-below (x ∷ xs) n s s′ i l f h = (f i (omega arith) ∙ h .0, stand-below xs n s s′ (suc i) (omega arith) f (h .1))
 
 -- ONE RUN BEHIND ANOTHER
-pub rows-none : {t : Bytes} {c d : ℕ} (s : List ℕ) → Rows t c s s d c nil
+pub rows-none : {t : Bytes} {c : ℕ} (s : List ℕ) → Rows t c s s c nil
 unfolding encodeAll sizeAll FitsAll
 rows-none {c = c} s = record { written = refl; rows = sym (add-zero c); fits = λ b. tt }
 
-pub rows-join : {t : Bytes} {c c₁ c₂ d : ℕ} {s s₁ s₂ : List ℕ} {as′ bs : Exprs} → Rows t c s s₁ d c₁ as′ → Rows t c₁ s₁ s₂ d c₂ bs → Rows t c s s₂ d c₂ (joined as′ bs)
-rows-join {t} {c} {c₁} {d = d} {s = s} {as′ = as′} {bs = bs} f g =
-    let e : 8 * c + length (encodeAll as′) ≡ 8 * c₁ = omega (arith, encode-all-length as′, f .rows) in
+pub rows-join : {t : Bytes} {c c₁ c₂ : ℕ} {s s₁ s₂ : List ℕ} {as′ bs : Exprs} → Rows t c s s₁ c₁ as′
+    → Rows t c₁ s₁ s₂ c₂ bs → Rows t c s s₂ c₂ (joined as′ bs)
+rows-join {t} {c} {c₁} {s = s} {as′ = as′} {bs = bs} f g =
+    let e : rowSize * c + length (encodeAll as′) ≡ rowSize * c₁ = omega (arith, encode-all-length as′, f .rows) in
     record {
-      written = rw (joined-encode as′ bs, sets-append (encodeAll as′) (encodeAll bs) s (8 * c), e, ← f .written) (g .written);
+      written = rw (joined-encode as′ bs, sets-append (encodeAll as′) (encodeAll bs) s (rowSize * c), e, ← f .written)
+          (g .written);
       rows = omega (arith, joined-size as′ bs, f .rows, g .rows);
-      fits = λ b. joined-fits b t d as′ bs (f .fits b) (g .fits b);
+      fits = λ b. joined-fits b t as′ bs (f .fits b) (g .fits b);
     }
 
 -- READ BACK
-pub rows-length : {t : Bytes} {c d c′ : ℕ} {cells cells′ : List ℕ} {es : Exprs} → Rows t c cells cells′ d c′ es → length cells′ ≡ length cells
-rows-length {c = c} {cells = cells} {es = es} r = ap length (r .written) ∙ length-sets cells (8 * c) (encodeAll es)
+pub rows-length : {t : Bytes} {c c′ : ℕ} {cells cells′ : List ℕ} {es : Exprs} → Rows t c cells cells′ c′ es
+    → length cells′ ≡ length cells
+rows-length {c = c} {cells = cells} {es = es} r =
+    ap length (r .written) ∙ length-sets cells (rowSize * c) (encodeAll es)
 
-pub rows-kept : {t : Bytes} {c d c′ : ℕ} {cells cells′ : List ℕ} {es : Exprs} → Rows t c cells cells′ d c′ es → Below (8 * c) cells cells′
-rows-kept {c = c} {cells = cells} {es = es} r = rw (r .written) (below-sets (8 * c) cells (8 * c) (encodeAll es) (omega arith))
+pub rows-kept : {t : Bytes} {c c′ : ℕ} {cells cells′ : List ℕ} {es : Exprs} → Rows t c cells cells′ c′ es
+    → Below (rowSize * c) cells cells′
+rows-kept {c = c} {cells = cells} {es = es} r =
+    rw (r .written) (below-sets (rowSize * c) cells (rowSize * c) (encodeAll es) (omega arith))
 
-module _ {t : Bytes} {c d c′ : ℕ} {cells cells′ : List ℕ} {es : Exprs} (r : Rows t c cells cells′ d c′ es) (m : length cells ≡ 4096) (h : c′ ≤ mostCells)
-    (cells″ : List ℕ) (k : Below (8 * c′) cells′ cells″) where
-  stands : Stand cells″ (8 * c) (encodeAll es)
+module _ {t : Bytes} {c c′ : ℕ} {cells cells′ : List ℕ} {es : Exprs} (r : Rows t c cells cells′ c′ es)
+    (m : length cells ≡ tableSize) (h : c′ ≤ mostCells)
+    (cells″ : List ℕ) (k : Below (rowSize * c′) cells′ cells″) where
+  stands : Stand cells″ (rowSize * c) (encodeAll es)
   stands =
-      let e : 8 * c + length (encodeAll es) ≡ 8 * c′ = omega (arith, encode-all-length es, r .rows) in
-      let w : Stand cells′ (8 * c) (encodeAll es) = rw (r .written) (stand-sets (encodeAll es) cells (8 * c) (omega (arith, e, h, m))) in
-      stand-below (encodeAll es) (8 * c′) cells′ cells″ (8 * c) (omega (arith, e)) k w
+      let e : rowSize * c + length (encodeAll es) ≡ rowSize * c′ = omega (arith, encode-all-length es, r .rows) in
+      let w : Stand cells′ (rowSize * c) (encodeAll es) =
+      rw (r .written) (stand-sets (encodeAll es) cells (rowSize * c) (omega (arith, e, h, m))) in
+      stand-below (encodeAll es) (rowSize * c′) cells′ cells″ (rowSize * c) (omega (arith, e)) k w
 
-  pub rows-back : (b : Bytes) → argumentsAt (treeAt b t cells″ d) cells″ (countOf es) c ≡ es
-  rows-back b = read-all b t cells″ es d c (r .fits b) stands
+  pub rows-back : (b : Bytes) → argumentsAt (treeAt b t cells″) cells″ (countOf es) c ≡ es
+  rows-back b = read-all b t cells″ es c (r .fits b) stands
 
-pub tree-back : {t : Bytes} {c d c′ : ℕ} {cells cells′ : List ℕ} {e : Expr} → Rows t c cells cells′ d c′ (cons e nil) → length cells ≡ 4096 → c′ ≤ mostCells
-    → (cells″ : List ℕ) → Below (8 * c′) cells′ cells″ → (b : Bytes) → treeAt b t cells″ d c ≡ e
+pub tree-back : {t : Bytes} {c c′ : ℕ} {cells cells′ : List ℕ} {e : Expr} → Rows t c cells cells′ c′ (cons e nil)
+    → length cells ≡ tableSize → c′ ≤ mostCells
+    → (cells″ : List ℕ) → Below (rowSize * c′) cells′ cells″ → (b : Bytes) → treeAt b t cells″ c ≡ e
 unfolding encodeAll FitsAll
-tree-back {t} {c} {d} {e = e} r m h cells″ k b = read-back b t cells″ e d c (r .fits b .0) (rw (append-nil (encode e)) at (stands r m h cells″ k))
+tree-back {t} {c} {e = e} r m h cells″ k b =
+    read-back b t cells″ e c (r .fits b .0) (rw (append-nil (encode e)) at (stands r m h cells″ k))

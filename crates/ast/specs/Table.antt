@@ -12,17 +12,31 @@ use mathlib.Core.Bool.{Bool, true, false}
 use mathlib.Core.List.{List, [], _∷_}
 use mathlib.Core.Option.{Option, none, some}
 use lib.Dec.{eqb, ltb}
-use lib.ListN.{getD}
+use lib.ListN.{length, getD}
 use lib.IntN.{ℤ, pos, negsuc}
+use Rattle.rules.specs.Limits.{mostCells, mostColumns}
 use Rattle.rules.specs.Lists.{Bytes}
 use Rattle.rules.specs.Lines.{Word}
 use Rattle.rules.specs.Places.{wordAt}
 use Rattle.rules.specs.Schema.{Value, null, bool, int, float, text}
 use Rattle.rules.specs.Ast.{Unary, not, fact, ident, neg, sqrt, Plain, and, or, eq, gt, lt, add, div, pow, mul, rem, sub, like, Binary, plain, ge, le, ne}
 use Rattle.rules.specs.Ast.{Expr, star, column, literal, call, unary, binary, is, Exprs, nil, cons}
+use Rattle.ast.specs.Behind.{behind}
 
+-- numbers a row
 abbrev pub rowSize : ℕ
 rowSize = 8
+
+-- rows for the statement's expressions, and behind those for the columns that its stars stand for
+abbrev pub statementRows : ℕ
+statementRows = mostCells
+
+abbrev pub starredRows : ℕ
+starredRows = mostColumns
+
+-- numbers of the whole table
+abbrev pub tableSize : ℕ
+tableSize = rowSize * (statementRows + starredRows)
 
 -- the number at a place of a row
 unfoldable pub at : List ℕ → ℕ → ℕ → ℕ
@@ -74,7 +88,14 @@ treeBy f c q t r = coded (star (at t r 1)) (
     ∷ []
     ) 1 (at t r 0)
 
--- the tree at a row, at most d deep; a star where it is deeper
-unfoldable pub treeAt : Bytes → Bytes → List ℕ → ℕ → ℕ → Expr
-treeAt c q t zero r = star 0
-treeAt c q t (suc d) r = treeBy (treeAt c q t d) c q t r
+-- its root alone, with a star for each operand
+unfoldable pub starAt : ℕ → Expr
+starAt r = star 0
+
+unfoldable pub rootAt : Bytes → Bytes → List ℕ → ℕ → Expr
+rootAt c q t r = treeBy starAt c q t r
+
+-- the tree at a row: its operands are the trees at rows behind it, and past the end of the table stands a star. The law
+-- is treeAt c q t r ≡ treeBy (treeAt c q t) c q t r (Operands, `tree-at`)
+unfoldable pub treeAt : Bytes → Bytes → List ℕ → ℕ → Expr
+treeAt c q t r = behind (λ f. treeBy f c q t) (star 0) (length t) r

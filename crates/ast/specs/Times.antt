@@ -37,10 +37,10 @@ unfolding joined sizeAll
 joined-size nil bs = omega arith
 joined-size (cons a as′) bs = omega (arith, joined-size as′ bs)
 
-pub joined-fits : (b t : Bytes) (d : ℕ) (as′ bs : Exprs) → FitsAll b t as′ d → FitsAll b t bs d → FitsAll b t (joined as′ bs) d
+pub joined-fits : (b t : Bytes) (as′ bs : Exprs) → FitsAll b t as′ → FitsAll b t bs → FitsAll b t (joined as′ bs)
 unfolding joined FitsAll
-joined-fits b t d nil bs f g = g
-joined-fits b t d (cons a as′) bs f g = (f .0, joined-fits b t d as′ bs (f .1) g)
+joined-fits b t nil bs f g = g
+joined-fits b t (cons a as′) bs f g = (f .0, joined-fits b t as′ bs (f .1) g)
 
 -- expressions put before those that are read
 unfoldable pub before : Exprs → Answer (Exprs × Place) → Answer (Exprs × Place)

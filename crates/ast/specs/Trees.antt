@@ -10,12 +10,13 @@ use borrow.Author.Tests.{eqb-true, eqb-false}
 use Rattle.rules.specs.Lists.{Bytes}
 use Rattle.rules.specs.Ast.{Expr, star, column, literal, call, unary, binary, is}
 use Rattle.rules.specs.BuildAggregate.{isAggregate, collect, collectAll}
-use Rattle.ast.specs.Table.{rowSize, rowsAt, argumentsAt, treeBy, treeAt}
+use Rattle.ast.specs.Behind.{behind, behind-step}
+use Rattle.ast.specs.Table.{rowSize, rowsAt, argumentsAt, starAt, rootAt, treeAt}
 use Rattle.ast.specs.Codes.{orLeast}
-use Rattle.ast.specs.Operands.{operandsOf, kindAt, operandsAt, operands-at, inside}
-use Rattle.ast.specs.Walk.{isAggregateCall, no-call, call-at}
-use Rattle.ast.specs.Depth.{depth, depthAll, operands-deep, deeper}
-use Rattle.ast.specs.Collect.{rowsOf, collectRows}
+use Rattle.ast.specs.Operands.{operandsOf, kindAt, operandsAt, operands-at, inside, tree-outside}
+use Rattle.ast.specs.Operands.{operands-outside, tree-at}
+use Rattle.ast.specs.Walk.{isAggregateCall, no-call, call-root}
+use Rattle.ast.specs.Collect.{rowsOf, collectBy, collectRows}
 
 pick-call : (b : Bool) (x y : List Expr) → b ≡ true → elim b [ true ↦ x | false ↦ y ] ≡ x
 pick-call true x y h = refl
@@ -45,23 +46,62 @@ collect-other (unary l o a) h = sym (append-nil _)
 collect-other (binary l o a b) h = rw (append-nil (collect b))
 collect-other (is l a v) h = sym (append-nil _)
 
-module _ (c q : Bytes) (t : List ℕ) where
-  collect-all : (f : ℕ → Expr) (h : ℕ → Expr) (g : ℕ → List ℕ) (d : ℕ) → ((r : ℕ) → depth (h r) ≤ d → map f (g r) ≡ collect (h r))
-      → (n r : ℕ) → depthAll (argumentsAt h t n r) ≤ d → map f (rowsOf g t n r) ≡ collectAll (argumentsAt h t n r)
-  unfolding rowsOf argumentsAt collect depth
-  collect-all f h g d each zero r l = refl
-  collect-all f h g d each (suc n) r l = map-append f (g r) _ ∙ rw (each r (omega arith), collect-all f h g d each n (r + rowsAt t r) (omega arith))
+-- of the rows that operands give from row r on, only what is given from r on matters
+rows-behind : (f g : ℕ → List ℕ) (t : List ℕ) (n r : ℕ) → ((p : ℕ) → r ≤ p → f p ≡ g p)
+    → rowsOf f t n r ≡ rowsOf g t n r
+unfolding rowsOf
+rows-behind f g t zero r same = refl
+rows-behind f g t (suc n) r same =
+    rw (same r (omega arith), rows-behind f g t n (r + rowsAt t r) (λ p l. same p (omega arith)))
 
-  -- read at least as deep as the tree is
-  pub collect-trees : (d e r : ℕ) → depth (treeAt c q t d r) ≤ d → d ≤ e → map (treeAt c q t e) (collectRows c q t d r) ≡ collect (treeAt c q t d r)
-  unfolding treeAt collectRows depth
-  collect-trees zero e r h l = absurd (omega arith)
-  collect-trees (suc d) e r h l = pick (isAggregateCall (treeAt c q t 1 r)) refl (collect-all (treeAt c q t e) (treeAt c q t d) (collectRows c q t d) d (λ p k. collect-trees d e p k (omega arith)) (operandsAt t r) (suc r) (operands-deep (treeAt c q t d) c q t d r h))
+module _ (c q : Bytes) (t : List ℕ) where
+  -- outside the table stands no call
+  call-outside : (r : ℕ) → length t ≤ r → isAggregateCall (rootAt c q t r) ≡ false
+  unfolding rootAt isAggregateCall
+  call-outside r h = ap isAggregateCall (tree-outside starAt c q t r h)
+
+  rows-outside : (g : ℕ → List ℕ) (r : ℕ) → length t ≤ r → collectBy g c q t r ≡ []
+  unfolding collectBy rowsOf
+  rows-outside g r h = rw (call-outside r h, collectBy, operands-outside t r h)
+
+  -- the rows of the tree at a row, by those of its operands: in every table and at every row
+  pub rows-at : (r : ℕ) → collectRows c q t r ≡ collectBy (collectRows c q t) c q t r
+  unfolding collectRows collectBy
+  rows-at r = behind-step (λ g. collectBy g c q t) [] (length t)
+      (λ f g r same. ap (λ (x : List ℕ). elim (isAggregateCall (rootAt c q t r)) [ true ↦ r ∷ [] | false ↦ x ])
+      (rows-behind f g t (operandsAt t r) (suc r) (λ p l. same p (omega arith))))
+      (λ g r h. rows-outside g r h)
+      r
+
+  collect-all : (f h : ℕ → Expr) (g : ℕ → List ℕ) (n r : ℕ) → ((p : ℕ) → r ≤ p → map f (g p) ≡ collect (h p))
+      → map f (rowsOf g t n r) ≡ collectAll (argumentsAt h t n r)
+  unfolding rowsOf argumentsAt collect
+  collect-all f h g zero r each = refl
+  collect-all f h g (suc n) r each = map-append f (g r) _
+      ∙ rw (each r (omega arith), collect-all f h g n (r + rowsAt t r) (λ p l. each p (omega arith)))
+
+  trees-by : (n r : ℕ) → length t ≤ n + r → map (treeAt c q t) (collectRows c q t r) ≡ collect (treeAt c q t r)
+  unfolding collect collectBy
+  trees-by zero r h = ap (map (treeAt c q t)) (rows-at r ∙ rows-outside (collectRows c q t) r (omega arith))
+      ∙ sym (ap collect (tree-at c q t r ∙ tree-outside (treeAt c q t) c q t r (omega arith)))
+  trees-by (suc n) r h = ap (map (treeAt c q t)) (rows-at r)
+      ∙ pick (isAggregateCall (rootAt c q t r)) refl
+      (collect-all (treeAt c q t) (treeAt c q t) (collectRows c q t) (operandsAt t r) (suc r)
+      (λ p l. trees-by n p (omega arith)))
     where
-      pick : (b : Bool) → isAggregateCall (treeAt c q t 1 r) ≡ b → map (treeAt c q t e) (rowsOf (collectRows c q t d) t (operandsAt t r) (suc r)) ≡ collectAll (argumentsAt (treeAt c q t d) t (operandsAt t r) (suc r))
-          → map (treeAt c q t e) (elim b [ true ↦ r ∷ [] | false ↦ rowsOf (collectRows c q t d) t (operandsAt t r) (suc r) ]) ≡ collect (treeBy (treeAt c q t d) c q t r)
-      pick true x m = ap (λ (a : Expr). a ∷ []) (deeper c q t (suc d) e r h l) ∙ sym (collect-call (treeBy (treeAt c q t d) c q t r) (call-at c q t r (treeAt c q t d) ∙ x))
-      pick false x m = m ∙ ap collectAll (sym (operands-at (treeAt c q t d) c q t r)) ∙ sym (collect-other (treeBy (treeAt c q t d) c q t r) (call-at c q t r (treeAt c q t d) ∙ x))
+      pick : (b : Bool) → isAggregateCall (rootAt c q t r) ≡ b
+          → map (treeAt c q t) (rowsOf (collectRows c q t) t (operandsAt t r) (suc r))
+          ≡ collectAll (argumentsAt (treeAt c q t) t (operandsAt t r) (suc r))
+          → map (treeAt c q t)
+          (elim b [ true ↦ r ∷ [] | false ↦ rowsOf (collectRows c q t) t (operandsAt t r) (suc r) ])
+          ≡ collect (treeAt c q t r)
+      pick true x m = sym (collect-call (treeAt c q t r) (call-root c q t r ∙ x))
+      pick false x m = m ∙ ap collectAll (sym (ap operandsOf (tree-at c q t r) ∙ operands-at (treeAt c q t) c q t r))
+          ∙ sym (collect-other (treeAt c q t r) (call-root c q t r ∙ x))
+
+  -- the trees at the rows are what the rules collect
+  pub collect-trees : (r : ℕ) → map (treeAt c q t) (collectRows c q t r) ≡ collect (treeAt c q t r)
+  collect-trees r = trees-by (length t) r (omega arith)
 
 -- INSIDE THE TABLE
 abbrev pub Inside : List ℕ → List ℕ → Type 0
@@ -77,7 +117,7 @@ row-inside t [] k h l = absurd (omega arith)
 row-inside t (r ∷ rs) zero h l = h .0
 row-inside t (r ∷ rs) (suc k) h l = row-inside t rs k (h .1) (omega arith)
 
-call-inside : (c q : Bytes) (t : List ℕ) (r : ℕ) → isAggregateCall (treeAt c q t 1 r) ≡ true → rowSize * r < length t
+call-inside : (c q : Bytes) (t : List ℕ) (r : ℕ) → isAggregateCall (rootAt c q t r) ≡ true → rowSize * r < length t
 unfolding kindAt orLeast
 call-inside c q t r h = pick (eqb (kindAt t r) 4) refl
   where
@@ -91,11 +131,19 @@ module _ (c q : Bytes) (t : List ℕ) where
   inside-all g each zero r = tt
   inside-all g each (suc n) r = inside-append t (g r) _ (each r) (inside-all g each n (r + rowsAt t r))
 
-  pub rows-inside : (d r : ℕ) → Inside t (collectRows c q t d r)
-  unfolding collectRows
-  rows-inside zero r = tt
-  rows-inside (suc d) r = pick (isAggregateCall (treeAt c q t 1 r)) refl (inside-all (collectRows c q t d) (rows-inside d) (operandsAt t r) (suc r))
+  inside-by : (n r : ℕ) → Inside t (behind (λ g. collectBy g c q t) [] n r)
+  unfolding behind collectBy
+  inside-by zero r = tt
+  inside-by (suc n) r = pick (isAggregateCall (rootAt c q t r)) refl
+      (inside-all (behind (λ g. collectBy g c q t) [] n) (inside-by n) (operandsAt t r) (suc r))
     where
-      pick : (b : Bool) → isAggregateCall (treeAt c q t 1 r) ≡ b → Inside t (rowsOf (collectRows c q t d) t (operandsAt t r) (suc r)) → Inside t (elim b [ true ↦ r ∷ [] | false ↦ rowsOf (collectRows c q t d) t (operandsAt t r) (suc r) ])
+      pick : (b : Bool) → isAggregateCall (rootAt c q t r) ≡ b
+          → Inside t (rowsOf (behind (λ g. collectBy g c q t) [] n) t (operandsAt t r) (suc r))
+          → Inside t
+          (elim b [ true ↦ r ∷ [] | false ↦ rowsOf (behind (λ g. collectBy g c q t) [] n) t (operandsAt t r) (suc r) ])
       pick true x h = (call-inside c q t r x, tt)
       pick false x h = h
+
+  pub rows-inside : (r : ℕ) → Inside t (collectRows c q t r)
+  unfolding collectRows
+  rows-inside r = inside-by (length t) r

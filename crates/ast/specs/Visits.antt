@@ -12,7 +12,8 @@ use Rattle.rules.specs.Ast.{Expr, star, column, literal, call, unary, binary, i
 use Rattle.rules.specs.Scope.{Scope}
 use Rattle.rules.specs.Hidden.{Hidden, Walk, whereTrue, whereFalse, visit, walk, walkAny}
 use Rattle.ast.specs.Table.{rowsAt, argumentsAt, treeAt}
-use Rattle.ast.specs.Operands.{operandsOf, kindOf, kindAt, operandsAt, kind-at, operands-at, tree-deep, arguments-none, arguments-more}
+use Rattle.ast.specs.Operands.{operandsOf, kindOf, kindAt, operandsAt, kind-at, operands-at, tree-at}
+use Rattle.ast.specs.Operands.{arguments-none, arguments-more}
 
 -- the operands in turn: until one walk answers true (a call's), or false
 unfoldable pub visited : Scope → Bool → Exprs → Hidden → Walk
@@ -40,10 +41,16 @@ walk-operands s (unary l o a) h = sym (whole _)
 walk-operands s (binary l o a b) h = ap (whereTrue (walk s a (visit s (binary l o a b) h))) (fun-ext (λ h₁. sym (whole (walk s b h₁))))
 walk-operands s (is l a v) h = sym (whole _)
 
--- in the table, below a depth other than 0
-pub walk-at : (c q : Bytes) (t : List ℕ) (d r : ℕ) (s : Scope) (h : Hidden) → (d ≡ 0 → ⊥)
-    → walk s (treeAt c q t d r) h ≡ visited s (eqb (kindAt t r) 4) (argumentsAt (treeAt c q t (d - 1)) t (operandsAt t r) (suc r)) (visit s (treeAt c q t d r) h)
-walk-at c q t d r s h ne = rw (tree-deep c q t d r ne) (walk-operands s _ h ∙ rw (kind-at (treeAt c q t (d - 1)) c q t r, operands-at (treeAt c q t (d - 1)) c q t r))
+-- in the table
+pub walk-at : (c q : Bytes) (t : List ℕ) (r : ℕ) (s : Scope) (h : Hidden)
+    → walk s (treeAt c q t r) h ≡ visited s (eqb (kindAt t r) 4) (argumentsAt (treeAt c q t) t (operandsAt t r) (suc r))
+    (visit s (treeAt c q t r) h)
+walk-at c q t r s h =
+    let e = tree-at c q t r in
+    walk-operands s (treeAt c q t r) h ∙ rw (
+      ap kindOf e ∙ kind-at (treeAt c q t) c q t r,
+      ap operandsOf e ∙ operands-at (treeAt c q t) c q t r,
+    )
 
 -- the end of the operands; the next of them, whose walk gave w
 module _ (f : ℕ → Expr) (t : List ℕ) (s : Scope) (n p : ℕ) (h : Hidden) where

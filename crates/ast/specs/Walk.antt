@@ -7,8 +7,8 @@ use Rattle.rules.specs.Lists.{Bytes, named, isSome}
 use Rattle.rules.specs.Places.{bytesAt, wordAt}
 use Rattle.rules.specs.Ast.{Expr, star, column, literal, call, unary, binary, is}
 use Rattle.rules.specs.BuildAggregate.{aggregates, isAggregate}
-use Rattle.ast.specs.Table.{at, treeBy, treeAt}
-use Rattle.ast.specs.Operands.{kindOf, cut, kindAt, kind-at, cut-at, tree-call}
+use Rattle.ast.specs.Table.{at, treeBy, starAt, rootAt, treeAt}
+use Rattle.ast.specs.Operands.{kindOf, cut, kindAt, kind-at, cut-at, tree-call, tree-at}
 
 unfoldable pub isAggregateCall : Expr → Bool
 isAggregateCall (star l) = false
@@ -41,13 +41,17 @@ cut-call (is l a v) = refl
 
 -- in the table
 module _ (c q : Bytes) (t : List ℕ) (r : ℕ) where
-  pub no-call : (kindAt t r ≡ 4 → ⊥) → isAggregateCall (treeAt c q t 1 r) ≡ false
-  unfolding treeAt
-  no-call h = only-calls _ (λ e. h (sym (kind-at (treeAt c q t 0) c q t r) ∙ e))
+  pub no-call : (kindAt t r ≡ 4 → ⊥) → isAggregateCall (rootAt c q t r) ≡ false
+  unfolding rootAt
+  no-call h = only-calls _ (λ e. h (sym (kind-at (starAt) c q t r) ∙ e))
 
-  pub call-named : kindAt t r ≡ 4 → isAggregateCall (treeAt c q t 1 r) ≡ isSome (named aggregates (bytesAt c q (at t r 4) (at t r 5)))
-  unfolding treeAt isAggregateCall isAggregate wordAt
-  call-named h = rw (tree-call (treeAt c q t 0) c q t r h)
+  pub call-named : kindAt t r ≡ 4 → isAggregateCall (rootAt c q t r)
+      ≡ isSome (named aggregates (bytesAt c q (at t r 4) (at t r 5)))
+  unfolding rootAt isAggregateCall isAggregate wordAt
+  call-named h = rw (tree-call (starAt) c q t r h)
 
-  pub call-at : (f : ℕ → Expr) → isAggregateCall (treeBy f c q t r) ≡ isAggregateCall (treeAt c q t 1 r)
+  pub call-at : (f : ℕ → Expr) → isAggregateCall (treeBy f c q t r) ≡ isAggregateCall (rootAt c q t r)
   call-at f = sym (cut-call _) ∙ ap isAggregateCall (cut-at f c q t r)
+
+  pub call-root : isAggregateCall (treeAt c q t r) ≡ isAggregateCall (rootAt c q t r)
+  call-root = ap isAggregateCall (tree-at c q t r) ∙ call-at (treeAt c q t)

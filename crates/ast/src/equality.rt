@@ -5,7 +5,7 @@ ghost use lib.Dec.{eqb};
 ghost use Rattle.rules.specs.Lists.{same};
 ghost use Rattle.rules.specs.Places.{bytesAt};
 ghost use Rattle.rules.specs.Equality.{sameValue, equal};
-ghost use Rattle.ast.specs.Table.{at, valueAt, treeAt};
+ghost use Rattle.ast.specs.Table.{at, valueAt, rootAt, treeAt};
 ghost use Rattle.ast.specs.Codes.{orLeast};
 use crate::rows::at;
 use crate::rows::kind;
@@ -91,7 +91,7 @@ fn same_literal(catalog: &[u8], statement: &[u8], table: &[u32], i: usize, j: us
 
 // Whether the trees at two rows are equal but for their operands, and have as many.
 fn same_root(catalog: &[u8], statement: &[u8], table: &[u32], i: usize, j: usize) -> bool
-    ensures { λ r. ⌜ r ≡ equal (treeAt (now (catalog .entry)) (now (statement .entry)) (now (table .entry)) 1 i) (treeAt (now (catalog .entry)) (now (statement .entry)) (now (table .entry)) 1 j) ⌝ }
+    ensures { λ r. ⌜ r ≡ equal (rootAt (now (catalog .entry)) (now (statement .entry)) (now (table .entry)) i) (rootAt (now (catalog .entry)) (now (statement .entry)) (now (table .entry)) j) ⌝ }
 {
     let k = kind(table, i);
     let l = kind(table, j);
@@ -120,20 +120,10 @@ fn same_root(catalog: &[u8], statement: &[u8], table: &[u32], i: usize, j: usize
     }
 }
 
-// Whether the trees at two rows are equal, each at most depth deep.
-pub fn equal(
-    catalog: &[u8],
-    statement: &[u8],
-    table: &[u32],
-    depth: u32,
-    i: usize,
-    j: usize,
-) -> bool
-    ensures { λ r. ⌜ r ≡ equal (treeAt (now (catalog .entry)) (now (statement .entry)) (now (table .entry)) depth i) (treeAt (now (catalog .entry)) (now (statement .entry)) (now (table .entry)) depth j) ⌝ }
+// Whether the trees at two rows are equal. An operand stands behind its record, so what is left of the table falls.
+pub fn equal(catalog: &[u8], statement: &[u8], table: &[u32], i: usize, j: usize) -> bool
+    ensures { λ r. ⌜ r ≡ equal (treeAt (now (catalog .entry)) (now (statement .entry)) (now (table .entry)) i) (treeAt (now (catalog .entry)) (now (statement .entry)) (now (table .entry)) j) ⌝ }
 {
-    if depth == 0 {
-        return true;
-    }
     if !same_root(catalog, statement, table, i, j) {
         return false;
     }
@@ -144,7 +134,7 @@ pub fn equal(
     let mut p = i + 1;
     let mut q = j + 1;
     while 0 < left {
-        if !equal(catalog, statement, table, depth - 1, p, q) {
+        if !equal(catalog, statement, table, p, q) {
             return false;
         }
         p = next(table, p);

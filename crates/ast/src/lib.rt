@@ -4,4 +4,5 @@ pub mod equality;
 mod heads;
 pub mod reading;
 pub mod rows;
+pub mod starred;
 pub mod walk;

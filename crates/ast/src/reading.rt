@@ -4,19 +4,18 @@ ghost use mathlib.Core.List.{List, [], _∷_};
 ghost use Prim.Native.Nat.{ℕ, _+_, _*_, _≤_, _<_};
 ghost use lib.ListN.{length};
 ghost use lib.Seq.{sets};
+ghost use Rattle.rules.specs.Limits.{mostCells};
 ghost use Rattle.rules.specs.Ast.{Exprs, cons, nil};
 ghost use Rattle.rules.specs.Reader.{literalHere};
 ghost use Rattle.rules.specs.ReadExpression.{deep, times, expression};
+ghost use Rattle.ast.specs.Table.{rowSize, statementRows, starredRows, tableSize};
 ghost use Rattle.ast.specs.Reading.{Position, Given, Rows, IsRow, here};
 use crate::heads::IS;
 use crate::heads::Row;
 use crate::heads::head;
 use crate::heads::literal_at;
-
-// Most expression records, and the numbers of the table that holds as many rows.
-pub const ROWS: u32 = 512;
-
-pub const NUMBERS: usize = 4096;
+use crate::rows::ROW_SIZE;
+use crate::rows::STATEMENT_ROWS;
 
 // Most levels of an expression, a leaf 1.
 const DEPTH: u32 = 32;
@@ -29,11 +28,11 @@ pub enum Read {
 }
 
 // The row c of a record: what it says, its line, and how many rows its tree has.
-fn put_row(cells: &mut [u32], c: u32, line: u32, rows: u32, h: Row)
-    requires { ⌜ (c < 512) × (length (now cells) ≡ 4096) ⌝ }
-    ensures { λ _. ⌜ now (cells .exit) ≡ sets (now (cells .entry)) (8 * c) (h .kind ∷ line ∷ rows ∷ h .code ∷ h .a ∷ h .b ∷ h .c ∷ h .d ∷ []) ⌝ }
+pub fn put_row(cells: &mut [u32], c: u32, line: u32, rows: u32, h: Row)
+    requires { ⌜ (c < statementRows + starredRows) × (length (now cells) ≡ tableSize) ⌝ }
+    ensures { λ _. ⌜ now (cells .exit) ≡ sets (now (cells .entry)) (rowSize * c) (h .kind ∷ line ∷ rows ∷ h .code ∷ h .a ∷ h .b ∷ h .c ∷ h .d ∷ []) ⌝ }
 {
-    let i = 8 * c as usize;
+    let i = ROW_SIZE * c as usize;
     cells[i] = h.kind;
     cells[i + 1] = line;
     cells[i + 2] = rows;
@@ -46,7 +45,7 @@ fn put_row(cells: &mut [u32], c: u32, line: u32, rows: u32, h: Row)
 
 // The literal at a position, behind the operand of an `is` at row c, whose rows end before d; and that row.
 fn read_is(t: &[u8], p: usize, l: u32, d: u32, c: u32, line: u32, cells: &mut [u32]) -> Read
-    requires { ⌜ Position (now t) p l d ⌝ ∗ ⌜ (c < d) × (length (now cells) ≡ 4096) ⌝ }
+    requires { ⌜ Position (now t) p l d ⌝ ∗ ⌜ (c < d) × (length (now cells) ≡ tableSize) ⌝ }
     ensures { λ r. ⌜ ((k : ℕ) → Given literalHere (IsRow (now (t .entry)) c d line (now (cells .entry)) (now (cells .exit))) (now (t .entry)) p l d k r) ⌝ }
 {
     let f = text::fields(t, p);
@@ -70,8 +69,8 @@ fn read_is(t: &[u8], p: usize, l: u32, d: u32, c: u32, line: u32, cells: &mut [u
 
 // n expressions in a row, at most `depth` deep.
 fn read_times(t: &[u8], p: usize, l: u32, c: u32, depth: u32, n: u32, cells: &mut [u32]) -> Read
-    requires { ⌜ Position (now t) p l c ⌝ ∗ ⌜ (depth ≤ 32) × (n ≤ 513) × (length (now cells) ≡ 4096) ⌝ }
-    ensures { λ r. ⌜ ((k : ℕ) → Given (times n (deep depth)) (Rows (now (t .entry)) c (now (cells .entry)) (now (cells .exit)) depth) (now (t .entry)) p l c k r) ⌝ }
+    requires { ⌜ Position (now t) p l c ⌝ ∗ ⌜ (depth ≤ 32) × (n ≤ mostCells + 1) × (length (now cells) ≡ tableSize) ⌝ }
+    ensures { λ r. ⌜ ((k : ℕ) → Given (times n (deep depth)) (Rows (now (t .entry)) c (now (cells .entry)) (now (cells .exit))) (now (t .entry)) p l c k r) ⌝ }
 {
     let mut q = p;
     let mut m = l;
@@ -99,8 +98,8 @@ fn read_times(t: &[u8], p: usize, l: u32, c: u32, depth: u32, n: u32, cells: &mu
 
 // An expression at most `depth` deep.
 fn read_deep(t: &[u8], p: usize, l: u32, c: u32, depth: u32, cells: &mut [u32]) -> Read
-    requires { ⌜ Position (now t) p l c ⌝ ∗ ⌜ (depth ≤ 32) × (length (now cells) ≡ 4096) ⌝ }
-    ensures { λ r. ⌜ ((k : ℕ) → Given (deep depth) (λ c′ e. Rows (now (t .entry)) c (now (cells .entry)) (now (cells .exit)) depth c′ (cons e nil)) (now (t .entry)) p l c k r) ⌝ }
+    requires { ⌜ Position (now t) p l c ⌝ ∗ ⌜ (depth ≤ 32) × (length (now cells) ≡ tableSize) ⌝ }
+    ensures { λ r. ⌜ ((k : ℕ) → Given (deep depth) (λ c′ e. Rows (now (t .entry)) c (now (cells .entry)) (now (cells .exit)) c′ (cons e nil)) (now (t .entry)) p l c k r) ⌝ }
 {
     let f = text::fields(t, p);
     let next = f.next;
@@ -108,7 +107,7 @@ fn read_deep(t: &[u8], p: usize, l: u32, c: u32, depth: u32, cells: &mut [u32]) 
     if h.kind == 0 {
         return Read::Wrong(l);
     }
-    if ROWS <= c {
+    if STATEMENT_ROWS <= c {
         return Read::Limit(l);
     }
     if depth == 0 {
@@ -130,8 +129,8 @@ fn read_deep(t: &[u8], p: usize, l: u32, c: u32, depth: u32, cells: &mut [u32]) 
 
 // n expressions in a row, from row c on. Where they are refused the rows from c on mean nothing.
 pub fn read_expressions(t: &[u8], p: usize, l: u32, c: u32, n: u32, cells: &mut [u32]) -> Read
-    requires { ⌜ Position (now t) p l c ⌝ ∗ ⌜ (n ≤ 513) × (length (now cells) ≡ 4096) ⌝ }
-    ensures { λ r. ⌜ ((k : ℕ) → Given (times n expression) (Rows (now (t .entry)) c (now (cells .entry)) (now (cells .exit)) 32) (now (t .entry)) p l c k r) ⌝ }
+    requires { ⌜ Position (now t) p l c ⌝ ∗ ⌜ (n ≤ mostCells + 1) × (length (now cells) ≡ tableSize) ⌝ }
+    ensures { λ r. ⌜ ((k : ℕ) → Given (times n expression) (Rows (now (t .entry)) c (now (cells .entry)) (now (cells .exit))) (now (t .entry)) p l c k r) ⌝ }
 {
     read_times(t, p, l, c, DEPTH, n, cells)
 }

@@ -6,14 +6,25 @@ ghost use Rattle.ast.specs.Table.{at, rowsAt};
 ghost use Rattle.ast.specs.Codes.{orLeast};
 ghost use Rattle.ast.specs.Operands.{kindAt, operandsAt};
 
+// Numbers a row.
+pub const ROW_SIZE: usize = 8;
+
+// Rows for the statement's expressions, and behind those for the columns that its stars stand for.
+pub const STATEMENT_ROWS: u32 = 512;
+
+pub const STARRED_ROWS: u32 = 256;
+
+// Numbers of the whole table.
+pub const TABLE_SIZE: usize = ROW_SIZE * (STATEMENT_ROWS as usize + STARRED_ROWS as usize);
+
 // The number at place k of row r; 0 outside the table.
 pub fn at(table: &[u32], r: usize, k: u32) -> u32
     ensures { λ x. ⌜ x ≡ at (now (table .entry)) r k ⌝ }
 {
-    if table.len() / 8 < r {
+    if table.len() / ROW_SIZE < r {
         return 0;
     }
-    let i = 8 * r + k as usize;
+    let i = ROW_SIZE * r + k as usize;
     if table.len() <= i {
         return 0;
     }

@@ -3,7 +3,7 @@ ghost use mathlib.Core.Path.{_≡_};
 ghost use lib.ListN.{length};
 ghost use lib.Seq.{sets};
 ghost use Rattle.rules.specs.BuildAggregate.{walkFree, contains};
-ghost use Rattle.ast.specs.Table.{treeAt};
+ghost use Rattle.ast.specs.Table.{rootAt, treeAt};
 ghost use Rattle.ast.specs.Walk.{isAggregateCall};
 ghost use Rattle.ast.specs.Collect.{collectRows, collected};
 use crate::aggregates::Named;
@@ -15,7 +15,7 @@ use crate::rows::operands;
 
 // Whether the record at a row is a call of an aggregate function.
 pub fn is_aggregate_call(catalog: &[u8], statement: &[u8], table: &[u32], r: usize) -> bool
-    ensures { λ x. ⌜ x ≡ isAggregateCall (treeAt (now (catalog .entry)) (now (statement .entry)) (now (table .entry)) 1 r) ⌝ }
+    ensures { λ x. ⌜ x ≡ isAggregateCall (rootAt (now (catalog .entry)) (now (statement .entry)) (now (table .entry)) r) ⌝ }
 {
     if kind(table, r) != 4 {
         return false;
@@ -31,12 +31,9 @@ pub fn is_aggregate_call(catalog: &[u8], statement: &[u8], table: &[u32], r: usi
 
 // `walk` by a visitor that is false at an aggregate: whether it comes to the end. An operator's operands are walked until
 // one walk answers false, a function's arguments until one answers true.
-pub fn walk_free(catalog: &[u8], statement: &[u8], table: &[u32], depth: u32, r: usize) -> bool
-    ensures { λ x. ⌜ x ≡ walkFree (treeAt (now (catalog .entry)) (now (statement .entry)) (now (table .entry)) depth r) ⌝ }
+pub fn walk_free(catalog: &[u8], statement: &[u8], table: &[u32], r: usize) -> bool
+    ensures { λ x. ⌜ x ≡ walkFree (treeAt (now (catalog .entry)) (now (statement .entry)) (now (table .entry)) r) ⌝ }
 {
-    if depth == 0 {
-        return true;
-    }
     if is_aggregate_call(catalog, statement, table, r) {
         return false;
     }
@@ -47,7 +44,7 @@ pub fn walk_free(catalog: &[u8], statement: &[u8], table: &[u32], depth: u32, r:
     }
     let mut p = r + 1;
     while 0 < left {
-        if walk_free(catalog, statement, table, depth - 1, p) == any {
+        if walk_free(catalog, statement, table, p) == any {
             return any;
         }
         p = next(table, p);
@@ -57,10 +54,10 @@ pub fn walk_free(catalog: &[u8], statement: &[u8], table: &[u32], depth: u32, r:
 }
 
 // Whether the tree at a row contains an aggregate: whether that walk stops.
-pub fn contains(catalog: &[u8], statement: &[u8], table: &[u32], depth: u32, r: usize) -> bool
-    ensures { λ x. ⌜ x ≡ contains (treeAt (now (catalog .entry)) (now (statement .entry)) (now (table .entry)) depth r) ⌝ }
+pub fn contains(catalog: &[u8], statement: &[u8], table: &[u32], r: usize) -> bool
+    ensures { λ x. ⌜ x ≡ contains (treeAt (now (catalog .entry)) (now (statement .entry)) (now (table .entry)) r) ⌝ }
 {
-    !walk_free(catalog, statement, table, depth, r)
+    !walk_free(catalog, statement, table, r)
 }
 
 // Rows collected: how many there are now, or no room for the next.
@@ -74,17 +71,13 @@ pub fn collect(
     catalog: &[u8],
     statement: &[u8],
     table: &[u32],
-    depth: u32,
     r: usize,
     rows: &mut [usize],
     count: usize,
 ) -> Collected
-    ensures { λ x. ⌜ x ≡ collected (length (now (rows .entry))) count (collectRows (now (catalog .entry)) (now (statement .entry)) (now (table .entry)) depth r) ⌝ }
-    ensures { λ x. ⌜ now (rows .exit) ≡ sets (now (rows .entry)) count (collectRows (now (catalog .entry)) (now (statement .entry)) (now (table .entry)) depth r) ⌝ }
+    ensures { λ x. ⌜ x ≡ collected (length (now (rows .entry))) count (collectRows (now (catalog .entry)) (now (statement .entry)) (now (table .entry)) r) ⌝ }
+    ensures { λ x. ⌜ now (rows .exit) ≡ sets (now (rows .entry)) count (collectRows (now (catalog .entry)) (now (statement .entry)) (now (table .entry)) r) ⌝ }
 {
-    if depth == 0 {
-        return Collected::Rows(count);
-    }
     if is_aggregate_call(catalog, statement, table, r) {
         if count < rows.len() {
             rows[count] = r;
@@ -99,7 +92,7 @@ pub fn collect(
     let mut p = r + 1;
     let mut n = count;
     while 0 < left {
-        let next_count = collect(catalog, statement, table, depth - 1, p, rows, n);
+        let next_count = collect(catalog, statement, table, p, rows, n);
         let Collected::Rows(m) = next_count else {
             return Collected::NoRoom;
         };

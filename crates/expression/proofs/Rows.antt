@@ -19,7 +19,9 @@ use Rattle.rules.specs.Schema.{Value}
 use Rattle.value.specs.Values.{valueOf, held}
 use Rattle.value.specs.declared.Value as code
 use Rattle.ast.specs.Codes.{coded-beside, countFrom}
-use Rattle.ast.specs.Operands.{operandsOf, kindOf, kindAt, operandsAt, kind-at, operands-at, tree-call, tree-unary, tree-binary, tree-is, tree-literal, operands-call, operands-unary, operands-binary, operands-is, no-operands, arguments-none, arguments-more, tree-deep}
+use Rattle.ast.specs.Operands.{operandsOf, kindOf, kindAt, operandsAt, kind-at, operands-at, tree-call, tree-unary}
+use Rattle.ast.specs.Operands.{tree-binary, tree-is, tree-literal, operands-call, operands-unary, operands-binary}
+use Rattle.ast.specs.Operands.{operands-is, no-operands, arguments-none, arguments-more, tree-at}
 use Rattle.ast.specs.Table.{at, rowsAt, unaryAt, binaryAt, valueAt, argumentsAt, treeBy, treeAt}
 use Rattle.expression.specs.Answers.{mapAnswer, reasonOf, answerOf, Evaluates}
 use Rattle.expression.specs.declared.Evaluated.the-variants as Ev
@@ -101,52 +103,56 @@ module _ (f : ℕ → Expr) (c q : Bytes) (t : List ℕ) (r : ℕ) (x : Answer V
 pub taken : (c q : Bytes) (y : Evaluated) (a : code.Value) (e : Expr) → y ≡ Ev.Value a → Evaluates c q y e → Evaluates c q (Ev.Value a) e
 taken c q y a e g h = ap (answerOf c q) (sym g) ∙ h
 
--- AT A DEPTH d other than 0, the operands one less deep
-module _ (c q : Bytes) (t : List ℕ) (d r : ℕ) where
-  pub shallow : d ≡ 0 → treeAt c q t d r ≡ star 0
-  unfolding treeAt
-  shallow e = ap (λ (n : ℕ). treeAt c q t n r) e
+-- THE TREE AT A ROW, by its operands
+module _ (c q : Bytes) (t : List ℕ) (r : ℕ) where
+  abbrev below : ℕ → Expr
+  below = treeAt c q t
 
-  module _ (ne : d ≡ 0 → ⊥) where
-    abbrev below : ℕ → Expr
-    below = treeAt c q t (d - 1)
+  pub by-row : (y : Evaluated) → Evaluates c q y (treeBy below c q t r) → Evaluates c q y (treeAt c q t r)
+  by-row y e = e ∙ ap (λ (x : Expr). mapAnswer held (evaluate x)) (sym (tree-at c q t r))
 
-    pub deep : (y : Evaluated) → Evaluates c q y (treeBy below c q t r) → Evaluates c q y (treeAt c q t d r)
-    deep y e = e ∙ ap (λ (x : Expr). mapAnswer held (evaluate x)) (sym (tree-deep c q t d r ne))
+  -- what the code evaluated at r + 1 is the first operand, and behind its rows the second
+  module _ (y : Evaluated) where
+    pub left : Evaluates c q y (below (r + 1)) → Evaluates c q y (below (suc r))
+    left h = h ∙ ap (λ (n : ℕ). mapAnswer held (evaluate (below n))) (add-one r)
 
-    -- what the code evaluated at r + 1 is the first operand, and behind its rows the second
-    module _ (y : Evaluated) where
-      pub left : Evaluates c q y (below (r + 1)) → Evaluates c q y (below (suc r))
-      left h = h ∙ ap (λ (n : ℕ). mapAnswer held (evaluate (below n))) (add-one r)
+    pub right : (n : ℕ) → n ≡ r + 1 + rowsAt t (r + 1) → Evaluates c q y (below n)
+        → Evaluates c q y (below (suc r + rowsAt t (suc r)))
+    right n e h = h ∙ ap (λ (m : ℕ). mapAnswer held (evaluate (below m)))
+        (e ∙ ap (λ (m : ℕ). m + rowsAt t m) (add-one r))
 
-      pub right : (n : ℕ) → n ≡ r + 1 + rowsAt t (r + 1) → Evaluates c q y (below n) → Evaluates c q y (below (suc r + rowsAt t (suc r)))
-      right n e h = h ∙ ap (λ (m : ℕ). mapAnswer held (evaluate (below m))) (e ∙ ap (λ (m : ℕ). m + rowsAt t m) (add-one r))
+    module _ (k : Reason) (l : ℕ) (e : y ≡ Ev.Refused k l) where
+      abbrev r′ : Refusal
+      r′ = record { reason = reasonOf k; text = statement; line = l }
 
-      module _ (k : Reason) (l : ℕ) (e : y ≡ Ev.Refused k l) where
-        abbrev r′ : Refusal
-        r′ = record { reason = reasonOf k; text = statement; line = l }
+      refused-is : (a : Expr) → Evaluates c q y a → evaluate a ≡ refused r′
+      unfolding answerOf refuse
+      refused-is a h = held-refused (evaluate a) _ (ap (answerOf c q) (sym e) ∙ h)
 
-        refused-is : (a : Expr) → Evaluates c q y a → evaluate a ≡ refused r′
-        unfolding answerOf refuse
-        refused-is a h = held-refused (evaluate a) _ (ap (answerOf c q) (sym e) ∙ h)
+      refused-too : (x : Expr) → evaluate x ≡ refused r′ → Evaluates c q y x
+      unfolding answerOf refuse mapAnswer
+      refused-too x g = ap (answerOf c q) e ∙ ap (mapAnswer held) (sym g)
 
-        refused-too : (x : Expr) → evaluate x ≡ refused r′ → Evaluates c q y x
-        unfolding answerOf refuse mapAnswer
-        refused-too x g = ap (answerOf c q) e ∙ ap (mapAnswer held) (sym g)
+      pub left-refused : (operandsAt t r ≡ 0 → ⊥) → Evaluates c q y (below (r + 1)) → Evaluates c q y (treeAt c q t r)
+      left-refused some′ h = by-row y (refused-too (treeBy below c q t r)
+          (first-refused _ (below (suc r)) _ _ (first-operand below c q t r some′)
+          (refused-is (below (suc r)) (left h))))
 
-        pub left-refused : (operandsAt t r ≡ 0 → ⊥) → Evaluates c q y (below (r + 1)) → Evaluates c q y (treeAt c q t d r)
-        left-refused some′ h = deep y (refused-too (treeBy below c q t r)
-            (first-refused _ (below (suc r)) _ _ (first-operand below c q t r some′) (refused-is (below (suc r)) (left h))))
+      pub right-refused : (a : code.Value) → kindAt t r ≡ 6 → Evaluates c q (Ev.Value a) (below (suc r))
+          → Evaluates c q y (below (suc r + rowsAt t (suc r))) → Evaluates c q y (treeAt c q t r)
+      unfolding answerOf
+      right-refused a h g i = by-row y (rw (tree-binary below c q t r h) (refused-too (binary _ _ _ _)
+          (second-refused (at t r 1) (below (suc r)) (valueOf c q a) g (binaryAt (at t r 3))
+          (below (suc r + rowsAt t (suc r))) _ (refused-is _ i))))
 
-        pub right-refused : (a : code.Value) → kindAt t r ≡ 6 → Evaluates c q (Ev.Value a) (below (suc r)) → Evaluates c q y (below (suc r + rowsAt t (suc r))) → Evaluates c q y (treeAt c q t d r)
-        unfolding answerOf
-        right-refused a h g i = deep y (rw (tree-binary below c q t r h) (refused-too (binary _ _ _ _)
-            (second-refused (at t r 1) (below (suc r)) (valueOf c q a) g (binaryAt (at t r 3)) (below (suc r + rowsAt t (suc r))) _ (refused-is _ i))))
+  -- a bare literal, and any other record
+  pub bare : (k a b : ℕ) → kindAt t r ≡ 8 → k ≡ at t r 3 → a ≡ at t r 4 → b ≡ at t r 5
+      → ok (valueAt c q k a b) ≡ evaluate (treeAt c q t r)
+  unfolding evaluate
+  bare k a b h hk ha hb = rw (tree-at c q t r ∙ tree-literal below c q t r h)
+      (λ i. ok (valueAt c q (hk i) (ha i) (hb i)))
 
-    -- a bare literal, and any other record
-    pub bare : (k a b : ℕ) → kindAt t r ≡ 8 → k ≡ at t r 3 → a ≡ at t r 4 → b ≡ at t r 5 → ok (valueAt c q k a b) ≡ evaluate (treeAt c q t d r)
-    unfolding evaluate
-    bare k a b h hk ha hb = rw (tree-deep c q t d r ne, tree-literal below c q t r h) (λ i. ok (valueAt c q (hk i) (ha i) (hb i)))
-
-    pub worked-out : (x : Answer Value) → (kindAt t r ≡ 8 → ⊥) → x ≡ mapAnswer held (evaluate (treeAt c q t d r)) → x ≡ evaluate (treeAt c q t d r)
-    worked-out x h e = e ∙ constant-held (treeAt c q t d r) (λ g. h (sym (ap kindOf (tree-deep c q t d r ne) ∙ kind-at below c q t r) ∙ g))
+  pub worked-out : (x : Answer Value) → (kindAt t r ≡ 8 → ⊥) → x ≡ mapAnswer held (evaluate (treeAt c q t r))
+      → x ≡ evaluate (treeAt c q t r)
+  worked-out x h e = e ∙ constant-held (treeAt c q t r)
+      (λ g. h (sym (ap kindOf (tree-at c q t r) ∙ kind-at below c q t r) ∙ g))

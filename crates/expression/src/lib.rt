@@ -110,26 +110,23 @@ fn both_operands(
     operators::worked_at(w, rows::at(table, r, 1))
 }
 
-// The value of the tree at a row, at most depth deep: both operands are worked out, the left one first.
-pub fn evaluate(catalog: &[u8], statement: &[u8], table: &[u32], depth: u32, r: usize) -> Evaluated
-    ensures { λ x. ⌜ answerOf (now (catalog .entry)) (now (statement .entry)) x ≡ mapAnswer held (evaluate (treeAt (now (catalog .entry)) (now (statement .entry)) (now (table .entry)) depth r)) ⌝ }
+// The value of the tree at a row: both operands are worked out, the left one first.
+pub fn evaluate(catalog: &[u8], statement: &[u8], table: &[u32], r: usize) -> Evaluated
+    ensures { λ x. ⌜ answerOf (now (catalog .entry)) (now (statement .entry)) x ≡ mapAnswer held (evaluate (treeAt (now (catalog .entry)) (now (statement .entry)) (now (table .entry)) r)) ⌝ }
 {
-    if depth == 0 {
-        return Evaluated::Refused(Reason::UnsupportedStar, 0);
-    }
     if rows::operands(table, r) == 0 {
         return leaf(table, r);
     }
     let left = r + 1;
     let right = rows::next(table, left);
-    let first = evaluate(catalog, statement, table, depth - 1, left);
+    let first = evaluate(catalog, statement, table, left);
     let Evaluated::Value(a) = first else {
         return first;
     };
     if rows::kind(table, r) != 6 {
         return first_operand(table, r, a);
     }
-    let second = evaluate(catalog, statement, table, depth - 1, right);
+    let second = evaluate(catalog, statement, table, right);
     let Evaluated::Value(b) = second else {
         return second;
     };
@@ -137,25 +134,16 @@ pub fn evaluate(catalog: &[u8], statement: &[u8], table: &[u32], depth: u32, r: 
 }
 
 // The value of a constant: a bare literal keeps its bits, a NaN's too.
-pub fn evaluate_constant(
-    catalog: &[u8],
-    statement: &[u8],
-    table: &[u32],
-    depth: u32,
-    r: usize,
-) -> Constant
-    ensures { λ x. ⌜ constantOf (now (catalog .entry)) (now (statement .entry)) x ≡ evaluate (treeAt (now (catalog .entry)) (now (statement .entry)) (now (table .entry)) depth r) ⌝ }
+pub fn evaluate_constant(catalog: &[u8], statement: &[u8], table: &[u32], r: usize) -> Constant
+    ensures { λ x. ⌜ constantOf (now (catalog .entry)) (now (statement .entry)) x ≡ evaluate (treeAt (now (catalog .entry)) (now (statement .entry)) (now (table .entry)) r) ⌝ }
 {
-    if depth == 0 {
-        return Constant::Refused(Reason::UnsupportedStar, 0);
-    }
     if rows::kind(table, r) == 8 {
         let k = rows::at(table, r, 3);
         let a = rows::at(table, r, 4);
         let b = rows::at(table, r, 5);
         return Constant::Literal(k, a, b);
     }
-    let e = evaluate(catalog, statement, table, depth, r);
+    let e = evaluate(catalog, statement, table, r);
     match e {
         Evaluated::Value(v) => Constant::Value(v),
         Evaluated::Refused(n, line) => Constant::Refused(n, line),

@@ -13,13 +13,13 @@ use Rattle.rules.specs.Reader.{turns, optional}
 use Rattle.rules.specs.ReadExpression.{expression}
 use Rattle.rules.specs.ReadStatement.{fromTree}
 use Rattle.text.specs.Answers.{wrongAt, limitAt}
-use Rattle.ast.specs.Table.{isOne}
+use Rattle.ast.specs.Table.{rowSize, isOne}
 use Rattle.ast.specs.Reading.{here, Below, Given, Took}
 use Rattle.from.specs.Layout.{treesBefore}
 use Rattle.from.specs.Rules.{Frame, first, second, restOf, rest-right, rest-close, rest-close-no, rest-end}
 use Rattle.from.specs.Trees.{lineIn, kindIn, onIn, Closed, TreeTook}
 use Rattle.ast.specs.Rows.{below-trans, below-less}
-use Rattle.from.specs.Rows.{join-row}
+use Rattle.from.specs.Rows.{sidesBefore, join-row}
 use Rattle.from.specs.Stack.{codeOf, Holds, lefts, holds-push, line-in, kind-in, on-in}
 use Rattle.from.specs.Loop.{held, TreeLoop}
 use Rattle.ast.specs.declared.reading.Read as Rd
@@ -57,7 +57,8 @@ module _ {t : Bytes} {p₀ l₀ c₀ k₀ n₀ : ℕ} {cells₀ rows₀ : List �
       where
         go : (fs : List Frame) → restOf true (h .fuel) fs (h .tree) (here t p l c k) ≡ turns fromTree (here t p₀ l₀ c₀ k₀) → d ≡ length fs → Holds stack fs
             → n + length (held true (h .tree) (lefts fs)) + 2 * k₀ ≡ n₀ + 2 * k
-            → ((cells″ : List ℕ) → Below (8 * c) cells cells″ → (b : Bytes) → treesBefore b t cells″ rows n ≡ held true (h .tree) (lefts fs) ++ treesBefore b t cells″ rows₀ n₀)
+            → ((cells″ : List ℕ) → Below (rowSize * c) cells cells″ → (b : Bytes)
+            → treesBefore b t cells″ rows n ≡ held true (h .tree) (lefts fs) ++ treesBefore b t cells″ rows₀ n₀)
             → TreeLoop t p₀ l₀ c₀ k₀ n₀ cells₀ rows₀ false p l c k n d (set stack (d - 1) (v + 1)) cells rows
         go [] is opened holds count stand = absurd (inner opened)
         go (second m j o a ∷ fs) is opened holds count stand =
@@ -139,12 +140,14 @@ module _ {t : Bytes} {p₀ l₀ c₀ k₀ n₀ : ℕ} {cells₀ rows₀ : List �
           loop-closed cl rl = go (h .frames) (h .is) (h .opened) (h .holds) (h .count) (h .stand)
             where
               -- what was written below row c is as it was
-              below : (cells″ : List ℕ) → Below (8 * c′) cells′ cells″ → Below (8 * c) cells cells″
-              below cells″ w = below-trans (8 * c) cells cells′ cells″ (took .holds .cells-kept) (below-less (8 * c′) (8 * c) cells′ cells″ (omega (arith, took .more)) w)
+              below : (cells″ : List ℕ) → Below (rowSize * c′) cells′ cells″ → Below (rowSize * c) cells cells″
+              below cells″ w = below-trans (rowSize * c) cells cells′ cells″ (took .holds .cells-kept)
+                  (below-less (rowSize * c′) (rowSize * c) cells′ cells″ (omega (arith, took .more)) w)
 
               go : (fs : List Frame) → restOf true (h .fuel) fs (h .tree) (here t p l c k) ≡ turns fromTree (here t p₀ l₀ c₀ k₀) → d ≡ length fs → Holds stack fs
                   → n + length (held true (h .tree) (lefts fs)) + 2 * k₀ ≡ n₀ + 2 * k
-                  → ((cells″ : List ℕ) → Below (8 * c) cells cells″ → (b : Bytes) → treesBefore b t cells″ rows n ≡ held true (h .tree) (lefts fs) ++ treesBefore b t cells″ rows₀ n₀)
+                  → ((cells″ : List ℕ) → Below (rowSize * c) cells cells″ → (b : Bytes)
+                  → treesBefore b t cells″ rows n ≡ held true (h .tree) (lefts fs) ++ treesBefore b t cells″ rows₀ n₀)
                   → TreeLoop t p₀ l₀ c₀ k₀ n₀ cells₀ rows₀ true p′ l′ c′ k (n + 1) (d - 1) stack cells′ rows′
               go [] is opened holds count stand = absurd (inner opened)
               go (first m j o ∷ fs) is opened holds count stand =
@@ -171,9 +174,13 @@ module _ {t : Bytes} {p₀ l₀ c₀ k₀ n₀ : ℕ} {cells₀ rows₀ : List �
                     tables = h .tables;
                     begun = h .begun;
                     count = omega (arith, count);
-                    stand = λ cells″ u b. rw (add-one n, ← el) (join-row rows rows′ n (kindIn v) (lineIn v) (w .number) 0 0 0 0 (omega (arith, close-room, h .rows-room)) (w .written) b t cells″ j a (h .tree)
-                        (lefts fs ++ treesBefore b t cells″ rows₀ n₀) (took .value) ek (stand cells″ (below cells″ u) b) (w .stands cells″ u b));
-                    cells-kept = below-trans (8 * c₀) cells₀ cells cells′ (h .cells-kept) (below-less (8 * c) (8 * c₀) cells cells′ (omega (arith, h .more)) (w .cells-kept));
+                    stand = λ cells″ u b. rw (add-one n, ← el)
+                        (join-row rows rows′ n (kindIn v) (lineIn v) (w .number) 0 0 0 0 (sidesBefore rows n)
+                        (omega (arith, close-room, h .rows-room)) (w .written) b t cells″ j a (h .tree)
+                        (lefts fs ++ treesBefore b t cells″ rows₀ n₀) (took .value) ek refl
+                        (stand cells″ (below cells″ u) b) (w .stands cells″ u b));
+                    cells-kept = below-trans (rowSize * c₀) cells₀ cells cells′ (h .cells-kept)
+                        (below-less (rowSize * c) (rowSize * c₀) cells cells′ (omega (arith, h .more)) (w .cells-kept));
                     stack-room = h .stack-room;
                     cells-room = cl ∙ h .cells-room;
                     rows-room = rl ∙ h .rows-room;

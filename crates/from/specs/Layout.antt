@@ -5,43 +5,87 @@
 --   2  the row of its predicate's root (crate ast) and 1 more, or 0
 --   3  4   the table's address and length
 --   5  6   the alias's, or zeros
+--   7  how many rows its sides have, 0 for a table
 --
--- A join stands behind its two sides, the left one first, so it joins the two trees before it.
-use Prim.Native.Nat.{ℕ, zero, suc}
-use mathlib.Core.List.{List, [], _∷_, reverse}
+-- A join stands behind its two sides, the left one first: the root of the right one is the row before it, and the root
+-- of the left one the row before those of the right one.
+use Prim.Native.Nat.{ℕ, zero, suc, _-_}
+use mathlib.Core.List.{List, [], _∷_, map, reverse}
 use mathlib.Core.Option.{Option, none, some}
 use Rattle.rules.specs.Lists.{Bytes}
 use Rattle.rules.specs.Places.{wordAt}
-use Rattle.rules.specs.Ast.{Expr, Join, cross, inner, left, right, From, table, join}
+use Rattle.rules.specs.Ast.{Expr, cross, inner, left, right, From, table, join}
 use Rattle.ast.specs.Table.{at, coded, treeAt}
 use Rattle.ast.specs.Names.{nameAt}
 
-module _ (b q : Bytes) (cells froms : List ℕ) where
+-- ROWS
+module _ (froms : List ℕ) where
+  -- how many rows the tree whose root is row r has, and the first of them
+  unfoldable pub sizeAt : ℕ → ℕ
+  sizeAt r = suc (at froms r 7)
+
+  unfoldable pub firstAt : ℕ → ℕ
+  firstAt r = suc r - sizeAt r
+
+  -- the root of the left side of a join at row r
+  unfoldable pub leftAt : ℕ → ℕ
+  leftAt zero = zero
+  leftAt (suc r) = r - sizeAt r
+
+  -- the roots among the first n rows that are no side of a join, the last one first; in m steps
+  unfoldable pub rootsIn : ℕ → ℕ → List ℕ
+  rootsIn zero n = []
+  rootsIn (suc m) zero = []
+  rootsIn (suc m) (suc r) = r ∷ rootsIn m (firstAt r)
+
+  unfoldable pub rootsBefore : ℕ → List ℕ
+  rootsBefore n = rootsIn n n
+
+  -- the roots of the items, in their order
+  unfoldable pub rootsAt : ℕ → List ℕ
+  rootsAt n = reverse (rootsBefore n)
+
+-- TREES
+module _ (b q : Bytes) (cells : List ℕ) where
   unfoldable pub predicateAt : ℕ → Option Expr
   predicateAt zero = none
-  predicateAt (suc r) = some (treeAt b q cells 32 r)
+  predicateAt (suc r) = some (treeAt b q cells r)
 
-  -- the two trees read last, joined by row r
-  unfoldable pub joined : Join → ℕ → List From → List From
-  joined j r [] = []
-  joined j r (a ∷ []) = a ∷ []
-  joined j r (b′ ∷ (a ∷ fs)) = join (at froms r 1) j a b′ (predicateAt (at froms r 2)) ∷ fs
+  -- a table, and a row of kind k with the sides u and v, by their numbers
+  unfoldable pub tableBy : (l a n c m : ℕ) → From
+  tableBy l a n c m = table l (wordAt b q a n) (nameAt b q c m)
 
-  -- the trees of the rows before r, the last one first, and those with row r
-  unfoldable pub fromStep : ℕ → List From → List From
-  fromStep r fs = coded (joined right r fs) (
-      (table (at froms r 1) (wordAt b q (at froms r 3) (at froms r 4)) (nameAt b q (at froms r 5) (at froms r 6)) ∷ fs)
-      ∷ joined cross r fs
-      ∷ joined inner r fs
-      ∷ joined left r fs
-      ∷ joined right r fs
+  unfoldable pub rowBy : (k l x a n c m : ℕ) → From → From → From
+  rowBy k l x a n c m u v = coded (join l right u v (predicateAt x)) (
+      tableBy l a n c m
+      ∷ join l cross u v (predicateAt x)
+      ∷ join l inner u v (predicateAt x)
+      ∷ join l left u v (predicateAt x)
+      ∷ join l right u v (predicateAt x)
       ∷ []
-      ) 1 (at froms r 0)
+      ) 1 k
 
-  -- the trees of the first n rows, the last one first
-  unfoldable pub treesBefore : ℕ → List From
-  treesBefore zero = []
-  treesBefore (suc n) = fromStep n (treesBefore n)
+  module _ (froms : List ℕ) where
+    unfoldable pub tableAt : ℕ → From
+    tableAt r = tableBy (at froms r 1) (at froms r 3) (at froms r 4) (at froms r 5) (at froms r 6)
 
-  unfoldable pub fromsAt : ℕ → List From
-  fromsAt n = reverse (treesBefore n)
+    unfoldable pub rowAt : ℕ → From → From → From
+    rowAt r u v = rowBy (at froms r 0) (at froms r 1) (at froms r 2) (at froms r 3) (at froms r 4) (at froms r 5)
+        (at froms r 6) u v
+
+    -- the tree whose root is row r, in m steps; the first row has no sides
+    unfoldable pub treeIn : ℕ → ℕ → From
+    treeIn zero r = tableAt r
+    treeIn (suc m) zero = tableAt zero
+    treeIn (suc m) (suc r) = rowAt (suc r) (treeIn m (leftAt froms (suc r))) (treeIn m r)
+
+    unfoldable pub fromAt : ℕ → From
+    fromAt r = treeIn r r
+
+    -- the trees of the first n rows, the last one first
+    unfoldable pub treesBefore : ℕ → List From
+    treesBefore n = map fromAt (rootsBefore froms n)
+
+    -- the items, in their order
+    unfoldable pub fromsAt : ℕ → List From
+    fromsAt n = map fromAt (rootsAt froms n)

@@ -1,4 +1,5 @@
 pub mod Layout
+pub mod Roots
 pub mod Contracts
 pub mod Records
 pub mod Fields

@@ -17,6 +17,7 @@ use Rattle.rules.specs.ReadStatement.{fromHeads, tabled, fromTree}
 use Rattle.text.specs.Lines.{lineEnd, line-most}
 use Rattle.text.specs.Reading.{place, place-next, place-length}
 use Rattle.text.specs.Answers.{wrongAt, limitAt}
+use Rattle.ast.specs.Table.{rowSize, tableSize}
 use Rattle.ast.specs.Reading.{here, Position, Below}
 use Rattle.ast.specs.Names.{flagNumber}
 use Rattle.from.specs.Layout.{treesBefore}
@@ -53,10 +54,11 @@ pub record TreeLoop (t : Bytes) (p₀ l₀ c₀ k₀ n₀ : ℕ) (cells₀ rows�
   pub tables : k ≤ mostFromTables
   pub begun : n₀ ≤ 2 * k₀
   pub count : n + length (held done tree (lefts frames)) + 2 * k₀ ≡ n₀ + 2 * k
-  pub stand : (cells″ : List ℕ) → Below (8 * c) cells cells″ → (b : Bytes) → treesBefore b t cells″ rows n ≡ held done tree (lefts frames) ++ treesBefore b t cells″ rows₀ n₀
-  pub cells-kept : Below (8 * c₀) cells₀ cells
+  pub stand : (cells″ : List ℕ) → Below (rowSize * c) cells cells″ → (b : Bytes)
+      → treesBefore b t cells″ rows n ≡ held done tree (lefts frames) ++ treesBefore b t cells″ rows₀ n₀
+  pub cells-kept : Below (rowSize * c₀) cells₀ cells
   pub stack-room : length stack ≡ 5041
-  pub cells-room : length cells ≡ 4096
+  pub cells-room : length cells ≡ tableSize
   pub rows-room : length rows ≡ 248
 
 pub loop-begin : {t : Bytes} {p l c k n : ℕ} {cells rows : List ℕ} (stack : List ℕ) → TreeReady t p l c k n cells rows → length stack ≡ 5041 → TreeLoop t p l c k n cells rows false p l c k n 0 stack cells rows
@@ -136,7 +138,8 @@ module _ {t : Bytes} {p₀ l₀ c₀ k₀ n₀ : ℕ} {cells₀ rows₀ : List �
     unfolding tabled place
     table-next = (unfold place in place-next statement t p l c (suc k)) ∙ rw (said .next, add-one k)
 
-    pub loop-table : k < mostFromTables → (rows′ : List ℕ) → rows′ ≡ sets rows (8 * n) (1 ∷ l ∷ 0 ∷ r .a ∷ r .b ∷ r .c ∷ r .d ∷ []) → length rows′ ≡ length rows
+    pub loop-table : k < mostFromTables → (rows′ : List ℕ)
+        → rows′ ≡ sets rows (rowSize * n) (1 ∷ l ∷ 0 ∷ r .a ∷ r .b ∷ r .c ∷ r .d ∷ 0 ∷ []) → length rows′ ≡ length rows
         → TreeLoop t p₀ l₀ c₀ k₀ n₀ cells₀ rows₀ true (r .next) (l + 1) c (k + 1) (n + 1) d stack cells rows′
     unfolding held place
     loop-table m rows′ e g = record {
@@ -156,7 +159,8 @@ module _ {t : Bytes} {p₀ l₀ c₀ k₀ n₀ : ℕ} {cells₀ rows₀ : List �
       tables = omega arith;
       begun = h .begun;
       count = omega (arith, h .count);
-      stand = λ cells″ y b. rw (add-one n) (table-row rows rows′ n 1 l 0 (r .a) (r .b) (r .c) (r .d) (omega (arith, row-room m, h .rows-room)) e b t cells″ refl
+      stand = λ cells″ y b. rw (add-one n) (table-row rows rows′ n 1 l 0 (r .a) (r .b) (r .c) (r .d) 0
+          (omega (arith, row-room m, h .rows-room)) e b t cells″ refl refl
           ∙ rw (named .word b, named .other b, h .stand cells″ y b));
       cells-kept = h .cells-kept;
       stack-room = h .stack-room;

@@ -1,108 +1,204 @@
 -- FROM rows: what the numbers of a row that is written say of the trees of the rows.
-use Prim.Native.Nat.{ℕ, zero, suc, _+_, _*_, _≤_, _<_}
+use Prim.Native.Nat.{ℕ, zero, suc, _+_, _*_, _-_, _≤_, _<_}
 use native.Mathlib.Omega.{arith}
-use native.Mathlib.Nat.{add-zero}
-use mathlib.Core.Path.{_≡_, refl, sym, _∙_}
-use mathlib.Core.List.{List, [], _∷_}
-use mathlib.Core.Option.{Option, none, some}
-use lib.ListN.{length, getD, set, length-set}
-use lib.Seq.{sets, getD-set-same, getD-set-other}
+use mathlib.Core.Path.{_≡_, refl, sym, ap, _∙_}
+use mathlib.Core.List.{List, [], _∷_, map}
+use mathlib.Core.Option.{Option}
+use lib.ListN.{length, getD}
+use lib.Seq.{sets}
 use Rattle.rules.specs.Lists.{Bytes}
 use Rattle.rules.specs.Places.{wordAt}
 use Rattle.rules.specs.Ast.{Expr, Join, cross, inner, left, right, From, table, join}
 use Rattle.numbers.specs.Kept.{sets-before, sets-at}
-use Rattle.ast.specs.Table.{at, coded, treeAt}
+use Rattle.ast.specs.Table.{rowSize, at, coded}
 use Rattle.ast.specs.Reading.{Below}
 use Rattle.ast.specs.Names.{nameAt}
-use Rattle.from.specs.Layout.{predicateAt, joined, fromStep, treesBefore}
+use Rattle.from.specs.Layout.{sizeAt, firstAt, leftAt, rootsIn, rootsBefore, predicateAt, tableBy, rowBy, tableAt}
+use Rattle.from.specs.Layout.{rowAt, treeIn, fromAt, treesBefore}
+use Rattle.from.specs.Roots.{first-most, left-most, left-all, from-first, from-next, trees-next, sides-of}
 use Rattle.from.specs.Records.{joinNumber}
 
--- STORES
-pub seven-sets : (s : List ℕ) (i a b c d e f g : ℕ) → sets s i (a ∷ b ∷ c ∷ d ∷ e ∷ f ∷ g ∷ []) ≡ set (set (set (set (set (set (set s i a) (i + 1) b) (i + 2) c) (i + 3) d) (i + 4) e) (i + 5) f) (i + 6) g
-seven-sets s i a b c d e f g =
-    let i₁ : i + 1 ≡ suc i = omega arith in
-    let i₂ : i + 2 ≡ suc (suc i) = omega arith in
-    let i₃ : i + 3 ≡ suc (suc (suc i)) = omega arith in
-    let i₄ : i + 4 ≡ suc (suc (suc (suc i))) = omega arith in
-    let i₅ : i + 5 ≡ suc (suc (suc (suc (suc i)))) = omega arith in
-    let i₆ : i + 6 ≡ suc (suc (suc (suc (suc (suc i))))) = omega arith in
-    rw (i₁, i₂, i₃, i₄, i₅, i₆)
+-- how many rows the two trees have that end before row n: the sides of a join there
+unfoldable pub sidesBefore : List ℕ → ℕ → ℕ
+sidesBefore rows n = n - firstAt rows (leftAt rows n)
 
--- THE TREES
--- a predicate, two trees joined and one row more, by their numbers
-unfoldable predicateOf : Bytes → Bytes → List ℕ → ℕ → Option Expr
-predicateOf b q cells zero = none
-predicateOf b q cells (suc r) = some (treeAt b q cells 32 r)
+module _ (rows : List ℕ) (n : ℕ) where
+  -- by the left one's root and its first row
+  pub sides-room : (l f : ℕ) → l ≡ leftAt rows n → f ≡ firstAt rows l → f ≤ n
+  sides-room l f e g = omega (arith, e, g, first-most rows l, left-all rows n)
 
-unfoldable joinedBy : Join → ℕ → Option Expr → List From → List From
-joinedBy j l e [] = []
-joinedBy j l e (a ∷ []) = a ∷ []
-joinedBy j l e (b ∷ (a ∷ fs)) = join l j a b e ∷ fs
+  pub sides-is : (l f : ℕ) → l ≡ leftAt rows n → f ≡ firstAt rows l → n - f ≡ sidesBefore rows n
+  unfolding sidesBefore
+  sides-is l f e g = ap (λ x. n - x) (g ∙ ap (firstAt rows) e)
 
-unfoldable stepBy : Bytes → Bytes → List ℕ → ℕ → ℕ → ℕ → ℕ → ℕ → ℕ → ℕ → List From → List From
-stepBy b q cells k l x a n c m fs = coded (joinedBy right l (predicateOf b q cells x) fs) (
-    (table l (wordAt b q a n) (nameAt b q c m) ∷ fs)
-    ∷ joinedBy cross l (predicateOf b q cells x) fs
-    ∷ joinedBy inner l (predicateOf b q cells x) fs
-    ∷ joinedBy left l (predicateOf b q cells x) fs
-    ∷ joinedBy right l (predicateOf b q cells x) fs
-    ∷ []
-    ) 1 k
+  sides-past : n - sidesBefore rows n ≡ firstAt rows (leftAt rows n)
+  unfolding sidesBefore
+  sides-past = omega (arith, first-most rows (leftAt rows n), left-all rows n)
 
-module _ (b q : Bytes) (cells rows : List ℕ) where
-  predicate-is : (x : ℕ) → predicateAt b q cells rows x ≡ predicateOf b q cells x
-  unfolding predicateAt predicateOf
-  predicate-is zero = refl
-  predicate-is (suc r) = refl
+-- the two trees' sizes, where neither reaches past the first row
+pub sides-sum : (rows : List ℕ) (r : ℕ) → sizeAt rows r ≤ r
+    → sizeAt rows (leftAt rows (suc r)) ≤ suc (leftAt rows (suc r))
+    → sidesBefore rows (suc r) ≡ sizeAt rows (leftAt rows (suc r)) + sizeAt rows r
+unfolding sidesBefore firstAt leftAt
+sides-sum rows r h g = omega (arith, h, g)
 
-  joined-is : (j : Join) (r : ℕ) (fs : List From) → joined b q cells rows j r fs ≡ joinedBy j (at rows r 1) (predicateOf b q cells (at rows r 2)) fs
-  unfolding joined joinedBy
-  joined-is j r [] = refl
-  joined-is j r (a ∷ []) = refl
-  joined-is j r (y ∷ (a ∷ fs)) = rw (predicate-is (at rows r 2))
+-- ROWS THAT ARE KEPT
+module _ (rows rows′ : List ℕ) (n : ℕ) (h : Below (rowSize * n) rows rows′) where
+  at-kept : (r k : ℕ) → r < n → k < 8 → at rows′ r k ≡ at rows r k
+  at-kept r k l m = unfold at Below in h (rowSize * r + k) (omega arith)
 
-  step-is : (r : ℕ) (fs : List From)
-      → fromStep b q cells rows r fs ≡ stepBy b q cells (at rows r 0) (at rows r 1) (at rows r 2) (at rows r 3) (at rows r 4) (at rows r 5) (at rows r 6) fs
-  unfolding fromStep stepBy
-  step-is r fs = rw (joined-is cross r fs, joined-is inner r fs, joined-is left r fs, joined-is right r fs)
+  first-kept : (r : ℕ) → r < n → firstAt rows′ r ≡ firstAt rows r
+  unfolding firstAt sizeAt
+  first-kept r l = rw (at-kept r 7 l (omega arith))
 
--- rows that are kept
-module _ (b q : Bytes) (cells rows rows′ : List ℕ) where
-  trees-kept : (n : ℕ) → Below (8 * n) rows rows′ → treesBefore b q cells rows′ n ≡ treesBefore b q cells rows n
-  unfolding treesBefore
-  trees-kept zero h = refl
-  trees-kept (suc n) h = rw (step-is b q cells rows′ n, step-is b q cells rows n, number 0 (omega arith), number 1 (omega arith), number 2 (omega arith), number 3 (omega arith), number 4 (omega arith), number 5 (omega arith), number 6 (omega arith), trees-kept n earlier)
-    where
-      number : (k : ℕ) → k < 8 → at rows′ n k ≡ at rows n k
-      number k l = unfold at Below in h (8 * n + k) (omega arith)
-
-      earlier : Below (8 * n) rows rows′
-      earlier = unfold Below in λ i l. h i (omega arith)
-
--- one row more
-module _ (rows rows′ : List ℕ) (n k l x a m c d : ℕ) (room : 8 * n + 8 ≤ length rows) (e : rows′ ≡ sets rows (8 * n) (k ∷ l ∷ x ∷ a ∷ m ∷ c ∷ d ∷ [])) where
-  numbers : (i : ℕ) → i < 7 → at rows′ n i ≡ getD (k ∷ l ∷ x ∷ a ∷ m ∷ c ∷ d ∷ []) i 0
-  unfolding at
-  numbers i h = rw e (sets-at (k ∷ l ∷ x ∷ a ∷ m ∷ c ∷ d ∷ []) rows (8 * n) i (omega arith) (omega arith))
-
-  earlier : Below (8 * n) rows rows′
-  unfolding Below
-  earlier i h = rw e (sets-before (k ∷ l ∷ x ∷ a ∷ m ∷ c ∷ d ∷ []) rows (8 * n) i h)
+  left-kept : (r : ℕ) → r < n → leftAt rows′ (suc r) ≡ leftAt rows (suc r)
+  unfolding leftAt sizeAt
+  left-kept r l = rw (at-kept r 7 l (omega arith))
 
   module _ (b q : Bytes) (cells : List ℕ) where
-    row-is : treesBefore b q cells rows′ (suc n) ≡ stepBy b q cells k l x a m c d (treesBefore b q cells rows n)
-    unfolding treesBefore
-    row-is =
-        rw (step-is b q cells rows′ n, numbers 0 (omega arith), numbers 1 (omega arith), numbers 2 (omega arith), numbers 3 (omega arith), numbers 4 (omega arith), numbers 5 (omega arith), numbers 6 (omega arith), trees-kept b q cells rows rows′ n earlier)
+    table-kept : (r : ℕ) → r < n → tableAt b q cells rows′ r ≡ tableAt b q cells rows r
+    unfolding tableAt
+    table-kept r l =
+        rw (
+          at-kept r 1 l (omega arith),
+          at-kept r 3 l (omega arith),
+          at-kept r 4 l (omega arith),
+          at-kept r 5 l (omega arith),
+          at-kept r 6 l (omega arith),
+        )
 
-    pub table-row : k ≡ 1 → treesBefore b q cells rows′ (suc n) ≡ table l (wordAt b q a m) (nameAt b q c d) ∷ treesBefore b q cells rows n
-    unfolding stepBy coded
-    table-row z = row-is ∙ rw z
+    row-kept : (r : ℕ) (u v : From) → r < n → rowAt b q cells rows′ r u v ≡ rowAt b q cells rows r u v
+    unfolding rowAt
+    row-kept r u v l =
+        rw (
+          at-kept r 0 l (omega arith),
+          at-kept r 1 l (omega arith),
+          at-kept r 2 l (omega arith),
+          at-kept r 3 l (omega arith),
+          at-kept r 4 l (omega arith),
+          at-kept r 5 l (omega arith),
+          at-kept r 6 l (omega arith),
+        )
 
-    pub join-row : (j : Join) (v y : From) (fs : List From) (o : Option Expr) → k ≡ joinNumber j → treesBefore b q cells rows n ≡ y ∷ v ∷ fs → predicateAt b q cells rows′ x ≡ o
+    tree-kept : (m r : ℕ) → r < n → treeIn b q cells rows′ m r ≡ treeIn b q cells rows m r
+    unfolding treeIn
+    tree-kept zero r l = table-kept r l
+    tree-kept (suc m) zero l = table-kept zero l
+    tree-kept (suc m) (suc r) l =
+        rw (
+          left-kept r (omega arith),
+          tree-kept m (leftAt rows (suc r)) (omega (arith, left-most rows r)),
+          tree-kept m r (omega arith),
+        ) (row-kept (suc r) _ _ l)
+
+    from-kept : (r : ℕ) → r < n → fromAt b q cells rows′ r ≡ fromAt b q cells rows r
+    unfolding fromAt
+    from-kept r l = tree-kept r r l
+
+    trees-in-kept : (m r : ℕ) → r ≤ n → map (fromAt b q cells rows′) (rootsIn rows′ m r)
+        ≡ map (fromAt b q cells rows) (rootsIn rows m r)
+    unfolding rootsIn
+    trees-in-kept zero r l = refl
+    trees-in-kept (suc m) zero l = refl
+    trees-in-kept (suc m) (suc r) l =
+        rw (
+          from-kept r (omega arith),
+          first-kept r (omega arith),
+          trees-in-kept m (firstAt rows r) (omega (arith, first-most rows r)),
+        )
+
+    trees-kept : (r : ℕ) → r ≤ n → treesBefore b q cells rows′ r ≡ treesBefore b q cells rows r
+    unfolding treesBefore rootsBefore
+    trees-kept r l = trees-in-kept r r l
+
+-- ONE ROW MORE
+module _ (rows rows′ : List ℕ) (n k l x a m c d s : ℕ) (room : rowSize * n + rowSize ≤ length rows)
+    (e : rows′ ≡ sets rows (rowSize * n) (k ∷ l ∷ x ∷ a ∷ m ∷ c ∷ d ∷ s ∷ [])) where
+  numbers : (i : ℕ) → i < 8 → at rows′ n i ≡ getD (k ∷ l ∷ x ∷ a ∷ m ∷ c ∷ d ∷ s ∷ []) i 0
+  unfolding at
+  numbers i h = rw e (sets-at (k ∷ l ∷ x ∷ a ∷ m ∷ c ∷ d ∷ s ∷ []) rows (rowSize * n) i (omega arith) (omega arith))
+
+  earlier : Below (rowSize * n) rows rows′
+  unfolding Below
+  earlier i h = rw e (sets-before (k ∷ l ∷ x ∷ a ∷ m ∷ c ∷ d ∷ s ∷ []) rows (rowSize * n) i h)
+
+  first-is : firstAt rows′ n ≡ n - s
+  unfolding firstAt sizeAt
+  first-is = rw (numbers 7 (omega arith)) (omega arith)
+
+  module _ (b q : Bytes) (cells : List ℕ) where
+    table-is : tableAt b q cells rows′ n ≡ tableBy b q cells l a m c d
+    unfolding tableAt
+    table-is =
+        rw (
+          numbers 1 (omega arith),
+          numbers 3 (omega arith),
+          numbers 4 (omega arith),
+          numbers 5 (omega arith),
+          numbers 6 (omega arith),
+        )
+
+    row-is : (u v : From) → rowAt b q cells rows′ n u v ≡ rowBy b q cells k l x a m c d u v
+    unfolding rowAt
+    row-is u v =
+        rw (
+          numbers 0 (omega arith),
+          numbers 1 (omega arith),
+          numbers 2 (omega arith),
+          numbers 3 (omega arith),
+          numbers 4 (omega arith),
+          numbers 5 (omega arith),
+          numbers 6 (omega arith),
+        )
+
+    -- the trees before the tree of this row are those of the rows before its first
+    rest-is : (f : ℕ) → n - s ≡ f → f ≤ n → treesBefore b q cells rows′ (suc n)
+        ≡ fromAt b q cells rows′ n ∷ treesBefore b q cells rows f
+    rest-is f z h = trees-next b q cells rows′ n ∙ rw (first-is, z, trees-kept rows rows′ n earlier b q cells f h)
+
+    pub table-row : k ≡ 1 → s ≡ 0 → treesBefore b q cells rows′ (suc n)
+        ≡ table l (wordAt b q a m) (nameAt b q c d) ∷ treesBefore b q cells rows n
+    table-row z y = rest-is n (omega arith) (omega arith) ∙ ap (λ f. f ∷ treesBefore b q cells rows n) (go n refl)
+      where
+        one : (u v : From) → rowBy b q cells k l x a m c d u v ≡ table l (wordAt b q a m) (nameAt b q c d)
+        one u v = unfold rowBy tableBy coded in rw z
+
+        go : (i : ℕ) → n ≡ i → fromAt b q cells rows′ n ≡ table l (wordAt b q a m) (nameAt b q c d)
+        go zero w = ap (fromAt b q cells rows′) w ∙ from-first b q cells rows′ ∙ ap (tableAt b q cells rows′) (sym w)
+            ∙ table-is ∙ (unfold tableBy in refl)
+        go (suc i) w = ap (fromAt b q cells rows′) w ∙ from-next b q cells rows′ i
+            ∙ ap (λ r. rowAt b q cells rows′ r (fromAt b q cells rows′ (leftAt rows′ (suc i)))
+            (fromAt b q cells rows′ i)) (sym w) ∙ row-is _ _ ∙ one _ _
+
+    pub join-row : (j : Join) (v y : From) (fs : List From) (o : Option Expr) → k ≡ joinNumber j
+        → s ≡ sidesBefore rows n → treesBefore b q cells rows n ≡ y ∷ v ∷ fs → predicateAt b q cells x ≡ o
         → treesBefore b q cells rows′ (suc n) ≡ join l j v y o ∷ fs
-    unfolding stepBy coded joinedBy joinNumber
-    join-row cross v y fs o z h g = let w = sym (predicate-is b q cells rows′ x) ∙ g in row-is ∙ rw (h, w, z)
-    join-row inner v y fs o z h g = let w = sym (predicate-is b q cells rows′ x) ∙ g in row-is ∙ rw (h, w, z)
-    join-row left v y fs o z h g = let w = sym (predicate-is b q cells rows′ x) ∙ g in row-is ∙ rw (h, w, z)
-    join-row right v y fs o z h g = let w = sym (predicate-is b q cells rows′ x) ∙ g in row-is ∙ rw (h, w, z)
+    unfolding rowBy coded joinNumber
+    join-row j v y fs o z w h g =
+        let p = sides-of b q cells rows n v y fs h in
+        let i = p .root in
+        let i< : i < n = omega (arith, p .is) in
+        let few = left-most rows i in
+        let kept = from-kept rows rows′ n earlier b q cells in
+        let first : firstAt rows (leftAt rows n) ≡ firstAt rows (leftAt rows (suc i)) =
+        ap (λ r. firstAt rows (leftAt rows r)) (p .is) in
+        let low = first-most rows (leftAt rows (suc i)) in
+        let u : n - s ≡ firstAt rows (leftAt rows (suc i)) = omega (arith, w, sides-past rows n, first) in
+        let sides : rowAt b q cells rows′ (suc i) (fromAt b q cells rows′ (leftAt rows′ (suc i)))
+        (fromAt b q cells rows′ i) ≡ rowAt b q cells rows′ (suc i) v y =
+        rw (
+          left-kept rows rows′ n earlier i i<,
+          kept (leftAt rows (suc i)) (omega (arith, few, i<)),
+          kept i i<,
+          p .left,
+          p .right,
+        ) in
+        let root = ap (fromAt b q cells rows′) (p .is) ∙ from-next b q cells rows′ i ∙ sides
+        ∙ ap (λ r. rowAt b q cells rows′ r v y) (sym (p .is)) ∙ row-is v y ∙ one j z in
+        rest-is (firstAt rows (leftAt rows (suc i))) u (omega (arith, low, few, i<)) ∙ rw (root, p .rest)
+      where
+        one : (j : Join) → k ≡ joinNumber j → rowBy b q cells k l x a m c d v y ≡ join l j v y o
+        one cross z = rw (z, g)
+        one inner z = rw (z, g)
+        one left z = rw (z, g)
+        one right z = rw (z, g)

@@ -16,8 +16,10 @@ use Rattle.rules.specs.ReadStatement.{fromHeads, fromTree, froms}
 use Rattle.text.specs.Lines.{lineEnd}
 use Rattle.text.specs.Reading.{place-length}
 use Rattle.text.specs.Answers.{wrongAt, limitAt, bind-ok, bind-no, prefixed, prefixed-none, prefixed-twice, give-first}
+use Rattle.ast.specs.Table.{rowSize, tableSize}
 use Rattle.ast.specs.Reading.{here, Position, Below}
-use Rattle.from.specs.Layout.{treesBefore, fromsAt}
+use Rattle.from.specs.Layout.{treesBefore}
+use Rattle.from.specs.Roots.{trees-none, froms-are}
 use Rattle.from.specs.Contracts.{FromsRead}
 use Rattle.from.specs.Records.{FromSays}
 use Rattle.from.specs.Trees.{TreeTook, TreeReady, TreeRead}
@@ -43,7 +45,8 @@ module _ {t : Bytes} {p l c k n : ℕ} {cells rows : List ℕ} (w : TreeReady t 
   unfolding TreeRead
   table-limit m = loop-limit (loop-begin noJoins w no-joins) f z m
 
-  pub table-took : k < mostFromTables → (rows′ : List ℕ) → rows′ ≡ sets rows (8 * n) (1 ∷ l ∷ 0 ∷ r .a ∷ r .b ∷ r .c ∷ r .d ∷ []) → length rows′ ≡ length rows
+  pub table-took : k < mostFromTables → (rows′ : List ℕ)
+      → rows′ ≡ sets rows (rowSize * n) (1 ∷ l ∷ 0 ∷ r .a ∷ r .b ∷ r .c ∷ r .d ∷ 0 ∷ []) → length rows′ ≡ length rows
       → TreeRead t p l c k n cells cells rows rows′ (T.Done (r .next) (l + 1) c (k + 1) (n + 1))
   unfolding TreeRead
   table-took m rows′ e g = loop-end (loop-table (loop-begin noJoins w no-joins) f z m rows′ e g) refl
@@ -76,11 +79,12 @@ pub record FromsLoop (t : Bytes) (p₀ l₀ c₀ : ℕ) (cells₀ : List ℕ) (p
   pub more : c₀ ≤ c
   pub ready : TreeReady t p l c k n cells rows
   pub few : n ≤ 31
-  pub stand : (cells″ : List ℕ) → Below (8 * c) cells cells″ → (b : Bytes) → treesBefore b t cells″ rows n ≡ trees
-  pub cells-kept : Below (8 * c₀) cells₀ cells
+  pub stand : (cells″ : List ℕ) → Below (rowSize * c) cells cells″ → (b : Bytes) → treesBefore b t cells″ rows n ≡ trees
+  pub cells-kept : Below (rowSize * c₀) cells₀ cells
 
-pub froms-begin : {t : Bytes} {p l c : ℕ} {cells rows : List ℕ} → Position t p l c → length cells ≡ 4096 → length rows ≡ 248 → FromsLoop t p l c cells p l c 0 0 cells rows
-unfolding turns treesBefore
+pub froms-begin : {t : Bytes} {p l c : ℕ} {cells rows : List ℕ} → Position t p l c → length cells ≡ tableSize
+    → length rows ≡ 248 → FromsLoop t p l c cells p l c 0 0 cells rows
+unfolding turns
 froms-begin {t} {p} {l} {c} w h g = record {
   trees = [];
   fuel = suc (length (here t p l c 0 .left));
@@ -90,7 +94,7 @@ froms-begin {t} {p} {l} {c} w h g = record {
   more = omega arith;
   ready = record { position = w; cells-room = h; rows-room = g; tables = omega arith; count = omega arith };
   few = omega arith;
-  stand = λ cells″ y b. refl;
+  stand = λ cells″ y b. trees-none b t cells″ _;
   cells-kept = below-refl _ _;
 }
 
@@ -103,7 +107,7 @@ module _ {t : Bytes} {p₀ l₀ c₀ : ℕ} {cells₀ : List ℕ} {p l c k n : �
 
   -- no more
   pub froms-end : any (same (key (here t p l c k))) fromWords ≡ false → FromsRead t p₀ l₀ c₀ cells₀ cells rows (F.Done p l c n)
-  unfolding FromsRead prefixed fromsAt
+  unfolding FromsRead prefixed
   froms-end e = record {
     value = reverse (h .trees);
     tables = k;
@@ -112,7 +116,7 @@ module _ {t : Bytes} {p₀ l₀ c₀ : ℕ} {cells₀ : List ℕ} {p l c k n : �
     moved = h .moved;
     more = h .more;
     few = h .few;
-    stand = λ cells″ y b. ap reverse (h .stand cells″ y b);
+    stand = λ cells″ y b. froms-are b t cells″ rows n ∙ ap reverse (h .stand cells″ y b);
     cells-kept = h .cells-kept;
   }
 
@@ -155,8 +159,10 @@ module _ {t : Bytes} {p₀ l₀ c₀ : ℕ} {cells₀ : List ℕ} {p l c k n : �
         };
         few = omega (arith, took .count, took .tables, h .ready .count);
         stand = λ cells″ y b. took .stand cells″ y b ∙ ap (λ xs. took .value ∷ xs) (h .stand cells″ (below cells″ y) b);
-        cells-kept = below-trans (8 * c₀) cells₀ cells cells′ (h .cells-kept) (below-less (8 * c) (8 * c₀) cells cells′ (omega (arith, h .more)) (took .cells-kept));
+        cells-kept = below-trans (rowSize * c₀) cells₀ cells cells′ (h .cells-kept)
+            (below-less (rowSize * c) (rowSize * c₀) cells cells′ (omega (arith, h .more)) (took .cells-kept));
       }
         where
-          below : (cells″ : List ℕ) → Below (8 * c′) cells′ cells″ → Below (8 * c) cells cells″
-          below cells″ y = below-trans (8 * c) cells cells′ cells″ (took .cells-kept) (below-less (8 * c′) (8 * c) cells′ cells″ (omega (arith, took .more)) y)
+          below : (cells″ : List ℕ) → Below (rowSize * c′) cells′ cells″ → Below (rowSize * c) cells cells″
+          below cells″ y = below-trans (rowSize * c) cells cells′ cells″ (took .cells-kept)
+              (below-less (rowSize * c′) (rowSize * c) cells′ cells″ (omega (arith, took .more)) y)

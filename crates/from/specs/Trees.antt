@@ -12,8 +12,10 @@ use Rattle.rules.specs.Ast.{Expr, From}
 use Rattle.rules.specs.Reader.{turns}
 use Rattle.rules.specs.ReadStatement.{fromTree}
 use Rattle.text.specs.Answers.{wrongAt, limitAt}
+use Rattle.ast.specs.Table.{rowSize, tableSize}
 use Rattle.ast.specs.Reading.{here, Position, Below}
 use Rattle.from.specs.Layout.{predicateAt, treesBefore}
+use Rattle.from.specs.Rows.{sidesBefore}
 use Rattle.from.specs.declared.Tree as Tr
 use Rattle.from.specs.declared.Tree.the-variants as T
 
@@ -30,9 +32,9 @@ onIn v = v / 2 % 2
 -- a join closed in FROM row n: its row is written, and stands for its predicate e, whatever is written behind that later
 pub record Closed (t : Bytes) (c n v : ℕ) (cells cells′ rows rows′ : List ℕ) (c′ : ℕ) (e : Option Expr) : Type 0 where
   pub number : ℕ
-  pub written : rows′ ≡ sets rows (8 * n) (kindIn v ∷ lineIn v ∷ number ∷ 0 ∷ 0 ∷ 0 ∷ 0 ∷ [])
-  pub stands : (cells″ : List ℕ) → Below (8 * c′) cells′ cells″ → (b : Bytes) → predicateAt b t cells″ rows′ number ≡ e
-  pub cells-kept : Below (8 * c) cells cells′
+  pub written : rows′ ≡ sets rows (rowSize * n) (kindIn v ∷ lineIn v ∷ number ∷ 0 ∷ 0 ∷ 0 ∷ 0 ∷ sidesBefore rows n ∷ [])
+  pub stands : (cells″ : List ℕ) → Below (rowSize * c′) cells′ cells″ → (b : Bytes) → predicateAt b t cells″ number ≡ e
+  pub cells-kept : Below (rowSize * c) cells cells′
 
 -- a tree that was read behind k tables and n FROM rows: it stands before the trees of those rows
 pub record TreeTook (t : Bytes) (p l c k n : ℕ) (cells cells′ rows rows′ : List ℕ) (p′ l′ c′ k′ n′ : ℕ) : Type 0 where
@@ -43,8 +45,9 @@ pub record TreeTook (t : Bytes) (p l c k n : ℕ) (cells cells′ rows rows′ :
   pub more : c ≤ c′
   pub tables : k′ ≤ mostFromTables
   pub count : n′ + 1 + 2 * k ≡ n + 2 * k′
-  pub stand : (cells″ : List ℕ) → Below (8 * c′) cells′ cells″ → (b : Bytes) → treesBefore b t cells″ rows′ n′ ≡ value ∷ treesBefore b t cells″ rows n
-  pub cells-kept : Below (8 * c) cells cells′
+  pub stand : (cells″ : List ℕ) → Below (rowSize * c′) cells′ cells″ → (b : Bytes)
+      → treesBefore b t cells″ rows′ n′ ≡ value ∷ treesBefore b t cells″ rows n
+  pub cells-kept : Below (rowSize * c) cells cells′
 
 unfoldable pub TreeRead : (t : Bytes) (p l c k n : ℕ) (cells cells′ rows rows′ : List ℕ) → Tr.Tree → Type 0
 TreeRead t p l c k n cells cells′ rows rows′ (T.Done p′ l′ c′ k′ n′) = TreeTook t p l c k n cells cells′ rows rows′ p′ l′ c′ k′ n′
@@ -54,7 +57,7 @@ TreeRead t p l c k n cells cells′ rows rows′ (T.Limit x) = turns fromTree (h
 -- a tree may stand here, and its rows have room
 pub record TreeReady (t : Bytes) (p l c k n : ℕ) (cells rows : List ℕ) : Type 0 where
   pub position : Position t p l c
-  pub cells-room : length cells ≡ 4096
+  pub cells-room : length cells ≡ tableSize
   pub rows-room : length rows ≡ 248
   pub tables : k ≤ mostFromTables
   pub count : n ≤ 2 * k

@@ -1,5 +1,6 @@
 // FROM: the trees of tables and joins, read by a loop over an explicit stack of the joins that are open.
 mod record;
+pub mod roots;
 
 ghost use mathlib.Core.Path.{_≡_};
 ghost use mathlib.Core.Bool.{true, false};
@@ -9,7 +10,7 @@ ghost use lib.ListN.{length};
 ghost use lib.Seq.{sets};
 ghost use Rattle.rules.specs.Reader.{optional};
 ghost use Rattle.rules.specs.ReadExpression.{expression};
-ghost use Rattle.ast.specs.Table.{isOne};
+ghost use Rattle.ast.specs.Table.{rowSize, tableSize, isOne};
 ghost use Rattle.ast.specs.Reading.{Position, Given};
 ghost use Rattle.from.specs.Contracts.{FromsRead};
 ghost use Rattle.from.specs.Trees.{onIn, Closed, TreeReady, TreeRead};
@@ -17,8 +18,10 @@ ghost use Rattle.from.specs.Turns.{TreeBegun, RowsBegun, TurnFrom};
 use self::record::TABLE;
 use self::record::from_record;
 use self::record::from_stands;
+use self::roots::sides;
 use ast::reading::Read;
 use ast::reading::read_expressions;
+use ast::rows::ROW_SIZE;
 
 // Most tables in FROM.
 const MOST_TABLES: u32 = 16;
@@ -71,11 +74,12 @@ fn put_row(
     b: u32,
     c: u32,
     d: u32,
+    sides: u32,
 )
-    requires { ⌜ 8 * n + 8 ≤ length (now rows) ⌝ }
-    ensures { λ _. ⌜ now (rows .exit) ≡ sets (now (rows .entry)) (8 * n) (kind ∷ line ∷ predicate ∷ a ∷ b ∷ c ∷ d ∷ []) ⌝ }
+    requires { ⌜ rowSize * n + rowSize ≤ length (now rows) ⌝ }
+    ensures { λ _. ⌜ now (rows .exit) ≡ sets (now (rows .entry)) (rowSize * n) (kind ∷ line ∷ predicate ∷ a ∷ b ∷ c ∷ d ∷ sides ∷ []) ⌝ }
 {
-    let i = 8 * n as usize;
+    let i = ROW_SIZE * n as usize;
     rows[i] = kind;
     rows[i + 1] = line;
     rows[i + 2] = predicate;
@@ -83,6 +87,7 @@ fn put_row(
     rows[i + 4] = b;
     rows[i + 5] = c;
     rows[i + 6] = d;
+    rows[i + 7] = sides;
 }
 
 // The predicate of an open join, if it has one, and its row.
@@ -96,21 +101,22 @@ fn close_join(
     cells: &mut [u32],
     rows: &mut [u32],
 ) -> Read
-    requires { ⌜ Position (now t) p l c ⌝ ∗ ⌜ (n ≤ 30) × (length (now cells) ≡ 4096) × (length (now rows) ≡ 248) ⌝ }
+    requires { ⌜ Position (now t) p l c ⌝ ∗ ⌜ (n ≤ 30) × (length (now cells) ≡ tableSize) × (length (now rows) ≡ 248) ⌝ }
     ensures { λ r. ⌜ ((k : ℕ) → Given (optional (isOne (onIn v)) expression) (Closed (now (t .entry)) c n v (now (cells .entry)) (now (cells .exit)) (now (rows .entry)) (now (rows .exit))) (now (t .entry)) p l c k r) ⌝ }
 {
     let line = v / 32;
     let kind = v / 4 % 8;
     let on = v / 2 % 2;
+    let s = sides(rows, n);
     if on != 1 {
-        put_row(rows, n, kind, line, 0, 0, 0, 0, 0);
+        put_row(rows, n, kind, line, 0, 0, 0, 0, 0, s);
         return Read::Done(p, l, c);
     }
     let r = read_expressions(t, p, l, c, 1, cells);
     match r {
-        Read::Done(e, m, s) => {
-            put_row(rows, n, kind, line, c + 1, 0, 0, 0, 0);
-            Read::Done(e, m, s)
+        Read::Done(e, m, x) => {
+            put_row(rows, n, kind, line, c + 1, 0, 0, 0, 0, s);
+            Read::Done(e, m, x)
         }
         Read::Wrong(x) => Read::Wrong(x),
         Read::Limit(x) => Read::Limit(x),
@@ -142,7 +148,7 @@ fn next_side(t: &[u8], s: Stand, stack: &mut [u32], rows: &mut [u32]) -> Turn
     if MOST_TABLES <= s.k {
         return Turn::Limit(s.l);
     }
-    put_row(rows, s.n, TABLE, s.l, 0, h.a, h.b, h.c, h.d);
+    put_row(rows, s.n, TABLE, s.l, 0, h.a, h.b, h.c, h.d, 0);
     Turn::On(Stand {
         p: h.next,
         l: s.l + 1,
@@ -287,13 +293,13 @@ fn read_tree(
     if MOST_TABLES <= k {
         return Tree::Limit(l);
     }
-    put_row(rows, n, TABLE, l, 0, h.a, h.b, h.c, h.d);
+    put_row(rows, n, TABLE, l, 0, h.a, h.b, h.c, h.d, 0);
     Tree::Done(h.next, l + 1, c, k + 1, n + 1)
 }
 
 // The FROM items at a position, from row c on.
 pub fn read_froms(t: &[u8], p: usize, l: u32, c: u32, cells: &mut [u32], rows: &mut [u32]) -> Froms
-    requires { ⌜ Position (now t) p l c ⌝ ∗ ⌜ (length (now cells) ≡ 4096) × (length (now rows) ≡ 248) ⌝ }
+    requires { ⌜ Position (now t) p l c ⌝ ∗ ⌜ (length (now cells) ≡ tableSize) × (length (now rows) ≡ 248) ⌝ }
     ensures { λ r. ⌜ FromsRead (now (t .entry)) p l c (now (cells .entry)) (now (cells .exit)) (now (rows .exit)) r ⌝ }
 {
     let mut at = p;

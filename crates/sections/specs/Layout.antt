@@ -38,7 +38,7 @@ module _ (b q : Bytes) (cells : List ℕ) where
   entryAt parts i = record {
     line = getD parts i 0;
     head = headAt parts i;
-    exprs = argumentsAt (treeAt b q cells 32) cells (getD parts (i + 1) 0) (getD parts (i + 2) 0);
+    exprs = argumentsAt (treeAt b q cells) cells (getD parts (i + 1) 0) (getD parts (i + 2) 0);
   }
 
   unfoldable pub entriesAt : List ℕ → ℕ → ℕ → List Entry

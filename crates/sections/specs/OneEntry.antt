@@ -12,7 +12,7 @@ use Rattle.rules.specs.Lists.{Bytes}
 use Rattle.rules.specs.Ast.{Exprs}
 use Rattle.rules.specs.Reader.{Place, Read, at, rest, next, stop}
 use Rattle.rules.specs.ReadExpression.{times, expression}
-use Rattle.ast.specs.Table.{argumentsAt, treeAt}
+use Rattle.ast.specs.Table.{rowSize, tableSize, argumentsAt, treeAt}
 use Rattle.text.specs.Answers.{wrongAt, limitAt, bind-ok, bind-no, within-wrong, within-limit, within-ok, prefixed, give-first}
 use Rattle.text.specs.Lines.{lineEnd, line-moves, line-most}
 use Rattle.text.specs.Reading.{place, place-next}
@@ -68,7 +68,7 @@ pub record EntryReady (t : Bytes) (p l c kind n : ℕ) (cells parts : List ℕ) 
   pub position : Position t p l c
   pub kinds : kind ≤ 11
   pub most : n ≤ mostOf kind
-  pub cells-room : length cells ≡ 4096
+  pub cells-room : length cells ≡ tableSize
   pub parts-room : length parts ≡ numbers
 
 -- its numbers lie in the parts
@@ -84,9 +84,10 @@ pub record EntryTook (t : Bytes) (p l c kind n : ℕ) (b : Option Bytes) (cells 
   pub moved : p < p′
   pub more : c ≤ c′
   pub few : n < mostOf kind
-  pub stands : (cells″ parts″ : List ℕ) → Below (8 * c′) cells′ cells″ → Kept (entryStart kind n) (entryStart kind (suc n)) parts′ parts″ → (b : Bytes)
+  pub stands : (cells″ parts″ : List ℕ) → Below (rowSize * c′) cells′ cells″
+      → Kept (entryStart kind n) (entryStart kind (suc n)) parts′ parts″ → (b : Bytes)
       → entryAt b t cells″ parts″ (entryStart kind n) ≡ value
-  pub cells-kept : Below (8 * c) cells cells′
+  pub cells-kept : Below (rowSize * c) cells cells′
   pub parts-kept : Below (entryStart kind n) parts parts′
 
 -- no entry: nothing was written
@@ -130,7 +131,7 @@ module _ {t : Bytes} {p l c kind n : ℕ} {cells parts : List ℕ} (w : EntryRea
       moved : p < e
       moved = omega (arith, ee, line-moves t p (keyword-inside kind (w .kinds) t p l c 0 (entered 0 .stands)))
 
-      pub entry-next : Position t e (l + 1) c × ((r .expressions ≤ 513) × (length cells ≡ 4096))
+      pub entry-next : Position t e (l + 1) c × ((r .expressions ≤ 513) × (length cells ≡ tableSize))
       entry-next = (
         record { short = w .position .short; within = omega (arith, ee, line-most t p, w .position .within); line = omega (arith, moved, w .position .line); rows = w .position .rows },
         (entered 0 .few, w .cells-room),
@@ -139,8 +140,10 @@ module _ {t : Bytes} {p l c kind n : ℕ} {cells parts : List ℕ} (w : EntryRea
       at-next : (k : ℕ) → next (here t p l c k) ≡ here t e (l + 1) c k
       at-next k = place-next statement t p l c k ∙ ap (λ x. here t x (l + 1) c k) (sym ee)
 
-      module _ (cells′ : List ℕ) {a : Rd.Read} (g : (k : ℕ) → Given (times (r .expressions) expression) (Rows t c cells cells′ 32) t e (l + 1) c k a) where
-        read-as : (k : ℕ) (x : Rd.Read) → a ≡ x → Given (times (entered k .head .expressions) expression) (Rows t c cells cells′ 32) t e (l + 1) c k x
+      module _ (cells′ : List ℕ) {a : Rd.Read} (g : (k : ℕ)
+          → Given (times (r .expressions) expression) (Rows t c cells cells′) t e (l + 1) c k a) where
+        read-as : (k : ℕ) (x : Rd.Read) → a ≡ x → Given (times (entered k .head .expressions) expression)
+            (Rows t c cells cells′) t e (l + 1) c k x
         read-as k x y = rw (entered k .expressions, y) at (g k)
 
         pub entry-refused : {x : ℕ} → a ≡ R.Wrong x → (k : ℕ) → EntryRead t p l c kind n last len cells cells′ parts parts k (S.Wrong x)
@@ -156,7 +159,8 @@ module _ {t : Bytes} {p l c kind n : ℕ} {cells parts : List ℕ} (w : EntryRea
             entries-no kind fuel n _ _ (v .stands) (v .head) (v .is) m _ (ap (times (v .head .expressions) expression) (at-next k) ∙ read-as k (R.Limit x) y)
 
         module _ {p′ l′ c′ : ℕ} (y : a ≡ R.Done p′ l′ c′) where
-          took : (k : ℕ) → Took (times (entered k .head .expressions) expression) (Rows t c cells cells′ 32 c′) t e (l + 1) c k p′ l′ c′
+          took : (k : ℕ) → Took (times (entered k .head .expressions) expression) (Rows t c cells cells′ c′) t e
+              (l + 1) c k p′ l′ c′
           unfolding Given
           took k = read-as k (R.Done p′ l′ c′) y
 
@@ -190,7 +194,9 @@ module _ {t : Bytes} {p l c kind n : ℕ} {cells parts : List ℕ} (w : EntryRea
                       let f : Kept (entryStart kind n) (entryStart kind n + length (entryNumbers l c (d .head))) parts′ parts″ = rw (entry-twelve l c (d .head), start-next) β in
                       let q = rows-back (x .holds) (w .cells-room) (x .position .rows) cells″ α b in
                       let z = times-count (d .head .expressions) expression _ _ es (x .is) in
-                      entry-back b t cells″ parts″ (entryStart kind n) l c (d .head) (d .named b) (d .refers b) (stored-kept f (stored k)) es (ap (λ z. argumentsAt (treeAt b t cells″ 32) cells″ z c) (sym z) ∙ q);
+                      entry-back b t cells″ parts″ (entryStart kind n) l c (d .head) (d .named b) (d .refers b)
+                      (stored-kept f (stored k)) es (ap (λ z. argumentsAt (treeAt b t cells″) cells″ z c) (sym z)
+                      ∙ q);
                   cells-kept = rows-kept (x .holds);
                   parts-kept = rw u (below-sets (entryStart kind n) parts (entryStart kind n) (l ∷ r .expressions ∷ c ∷ numbersOf r) (omega arith));
                 }

@@ -20,6 +20,7 @@ use Rattle.entries.specs.Heads.{lastName}
 use Rattle.sections.specs.Contracts.{endOf, SectionRead}
 use Rattle.sections.specs.Kinds.{end-within, turns-once, turns-more, turns-some}
 use Rattle.numbers.specs.Kept.{Kept, kept-part, kept-on, kept-set}
+use Rattle.ast.specs.Table.{rowSize, tableSize}
 use Rattle.ast.specs.Rows.{below-refl, below-trans, below-less, below-set}
 use Rattle.sections.specs.Store.{kept-below, entries-more}
 use Rattle.sections.specs.OneEntry.{entryStart, EntryReady, EntryTook, EntryRead}
@@ -43,9 +44,10 @@ pub record EntriesRead (t : Bytes) (p₀ c₀ kind : ℕ) (cells₀ parts₀ : L
   pub position : Position t p l c
   pub moved : p₀ + n ≤ p
   pub more : c₀ ≤ c
-  pub stands : (cells″ parts″ : List ℕ) → Below (8 * c) cells cells″ → Kept (startOf kind + 1) (entryStart kind n) parts parts″ → (b : Bytes)
+  pub stands : (cells″ parts″ : List ℕ) → Below (rowSize * c) cells cells″
+      → Kept (startOf kind + 1) (entryStart kind n) parts parts″ → (b : Bytes)
       → entriesAt b t cells″ parts″ (startOf kind + 1) n ≡ xs
-  pub cells-kept : Below (8 * c₀) cells₀ cells
+  pub cells-kept : Below (rowSize * c₀) cells₀ cells
   pub parts-kept : Below (startOf kind) parts₀ parts
 
 none-read : (t : Bytes) (p l c kind : ℕ) (cells parts : List ℕ) → Position t p l c → EntriesRead t p c kind cells parts p l c 0 cells parts []
@@ -76,12 +78,14 @@ module _ {t : Bytes} {p₀ c₀ kind : ℕ} {cells₀ parts₀ : List ℕ} {p l 
         moved = omega (arith, h .moved, g .moved);
         more = omega (arith, h .more, g .more);
         stands = λ cells″ parts″ α β b.
-            let α′ = below-trans (8 * c) cells cells′ cells″ (g .cells-kept) (below-less (8 * c′) (8 * c) cells′ cells″ (omega (arith, g .more)) α) in
+            let α′ = below-trans (rowSize * c) cells cells′ cells″ (g .cells-kept)
+            (below-less (rowSize * c′) (rowSize * c) cells′ cells″ (omega (arith, g .more)) α) in
             let β′ = kept-on (kept-below (s + 1) (entryStart kind n) (g .parts-kept) (omega arith)) (kept-part (s + 1) (entryStart kind n) β (omega arith) (omega arith)) in
             let first = h .stands cells″ parts″ α′ β′ b in
             let second = g .stands cells″ parts″ α (kept-part (entryStart kind n) (entryStart kind (suc n)) β (omega arith) (omega arith)) b in
             rw (add-one n, entries-more b t cells″ parts″ (s + 1) n, first, second);
-        cells-kept = below-trans (8 * c₀) cells₀ cells cells′ (h .cells-kept) (below-less (8 * c) (8 * c₀) cells cells′ (omega (arith, h .more)) (g .cells-kept));
+        cells-kept = below-trans (rowSize * c₀) cells₀ cells cells′ (h .cells-kept)
+            (below-less (rowSize * c) (rowSize * c₀) cells cells′ (omega (arith, h .more)) (g .cells-kept));
         parts-kept = below-trans s parts₀ parts parts′ (h .parts-kept) (below-less (entryStart kind n) s parts parts′ (omega arith) (g .parts-kept));
       }
 
@@ -131,7 +135,8 @@ section-begin t p l c kind cells parts w k =
 
 module _ {t : Bytes} {p₀ l₀ c₀ kind : ℕ} {cells₀ parts₀ : List ℕ} {p l c n last len : ℕ} {cells parts : List ℕ}
     (h : (k : ℕ) → SectionLoop t p₀ l₀ c₀ kind cells₀ parts₀ k p l c n last len cells parts) where
-  pub section-ready : kind ≤ 11 → length cells ≡ 4096 → length parts ≡ numbers → EntryReady t p l c kind n cells parts
+  pub section-ready : kind ≤ 11 → length cells ≡ tableSize → length parts ≡ numbers
+      → EntryReady t p l c kind n cells parts
   section-ready g a b = record { position = h 0 .read .position; kinds = g; most = h 0 .read .most; cells-room = a; parts-room = b }
 
   left : turnsAt t kind p₀ - n ≡ suc (turnsAt t kind p₀ - (n + 1))

@@ -107,7 +107,8 @@ module _ (c q : Bytes) (cells s : List ℕ) (i l r : ℕ) (h : EntryHead) (f : N
         names-back c q (h .reference) g,
       )
 
-  pub entry-back : (es : Exprs) → argumentsAt (treeAt c q cells 32) cells (h .expressions) r ≡ es → entryAt c q cells s i ≡ record { line = l; head = h; exprs = es }
+  pub entry-back : (es : Exprs) → argumentsAt (treeAt c q cells) cells (h .expressions) r ≡ es
+      → entryAt c q cells s i ≡ record { line = l; head = h; exprs = es }
   unfolding entryAt twelve
   entry-back es e =
       let n₀ : getD s i 0 ≡ l = (rw (add-zero i) at (number 0 (omega arith))) in

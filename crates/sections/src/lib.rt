@@ -15,6 +15,7 @@ use ast::reading::read_expressions;
 use entries::Head;
 use entries::entry_head;
 use numbers::put_four;
+ghost use Rattle.ast.specs.Table.{tableSize};
 
 // Where the sections start in the parts.
 const STARTS: [usize; 12] = [8, 777, 790, 1559, 1572, 2341, 2354, 8, 21, 790, 8, 8];
@@ -141,7 +142,7 @@ pub fn read_section(
     cells: &mut [u32],
     parts: &mut [u32],
 ) -> Read
-    requires { ⌜ Position (now t) p l c ⌝ ∗ ⌜ (kind ≤ 11) × (length (now cells) ≡ 4096) × (length (now parts) ≡ 3863) ⌝ }
+    requires { ⌜ Position (now t) p l c ⌝ ∗ ⌜ (kind ≤ 11) × (length (now cells) ≡ tableSize) × (length (now parts) ≡ 3863) ⌝ }
     ensures { λ r. ⌜ ((k : ℕ) → Given (section kind) (SectionRead (now (t .entry)) kind c (now (cells .entry)) (now (cells .exit)) (now (parts .entry)) (now (parts .exit))) (now (t .entry)) p l c k r) ⌝ }
 {
     let once = is_once(kind);
@@ -191,7 +192,7 @@ pub fn read_some(
     cells: &mut [u32],
     parts: &mut [u32],
 ) -> Read
-    requires { ⌜ Position (now t) p l c ⌝ ∗ ⌜ (kind ≤ 11) × (length (now cells) ≡ 4096) × (length (now parts) ≡ 3863) ⌝ }
+    requires { ⌜ Position (now t) p l c ⌝ ∗ ⌜ (kind ≤ 11) × (length (now cells) ≡ tableSize) × (length (now parts) ≡ 3863) ⌝ }
     ensures { λ r. ⌜ ((k : ℕ) → Given (someSection kind) (SectionRead (now (t .entry)) kind c (now (cells .entry)) (now (cells .exit)) (now (parts .entry)) (now (parts .exit))) (now (t .entry)) p l c k r) ⌝ }
 {
     let r = read_section(t, p, l, c, kind, cells, parts);

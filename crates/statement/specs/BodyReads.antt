@@ -14,7 +14,7 @@ use Rattle.rules.specs.Ast.{Statement}
 use Rattle.rules.specs.Ast as Ast
 use Rattle.rules.specs.Reader.{Place, Read, give, _>>=_}
 use Rattle.rules.specs.ReadStatement.{StatementHead, selectHead, otherHead, deleteHead, insertHead, updateHead, createHead, dropHead}
-use Rattle.ast.specs.Table.{coded}
+use Rattle.ast.specs.Table.{tableSize, coded}
 use Rattle.text.specs.Answers.{wrongAt, limitAt, bind-ok}
 use Rattle.ast.specs.Reading.{here, Position, Given, Below}
 use Rattle.entries.specs.Entries.{Entry, mostOf, section, someSection}
@@ -32,7 +32,7 @@ use Rattle.ast.specs.declared.reading.Read.the-variants as R
 
 -- the slices' lengths
 pub record Room (cells froms parts : List ℕ) : Type 0 where
-  pub rows : length cells ≡ 4096
+  pub rows : length cells ≡ tableSize
   pub from-rows : length froms ≡ 248
   pub numbers : length parts ≡ 3863
 

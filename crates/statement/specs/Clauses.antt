@@ -9,6 +9,7 @@ use Rattle.rules.specs.Refusals.{statement, Answer, ok, refused}
 use Rattle.rules.specs.Lists.{Bytes}
 use Rattle.rules.specs.Reader.{Place, Read, give, _>>=_}
 use Rattle.text.specs.Answers.{wrongAt, limitAt, bind-ok}
+use Rattle.ast.specs.Table.{rowSize}
 use Rattle.ast.specs.Reading.{here, Position, Took, Given, Below}
 use Rattle.entries.specs.Entries.{Entry, mostOf, section}
 use Rattle.sections.specs.Layout.{startOf, sectionAt}
@@ -70,8 +71,9 @@ edges (suc (suc (suc (suc (suc (suc (suc k))))))) l = absurd (omega arith)
 
 -- sections that were read from row c on to row c′
 pub record RunRead (t : Bytes) (kind n c : ℕ) (cells cells′ parts parts′ : List ℕ) (c′ : ℕ) (xss : List (List Entry)) : Type 0 where
-  pub is : (x y : List ℕ) → Below (8 * c′) cells′ x → Below 2367 parts′ y → (b : Bytes) → runAt b t x y kind n ≡ xss
-  pub cells-kept : Below (8 * c) cells cells′
+  pub is : (x y : List ℕ) → Below (rowSize * c′) cells′ x → Below 2367 parts′ y → (b : Bytes)
+      → runAt b t x y kind n ≡ xss
+  pub cells-kept : Below (rowSize * c) cells cells′
   pub parts-kept : Below (edge kind) parts parts′
 
 -- READING THEM
@@ -137,9 +139,12 @@ module _ (t : Bytes) (kind n p l c k : ℕ) (cells cells′ parts parts′ : Lis
         let first = took .holds in
         record {
           is = λ x y f g b.
-              let u = first .is x y (below-trans _ _ cells″ x (h .cells-kept) (below-less (8 * c″) _ _ x (omega arith) f)) (rw (sides .1) (below-trans _ _ parts″ y (h .parts-kept) (below-less 2367 _ _ y (sides .2) g))) b in
+              let u = first .is x y (below-trans _ _ cells″ x (h .cells-kept)
+              (below-less (rowSize * c″) _ _ x (omega arith) f))
+              (rw (sides .1) (below-trans _ _ parts″ y (h .parts-kept) (below-less 2367 _ _ y (sides .2) g))) b in
               rw (u, h .is x y f g b);
-          cells-kept = below-trans _ _ cells′ cells″ (first .cells-kept) (below-less (8 * c′) _ _ cells″ (omega (arith, took .more)) (h .cells-kept));
+          cells-kept = below-trans _ _ cells′ cells″ (first .cells-kept)
+              (below-less (rowSize * c′) _ _ cells″ (omega (arith, took .more)) (h .cells-kept));
           parts-kept = below-trans _ _ parts′ parts″ (rw (sides .0) at (first .parts-kept)) (below-less (edge (suc kind)) _ _ parts″ (sides .3) (h .parts-kept));
         }
 

@@ -9,6 +9,7 @@ use Rattle.rules.specs.Lines.{Word}
 use Rattle.rules.specs.Ast as Ast
 use Rattle.rules.specs.Reader.{Place, Read, give, _>>=_}
 use Rattle.rules.specs.ReadStatement.{insertHead}
+use Rattle.ast.specs.Table.{rowSize}
 use Rattle.ast.specs.Reading.{here, Position, Took, Given, Below}
 use Rattle.entries.specs.Entries.{Entry, mostOf, section, someSection}
 use Rattle.sections.specs.Layout.{startOf, entriesAt, sectionAt}
@@ -24,8 +25,9 @@ use Rattle.ast.specs.declared.reading.Read.the-variants as R
 
 -- names that were read behind the entries cs of `columns`, from row c on to row c′; where there is no `columns`, none
 pub record NamesRead (t : Bytes) (cs : List Entry) (c : ℕ) (cells cells′ parts parts′ : List ℕ) (c′ : ℕ) (ns : List Entry) : Type 0 where
-  pub is : (x y : List ℕ) → Below (8 * c′) cells′ x → Below 790 parts′ y → (b : Bytes) → toNames cs (sectionAt b t x y 8) ≡ toNames cs ns
-  pub cells-kept : Below (8 * c) cells cells′
+  pub is : (x y : List ℕ) → Below (rowSize * c′) cells′ x → Below 790 parts′ y → (b : Bytes)
+      → toNames cs (sectionAt b t x y 8) ≡ toNames cs ns
+  pub cells-kept : Below (rowSize * c) cells cells′
   pub parts-kept : Below 21 parts parts′
 
 -- a section has as many entries as its first number says

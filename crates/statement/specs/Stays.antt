@@ -6,6 +6,7 @@ use mathlib.Core.List.{List, [], _∷_}
 use lib.ListN.{set}
 use lib.Seq.{sets, getD-set-other}
 use Rattle.rules.specs.Lists.{Bytes}
+use Rattle.ast.specs.Table.{rowSize}
 use Rattle.ast.specs.Reading.{Below}
 use Rattle.ast.specs.Rows.{below-refl, below-trans, below-less, below-set}
 use Rattle.entries.specs.Entries.{Entry}
@@ -18,7 +19,7 @@ start-end kind = omega arith
 
 -- P holds whatever stands behind the first c rows and the first n parts
 pub record Stays (c n : ℕ) (cells parts : List ℕ) (P : List ℕ → List ℕ → Type 0) : Type 0 where
-  pub holds : (x y : List ℕ) → Below (8 * c) cells x → Below n parts y → P x y
+  pub holds : (x y : List ℕ) → Below (rowSize * c) cells x → Below n parts y → P x y
 
 -- the first n parts are as they were
 pub stays-begin : (n : ℕ) (cells parts : List ℕ) → Stays 0 n cells parts λ x y. Below n parts y
@@ -33,9 +34,12 @@ module _ {c n : ℕ} {cells parts : List ℕ} {P : List ℕ → List ℕ → Typ
   stays-set i v l = h .holds cells (set parts i v) (below-refl _ _) (below-set _ _ _ _ l)
 
   -- where a reading stores behind them
-  pub stays-more : {c′ n′ : ℕ} {cells′ parts′ : List ℕ} → Below (8 * c) cells cells′ → Below n parts parts′ → c ≤ c′ → n ≤ n′ → Stays c′ n′ cells′ parts′ P
+  pub stays-more : {c′ n′ : ℕ} {cells′ parts′ : List ℕ} → Below (rowSize * c) cells cells′ → Below n parts parts′
+      → c ≤ c′ → n ≤ n′ → Stays c′ n′ cells′ parts′ P
   stays-more {c′} {n′} {cells′} {parts′} f g l m = record {
-    holds = λ x y u v. h .holds x y (below-trans _ _ cells′ x f (below-less (8 * c′) (8 * c) cells′ x (omega arith) u)) (below-trans _ _ parts′ y g (below-less n′ n parts′ y m v));
+    holds = λ x y u v. h .holds x y (below-trans _ _ cells′ x f
+        (below-less (rowSize * c′) (rowSize * c) cells′ x (omega arith) u))
+        (below-trans _ _ parts′ y g (below-less n′ n parts′ y m v));
   }
 
   -- a section more

@@ -7,6 +7,7 @@ ghost use lib.ListN.{length};
 ghost use Rattle.rules.specs.Lists.{Bytes};
 ghost use Rattle.rules.specs.Lines.{Word};
 ghost use Rattle.rules.specs.ReadStatement.{selectHead, insertHead, updateHead};
+ghost use Rattle.ast.specs.Table.{tableSize};
 ghost use Rattle.ast.specs.Reading.{Position, Given};
 ghost use Rattle.entries.specs.Entries.{Entry};
 ghost use Rattle.sections.specs.Layout.{sectionAt};
@@ -60,7 +61,7 @@ fn read_run(
     cells: &mut [u32],
     parts: &mut [u32],
 ) -> Read
-    requires { ⌜ Position (now t) p l c ⌝ ∗ ⌜ (1 ≤ kind) × (kind + n ≤ 7) × (length (now cells) ≡ 4096) × (length (now parts) ≡ 3863) ⌝ }
+    requires { ⌜ Position (now t) p l c ⌝ ∗ ⌜ (1 ≤ kind) × (kind + n ≤ 7) × (length (now cells) ≡ tableSize) × (length (now parts) ≡ 3863) ⌝ }
     ensures { λ r. ⌜ ((k : ℕ) → Given (run kind n) (RunRead (now (t .entry)) kind n c (now (cells .entry)) (now (cells .exit)) (now (parts .entry)) (now (parts .exit))) (now (t .entry)) p l c k r) ⌝ }
 {
     if n == 0 {
@@ -100,7 +101,7 @@ fn read_select(t: &[u8], p: usize, cells: &mut [u32], froms: &mut [u32], parts: 
 
 // The names behind a `columns`, where one was read.
 fn read_names(t: &[u8], p: usize, l: u32, c: u32, cells: &mut [u32], parts: &mut [u32]) -> Read
-    requires { ⌜ Position (now t) p l c ⌝ ∗ ⌜ (length (now cells) ≡ 4096) × (length (now parts) ≡ 3863) ⌝ }
+    requires { ⌜ Position (now t) p l c ⌝ ∗ ⌜ (length (now cells) ≡ tableSize) × (length (now parts) ≡ 3863) ⌝ }
     ensures { λ r. ⌜ ((cs : List Entry) (k : ℕ) → ((b : Bytes) → sectionAt b (now (t .entry)) (now (cells .entry)) (now (parts .entry)) 7 ≡ cs) → Given (namesBehind cs) (NamesRead (now (t .entry)) cs c (now (cells .entry)) (now (cells .exit)) (now (parts .entry)) (now (parts .exit))) (now (t .entry)) p l c k r) ⌝ }
 {
     if parts[COLUMNS_COUNT] == 0 {
@@ -111,7 +112,7 @@ fn read_names(t: &[u8], p: usize, l: u32, c: u32, cells: &mut [u32], parts: &mut
 
 // An INSERT's names and rows.
 fn read_insert(t: &[u8], p: usize, cells: &mut [u32], parts: &mut [u32]) -> Read
-    requires { ⌜ Position (now t) p 2 0 ⌝ ∗ ⌜ (length (now cells) ≡ 4096) × (length (now parts) ≡ 3863) ⌝ }
+    requires { ⌜ Position (now t) p 2 0 ⌝ ∗ ⌜ (length (now cells) ≡ tableSize) × (length (now parts) ≡ 3863) ⌝ }
     ensures { λ r. ⌜ ((n : Word) (froms : List ℕ) → BodyRead (now (t .entry)) (insertHead n) p (now (cells .exit)) froms (now (parts .entry)) (now (parts .exit)) r) ⌝ }
 {
     let a = read_section(t, p, 2, 0, COLUMNS, cells, parts);
@@ -131,7 +132,7 @@ fn read_insert(t: &[u8], p: usize, cells: &mut [u32], parts: &mut [u32]) -> Read
 
 // An UPDATE's sets and `where`.
 fn read_update(t: &[u8], p: usize, cells: &mut [u32], parts: &mut [u32]) -> Read
-    requires { ⌜ Position (now t) p 2 0 ⌝ ∗ ⌜ (length (now cells) ≡ 4096) × (length (now parts) ≡ 3863) ⌝ }
+    requires { ⌜ Position (now t) p 2 0 ⌝ ∗ ⌜ (length (now cells) ≡ tableSize) × (length (now parts) ≡ 3863) ⌝ }
     ensures { λ r. ⌜ ((n : Word) (froms : List ℕ) → BodyRead (now (t .entry)) (updateHead n) p (now (cells .exit)) froms (now (parts .entry)) (now (parts .exit)) r) ⌝ }
 {
     let s = read_some(t, p, 2, 0, SET, cells, parts);

@@ -20,8 +20,8 @@ use crate::first::first_record;
 use crate::first::put_first;
 use ast::reading::Read;
 
-// How many numbers the expression rows take: 512 of eight.
-pub const CELL_NUMBERS: usize = 4096;
+// How many numbers the expression table takes.
+pub const CELL_NUMBERS: usize = ast::rows::TABLE_SIZE;
 
 // How many the FROM rows take: 31 of eight.
 pub const FROM_NUMBERS: usize = 248;

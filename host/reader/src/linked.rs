@@ -23,7 +23,7 @@ unsafe extern "C" {
         statement: *const u8,
         statement_length: usize,
         tables: *mut [u32; 16_545],
-        cells: *mut [u32; 4_096],
+        cells: *mut [u32; 6_144],
         froms: *mut [u32; 248],
         parts: *mut [u32; 3_863],
     ) -> Numbers;
@@ -32,7 +32,7 @@ unsafe extern "C" {
 /// The slices that are lent for reading.
 pub struct Reader {
     tables: Box<[u32; 16_545]>,
-    cells: Box<[u32; 4_096]>,
+    cells: Box<[u32; 6_144]>,
     froms: Box<[u32; 248]>,
     parts: Box<[u32; 3_863]>,
 }
@@ -41,7 +41,7 @@ impl Default for Reader {
     fn default() -> Self {
         Reader {
             tables: Box::new([0; 16_545]),
-            cells: Box::new([0; 4_096]),
+            cells: Box::new([0; 6_144]),
             froms: Box::new([0; 248]),
             parts: Box::new([0; 3_863]),
         }

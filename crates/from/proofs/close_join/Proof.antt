@@ -5,6 +5,9 @@ use Rattle.from.specs.Trees.{lineIn, kindIn, onIn}
 use Rattle.from.proofs.close_join.Statement.{statement}
 use Rattle.from.proofs.close_join.Tie as tie
 
+sides-requires : tie.Need-sides-requires
+sides-requires c κs = search needs
+
 put-row-requires : tie.Need-put-row-requires
 put-row-requires c κs = search needs
 
@@ -13,7 +16,7 @@ same-length c = search needs
 
 returns : tie.Need-returns
 unfolding lineIn kindIn onIn
-returns c = bare-closed _ _ _ _ _ _ _ _ (c .before .before .before .before .if1 .taken) (c .before .before .before .before .before .before .before .before .pre .0) _ (c .before .before .put-row .ensures)
+returns c = bare-closed _ _ _ _ _ _ _ _ (c .before .before .before .before .if1 .taken) (c .before .before .before .before .before .before .before .before .before .before .pre .0) _ (c .before .before .before .before .before .sides .ensures) _ (c .before .before .put-row .ensures)
 
 read-expressions-requires : tie.Need-read-expressions-requires
 read-expressions-requires c κs = search needs
@@ -41,17 +44,23 @@ same-length-3 c = search needs
 
 returns-2 : tie.Need-returns-2
 unfolding lineIn kindIn onIn
-returns-2 c = predicate-closed _ _ _ _ _ _ _ _ (c .before .before .before .before .before .before .before .before .before .before .before .if1 .left) _ _ (c .before .before .before .before .before .before .before .before .before .read-expressions .ensures) _ (c .before .before .before .before .before .r .given .1) (c .before .before .before .before .before .before .before .before .before .before .before .before .before .before .before .pre .1 .1) (c .before .before .put-row2 .ensures)
+returns-2 c = predicate-closed _ _ _ _ _ _ _ _ (c .before .before .before .before .before .before .before .before .before .before .before .if1 .left) _ _ (c .before .before .before .before .before .before .before .before .before .read-expressions .ensures) _ (c .before .before .before .before .before .r .given .1) (c .before .before .before .before .before .before .before .before .before .before .before .before .before .before .before .before .before .pre .1 .1) _ (c .before .before .before .before .before .before .before .before .before .before .before .before .sides .ensures) (c .before .before .put-row2 .ensures)
 
 same-length-4 : tie.Need-same-length-4
 same-length-4 c = search needs
+
+same-length-5 : tie.Need-same-length-5
+same-length-5 c = search needs
 
 returns-3 : tie.Need-returns-3
 unfolding onIn
 returns-3 c = predicate-wrong _ _ _ _ _ _ _ _ (c .before .before .before .before .before .before .before .if1 .left) _ _ (c .before .before .before .before .before .read-expressions .ensures) _ (c .before .r2 .given .1)
 
-same-length-5 : tie.Need-same-length-5
-same-length-5 c = search needs
+same-length-6 : tie.Need-same-length-6
+same-length-6 c = search needs
+
+same-length-7 : tie.Need-same-length-7
+same-length-7 c = search needs
 
 returns-4 : tie.Need-returns-4
 unfolding onIn
@@ -61,6 +70,7 @@ pub close-join-spec : {M : Type 1} → statement M
 close-join-spec =
     tie.close
     (tie.spec
+    sides-requires
     put-row-requires
     same-length
     returns
@@ -74,6 +84,8 @@ close-join-spec =
     same-length-3
     returns-2
     same-length-4
-    returns-3
     same-length-5
+    returns-3
+    same-length-6
+    same-length-7
     returns-4)

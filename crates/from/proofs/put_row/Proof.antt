@@ -1,12 +1,12 @@
--- `put_row`: seven stores are one.
+-- `put_row`: eight stores are one.
 use Prim.Native.Nat.{_*_}
 use native.Mathlib.Omega.{arith}
-use mathlib.Core.Path.{sym}
 use lib.ListN.{length-set}
 use borrow.Author.Needs.{needs}
-use Rattle.from.specs.Rows.{seven-sets}
+use Rattle.ast.specs.Stores.{eight-stores}
 use Rattle.from.proofs.put_row.Statement.{statement}
 use Rattle.from.proofs.put_row.Tie as tie
+use Rattle.ast.specs.Table.{rowSize}
 
 mul-i : tie.Need-mul-i
 mul-i c = search needs
@@ -71,11 +71,20 @@ mul-rows-7 c = search needs
 slice-write-rows-7 : tie.Need-slice-write-rows-7
 slice-write-rows-7 c = simp length-set (omega (arith, c .pre))
 
+add-rows-7 : tie.Need-add-rows-7
+add-rows-7 c = search needs
+
+mul-rows-8 : tie.Need-mul-rows-8
+mul-rows-8 c = search needs
+
+slice-write-rows-8 : tie.Need-slice-write-rows-8
+slice-write-rows-8 c = simp length-set (omega (arith, c .pre))
+
 same-length : tie.Need-same-length
 same-length c = search needs
 
 returns : tie.Need-returns
-returns c = sym (seven-sets (c .args .rows .now) (8 * c .args .n) (c .args .kind) (c .args .line) (c .args .predicate) (c .args .a) (c .args .b) (c .args .c) (c .args .d))
+returns c = eight-stores (c .args .rows .now) (rowSize * c .args .n) (c .args .kind) (c .args .line) (c .args .predicate) (c .args .a) (c .args .b) (c .args .c) (c .args .d) (c .args .sides)
 
 pub put-row-spec : {M : Type 1} → statement M
 put-row-spec =
@@ -102,5 +111,8 @@ put-row-spec =
     add-rows-6
     mul-rows-7
     slice-write-rows-7
+    add-rows-7
+    mul-rows-8
+    slice-write-rows-8
     same-length
     returns)

@@ -368,7 +368,7 @@ read-deep-returns-7 : (t : ℕ) → read-deep-lts.Need-returns-7 (
 read-deep-returns-7 t c = λ k. deep-done _ _ _ k (c .before .before .before .before .before .before .before .before .before .before .before .before .before .before .before .before .before .head .ensures) _ (c .before .before .before .before .before .before .before .before .before .before .before .before .before .before .before .if1 .left) (omega (arith, c .before .before .before .before .before .before .before .before .before .before .before .before .before .before .if2 .left)) (c .before .before .before .before .before .before .before .before .before .before .before .before .before .if3 .left) (c .before .before .before .before .before .before .before .before .before .before .before .before .before .before .before .before .before .before .fields .ensures .next) _ _ (c .before .before .before .before .before .before .before .before .before .before .before .read-times .ensures k) _ _ _ (c .before .before .before .before .before .before .before .r3 .given .1) _ (c .before .before .before .before .if4 .left) (c .before .before .put-row .ensures)
 
 abbrev read-times-Inv-loop : read-times-lts.InvT-loop
-read-times-Inv-loop t p l c depth n cells₀ q₀ m₀ d₀ left₀ cells q m d left = (k : ℕ) → Loop t (deep depth) depth n p l c cells₀ k q m d left cells
+read-times-Inv-loop t p l c depth n cells₀ q₀ m₀ d₀ left₀ cells q m d left = (k : ℕ) → Loop t (deep depth) n p l c cells₀ k q m d left cells
 
 abbrev read-times-μ-loop : read-times-lts.MeasureT-loop
 read-times-μ-loop t p l c depth n cells₀ q₀ m₀ d₀ left₀ cells q m d left = left

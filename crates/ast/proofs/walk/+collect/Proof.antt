@@ -1,5 +1,5 @@
--- `walk::collect`: the depth falls with each call; what the operands left give, written from here on, is what the whole gives.
-use Prim.Native.Nat.{ℕ, _-_, _<_}
+-- `walk::collect`: what is left of the table falls with each call; what the operands left give, written from here on, is what the whole gives.
+use Prim.Native.Nat.{ℕ, _*_, _-_, _<_}
 use native.Mathlib.Omega.{arith}
 use mathlib.Core.Path.{_≡_, refl, sym, ap, _∙_}
 use lib.Seq.{set-out, sets}
@@ -9,7 +9,7 @@ use borrow.Fn.Kinds.{In}
 use borrow.Fn.PlainCycle.{Measures, is, falls, and}
 use Rattle.ast.specs.Operands.{operands-inside}
 use Rattle.ast.specs.Collect.{rowsOf, collectRows, collected}
-use Rattle.ast.proofs.Collects.{one-row, no-place, rows-none, rows-cut, rows-match, rows-on, loop-answer, loop-rows, full-answer, full-rows}
+use Rattle.ast.proofs.Collects.{one-row, no-place, rows-none, rows-match, rows-on, loop-answer, loop-rows, full-answer, full-rows}
 use Rattle.ast.proofs.walk.+collect.{statement}
 use Rattle.ast.proofs.walk.+collect.Tie.{close}
 use Rattle.ast.proofs.walk.collect.Reads as collect
@@ -18,9 +18,10 @@ use Rattle.ast.proofs.walk.+collect.Lts-collect as collect-lts
 use Rattle.ast.proofs.rows.next.Reads as next-reads
 use Rattle.ast.proofs.rows.operands.Reads as operands-reads
 use Rattle.ast.proofs.walk.is_aggregate_call.Reads as is-aggregate-call-reads
+use Rattle.ast.specs.Table.{rowSize}
 
 abbrev μ-collect : Measures 4 collect-kinds.ps ℕ
-μ-collect κs a = a .1 .1 .1 .0
+μ-collect κs a = length (a .1 .1 .0 .now) - a .1 .1 .1 .0
 
 abbrev collect-at : ℕ → In 4 collect-kinds.ps
 collect-at t = and 4 collect-kinds.ps (is 4 collect-kinds.ps μ-collect t) collect.Pre
@@ -29,23 +30,10 @@ abbrev collect-below : ℕ → In 4 collect-kinds.ps
 collect-below t = and 4 collect-kinds.ps (falls 4 collect-kinds.ps _<_ μ-collect t) collect.Pre
 
 abbrev collect-Inv-loop : collect-lts.InvT-loop
-collect-Inv-loop catalog statement table depth r rows₀ count left₀ p₀ n₀ rows left p n = (length rows ≡ length rows₀) × (collected (length rows₀) n (rowsOf (collectRows catalog statement table (depth - 1)) table left p) ≡ collected (length rows₀) count (collectRows catalog statement table depth r)) × (sets rows n (rowsOf (collectRows catalog statement table (depth - 1)) table left p) ≡ sets rows₀ count (collectRows catalog statement table depth r))
+collect-Inv-loop catalog statement table r rows₀ count left₀ p₀ n₀ rows left p n = (r < p) × (rowSize * r < length table) × (length rows ≡ length rows₀) × (collected (length rows₀) n (rowsOf (collectRows catalog statement table) table left p) ≡ collected (length rows₀) count (collectRows catalog statement table r)) × (sets rows n (rowsOf (collectRows catalog statement table) table left p) ≡ sets rows₀ count (collectRows catalog statement table r))
 
 abbrev collect-μ-loop : collect-lts.MeasureT-loop
-collect-μ-loop catalog statement table depth r rows₀ count left₀ p₀ n₀ rows left p n = left
-
-collect-returns : (t : ℕ) → collect-lts.Need-returns (
-  is-aggregate-call-reads.Asked,
-  is-aggregate-call-reads.Learnt,
-  operands-reads.Asked,
-  operands-reads.Learnt,
-  collect-below t,
-  collect.Post,
-  next-reads.Asked,
-  next-reads.Learnt,
-) (collect-at t) collect.Post collect-Inv-loop collect-μ-loop
-unfolding collected
-collect-returns t c = (rw (rows-cut _ _ _ _ _ (c .if1 .taken)), rw (rows-cut _ _ _ _ _ (c .if1 .taken)))
+collect-μ-loop catalog statement table r rows₀ count left₀ p₀ n₀ rows left p n = left
 
 collect-is-aggregate-call-requires : (t : ℕ) → collect-lts.Need-is-aggregate-call-requires (
   is-aggregate-call-reads.Asked,
@@ -83,7 +71,7 @@ collect-slice-write-rows : (t : ℕ) → collect-lts.Need-slice-write-rows (
 ) (collect-at t) collect.Post collect-Inv-loop collect-μ-loop
 collect-slice-write-rows t c = search needs
 
-collect-add-t17 : (t : ℕ) → collect-lts.Need-add-t17 (
+collect-add-t15 : (t : ℕ) → collect-lts.Need-add-t15 (
   is-aggregate-call-reads.Asked,
   is-aggregate-call-reads.Learnt,
   operands-reads.Asked,
@@ -93,7 +81,7 @@ collect-add-t17 : (t : ℕ) → collect-lts.Need-add-t17 (
   next-reads.Asked,
   next-reads.Learnt,
 ) (collect-at t) collect.Post collect-Inv-loop collect-μ-loop
-collect-add-t17 t c = search needs
+collect-add-t15 t c = search needs
 
 collect-same-length : (t : ℕ) → collect-lts.Need-same-length (
   is-aggregate-call-reads.Asked,
@@ -107,6 +95,18 @@ collect-same-length : (t : ℕ) → collect-lts.Need-same-length (
 ) (collect-at t) collect.Post collect-Inv-loop collect-μ-loop
 collect-same-length t c = search needs
 
+collect-returns : (t : ℕ) → collect-lts.Need-returns (
+  is-aggregate-call-reads.Asked,
+  is-aggregate-call-reads.Learnt,
+  operands-reads.Asked,
+  operands-reads.Learnt,
+  collect-below t,
+  collect.Post,
+  next-reads.Asked,
+  next-reads.Learnt,
+) (collect-at t) collect.Post collect-Inv-loop collect-μ-loop
+collect-returns t c = (rw (rows-match _ _ _ _ (sym (c .before .before .is-aggregate-call .ensures) ∙ c .before .if1 .taken)) (sym (one-row _ _ _ (c .if2 .taken))), rw (rows-match _ _ _ _ (sym (c .before .before .is-aggregate-call .ensures) ∙ c .before .if1 .taken)))
+
 collect-returns-2 : (t : ℕ) → collect-lts.Need-returns-2 (
   is-aggregate-call-reads.Asked,
   is-aggregate-call-reads.Learnt,
@@ -117,19 +117,7 @@ collect-returns-2 : (t : ℕ) → collect-lts.Need-returns-2 (
   next-reads.Asked,
   next-reads.Learnt,
 ) (collect-at t) collect.Post collect-Inv-loop collect-μ-loop
-collect-returns-2 t c = (rw (rows-match _ _ _ _ _ (c .before .before .before .if1 .left) (sym (c .before .before .is-aggregate-call .ensures) ∙ c .before .if2 .taken)) (sym (one-row _ _ _ (c .if3 .taken))), rw (rows-match _ _ _ _ _ (c .before .before .before .if1 .left) (sym (c .before .before .is-aggregate-call .ensures) ∙ c .before .if2 .taken)))
-
-collect-returns-3 : (t : ℕ) → collect-lts.Need-returns-3 (
-  is-aggregate-call-reads.Asked,
-  is-aggregate-call-reads.Learnt,
-  operands-reads.Asked,
-  operands-reads.Learnt,
-  collect-below t,
-  collect.Post,
-  next-reads.Asked,
-  next-reads.Learnt,
-) (collect-at t) collect.Post collect-Inv-loop collect-μ-loop
-collect-returns-3 t c = (rw (rows-match _ _ _ _ _ (c .before .before .before .if1 .left) (sym (c .before .before .is-aggregate-call .ensures) ∙ c .before .if2 .taken)) (sym (no-place _ _ _ _ (c .if3 .left))), rw (rows-match _ _ _ _ _ (c .before .before .before .if1 .left) (sym (c .before .before .is-aggregate-call .ensures) ∙ c .before .if2 .taken)) (sym (set-out _ _ _ (c .if3 .left))))
+collect-returns-2 t c = (rw (rows-match _ _ _ _ (sym (c .before .before .is-aggregate-call .ensures) ∙ c .before .if1 .taken)) (sym (no-place _ _ _ _ (c .if2 .left))), rw (rows-match _ _ _ _ (sym (c .before .before .is-aggregate-call .ensures) ∙ c .before .if1 .taken)) (sym (set-out _ _ _ (c .if2 .left))))
 
 collect-operands-requires : (t : ℕ) → collect-lts.Need-operands-requires (
   is-aggregate-call-reads.Asked,
@@ -143,7 +131,7 @@ collect-operands-requires : (t : ℕ) → collect-lts.Need-operands-requires (
 ) (collect-at t) collect.Post collect-Inv-loop collect-μ-loop
 collect-operands-requires t c κs = search needs
 
-collect-returns-4 : (t : ℕ) → collect-lts.Need-returns-4 (
+collect-returns-3 : (t : ℕ) → collect-lts.Need-returns-3 (
   is-aggregate-call-reads.Asked,
   is-aggregate-call-reads.Learnt,
   operands-reads.Asked,
@@ -154,7 +142,7 @@ collect-returns-4 : (t : ℕ) → collect-lts.Need-returns-4 (
   next-reads.Learnt,
 ) (collect-at t) collect.Post collect-Inv-loop collect-μ-loop
 unfolding collected
-collect-returns-4 t c = (rw (← rows-on _ _ _ _ _ _ (c .before .before .before .before .if1 .left) (sym (c .before .before .before .is-aggregate-call .ensures) ∙ c .before .before .if2 .left) (c .before .operands .ensures), rows-none _ _ (c .before .operands .result) _ (omega arith)), rw (← rows-on _ _ _ _ _ _ (c .before .before .before .before .if1 .left) (sym (c .before .before .before .is-aggregate-call .ensures) ∙ c .before .before .if2 .left) (c .before .operands .ensures), rows-none _ _ (c .before .operands .result) _ (omega arith)))
+collect-returns-3 t c = (rw (← rows-on _ _ _ _ _ (sym (c .before .before .before .is-aggregate-call .ensures) ∙ c .before .before .if1 .left) (c .before .operands .ensures), rows-none _ _ (c .before .operands .result) _ (omega arith)), rw (← rows-on _ _ _ _ _ (sym (c .before .before .before .is-aggregate-call .ensures) ∙ c .before .before .if1 .left) (c .before .operands .ensures), rows-none _ _ (c .before .operands .result) _ (omega arith)))
 
 collect-add-p : (t : ℕ) → collect-lts.Need-add-p (
   is-aggregate-call-reads.Asked,
@@ -166,7 +154,7 @@ collect-add-p : (t : ℕ) → collect-lts.Need-add-p (
   next-reads.Asked,
   next-reads.Learnt,
 ) (collect-at t) collect.Post collect-Inv-loop collect-μ-loop
-collect-add-p t c = omega (arith, operands-inside _ _ (λ e. c .if4 .left (c .before .operands .ensures ∙ e)))
+collect-add-p t c = omega (arith, operands-inside _ _ (λ e. c .if3 .left (c .before .operands .ensures ∙ e)))
 
 collect-loop-holds : (t : ℕ) → collect-lts.Need-loop-holds (
   is-aggregate-call-reads.Asked,
@@ -178,19 +166,7 @@ collect-loop-holds : (t : ℕ) → collect-lts.Need-loop-holds (
   next-reads.Asked,
   next-reads.Learnt,
 ) (collect-at t) collect.Post collect-Inv-loop collect-μ-loop
-collect-loop-holds t c = (refl, ap (collected _ _) (rows-on _ _ _ _ _ _ (c .before .before .before .before .if1 .left) (sym (c .before .before .before .is-aggregate-call .ensures) ∙ c .before .before .if2 .left) (c .before .operands .ensures)), ap (sets _ _) (rows-on _ _ _ _ _ _ (c .before .before .before .before .if1 .left) (sym (c .before .before .before .is-aggregate-call .ensures) ∙ c .before .before .if2 .left) (c .before .operands .ensures)))
-
-collect-sub-collect : (t : ℕ) → collect-lts.Need-sub-collect (
-  is-aggregate-call-reads.Asked,
-  is-aggregate-call-reads.Learnt,
-  operands-reads.Asked,
-  operands-reads.Learnt,
-  collect-below t,
-  collect.Post,
-  next-reads.Asked,
-  next-reads.Learnt,
-) (collect-at t) collect.Post collect-Inv-loop collect-μ-loop
-collect-sub-collect t c = search needs
+collect-loop-holds t c = (omega arith, operands-inside _ _ (λ e. c .if3 .left (c .before .operands .ensures ∙ e)), refl, ap (collected _ _) (rows-on _ _ _ _ _ (sym (c .before .before .before .is-aggregate-call .ensures) ∙ c .before .before .if1 .left) (c .before .operands .ensures)), ap (sets _ _) (rows-on _ _ _ _ _ (sym (c .before .before .before .is-aggregate-call .ensures) ∙ c .before .before .if1 .left) (c .before .operands .ensures)))
 
 collect-collect-requires : (t : ℕ) → collect-lts.Need-collect-requires (
   is-aggregate-call-reads.Asked,
@@ -240,7 +216,7 @@ collect-same-length-2 : (t : ℕ) → collect-lts.Need-same-length-2 (
 ) (collect-at t) collect.Post collect-Inv-loop collect-μ-loop
 collect-same-length-2 t c = search needs
 
-collect-returns-5 : (t : ℕ) → collect-lts.Need-returns-5 (
+collect-returns-4 : (t : ℕ) → collect-lts.Need-returns-4 (
   is-aggregate-call-reads.Asked,
   is-aggregate-call-reads.Learnt,
   operands-reads.Asked,
@@ -250,7 +226,7 @@ collect-returns-5 : (t : ℕ) → collect-lts.Need-returns-5 (
   next-reads.Asked,
   next-reads.Learnt,
 ) (collect-at t) collect.Post collect-Inv-loop collect-μ-loop
-collect-returns-5 t c = (sym (full-answer _ _ _ _ _ _ _ _ (c .before .before .before .before .before .before .loop-test .taken) (c .before .before .before .before .before .before .before .loop .inv .0) (c .before .before .before .before .collect .ensures .1) (sym (c .before .before .before .before .collect .ensures .0) ∙ c .enum-told .given .1)) ∙ c .before .before .before .before .before .before .before .loop .inv .1, sym (full-rows _ _ _ _ _ _ _ _ (c .before .before .before .before .before .before .loop-test .taken) (c .before .before .before .before .before .before .before .loop .inv .0) (c .before .before .before .before .collect .ensures .1) (sym (c .before .before .before .before .collect .ensures .0) ∙ c .enum-told .given .1)) ∙ c .before .before .before .before .before .before .before .loop .inv .2)
+collect-returns-4 t c = (sym (full-answer _ _ _ _ _ _ _ _ (c .before .before .before .before .before .before .loop-test .taken) (c .before .before .before .before .before .before .before .loop .inv .2) (c .before .before .before .before .collect .ensures .1) (sym (c .before .before .before .before .collect .ensures .0) ∙ c .enum-told .given .1)) ∙ c .before .before .before .before .before .before .before .loop .inv .3, sym (full-rows _ _ _ _ _ _ _ _ (c .before .before .before .before .before .before .loop-test .taken) (c .before .before .before .before .before .before .before .loop .inv .2) (c .before .before .before .before .collect .ensures .1) (sym (c .before .before .before .before .collect .ensures .0) ∙ c .enum-told .given .1)) ∙ c .before .before .before .before .before .before .before .loop .inv .4)
 
 collect-next-requires : (t : ℕ) → collect-lts.Need-next-requires (
   is-aggregate-call-reads.Asked,
@@ -298,7 +274,7 @@ collect-loop-again : (t : ℕ) → collect-lts.Need-loop-again (
   next-reads.Asked,
   next-reads.Learnt,
 ) (collect-at t) collect.Post collect-Inv-loop collect-μ-loop
-collect-loop-again t c = rw (c .next .ensures) (c .before .before .before .before .before .before .collect .kept .1 .1 .1 .1 .1 .0 ∙ c .before .before .before .before .before .before .before .before .before .loop .inv .0, loop-answer _ _ _ _ _ _ _ _ (c .before .before .before .before .before .before .before .before .loop-test .taken) (c .before .before .before .before .before .before .before .before .before .loop .inv .0) (c .before .before .before .before .before .before .collect .ensures .1) _ (sym (c .before .before .before .before .before .before .collect .ensures .0) ∙ c .before .before .next-count .given .1) ∙ c .before .before .before .before .before .before .before .before .before .loop .inv .1, loop-rows _ _ _ _ _ _ _ _ (c .before .before .before .before .before .before .before .before .loop-test .taken) (c .before .before .before .before .before .before .before .before .before .loop .inv .0) (c .before .before .before .before .before .before .collect .ensures .1) _ (sym (c .before .before .before .before .before .before .collect .ensures .0) ∙ c .before .before .next-count .given .1) ∙ c .before .before .before .before .before .before .before .before .before .loop .inv .2)
+collect-loop-again t c = rw (c .next .ensures) (omega arith, c .before .before .before .before .before .before .before .before .before .loop .inv .1, c .before .before .before .before .before .before .collect .kept .1 .1 .1 .1 .0 ∙ c .before .before .before .before .before .before .before .before .before .loop .inv .2, loop-answer _ _ _ _ _ _ _ _ (c .before .before .before .before .before .before .before .before .loop-test .taken) (c .before .before .before .before .before .before .before .before .before .loop .inv .2) (c .before .before .before .before .before .before .collect .ensures .1) _ (sym (c .before .before .before .before .before .before .collect .ensures .0) ∙ c .before .before .next-count .given .1) ∙ c .before .before .before .before .before .before .before .before .before .loop .inv .3, loop-rows _ _ _ _ _ _ _ _ (c .before .before .before .before .before .before .before .before .loop-test .taken) (c .before .before .before .before .before .before .before .before .before .loop .inv .2) (c .before .before .before .before .before .before .collect .ensures .1) _ (sym (c .before .before .before .before .before .before .collect .ensures .0) ∙ c .before .before .next-count .given .1) ∙ c .before .before .before .before .before .before .before .before .before .loop .inv .4)
 
 collect-same-length-3 : (t : ℕ) → collect-lts.Need-same-length-3 (
   is-aggregate-call-reads.Asked,
@@ -312,7 +288,7 @@ collect-same-length-3 : (t : ℕ) → collect-lts.Need-same-length-3 (
 ) (collect-at t) collect.Post collect-Inv-loop collect-μ-loop
 collect-same-length-3 t c = search needs
 
-collect-returns-6 : (t : ℕ) → collect-lts.Need-returns-6 (
+collect-returns-5 : (t : ℕ) → collect-lts.Need-returns-5 (
   is-aggregate-call-reads.Asked,
   is-aggregate-call-reads.Learnt,
   operands-reads.Asked,
@@ -323,7 +299,7 @@ collect-returns-6 : (t : ℕ) → collect-lts.Need-returns-6 (
   next-reads.Learnt,
 ) (collect-at t) collect.Post collect-Inv-loop collect-μ-loop
 unfolding collected
-collect-returns-6 t c = (sym (ap (collected _ _) (rows-none _ _ _ _ (c .loop-test .left))) ∙ c .before .loop .inv .1, sym (ap (sets _ _) (rows-none _ _ _ _ (c .loop-test .left))) ∙ c .before .loop .inv .2)
+collect-returns-5 t c = (sym (ap (collected _ _) (rows-none _ _ _ _ (c .loop-test .left))) ∙ c .before .loop .inv .3, sym (ap (sets _ _) (rows-none _ _ _ _ (c .loop-test .left))) ∙ c .before .loop .inv .4)
 
 pub +collect-spec : {M : Type 1} → statement M
 +collect-spec = close μ-collect λ t. collect-lts.spec (
@@ -340,27 +316,25 @@ pub +collect-spec : {M : Type 1} → statement M
     collect.Post
     collect-Inv-loop
     collect-μ-loop
-    (collect-returns t)
     (collect-is-aggregate-call-requires t)
     (collect-mul-rows t)
     (collect-slice-write-rows t)
-    (collect-add-t17 t)
+    (collect-add-t15 t)
     (collect-same-length t)
+    (collect-returns t)
     (collect-returns-2 t)
-    (collect-returns-3 t)
     (collect-operands-requires t)
-    (collect-returns-4 t)
+    (collect-returns-3 t)
     (collect-add-p t)
     (collect-loop-holds t)
-    (collect-sub-collect t)
     (collect-collect-requires t)
     (collect-enum-known-next-count t)
     (collect-enum-told t)
     (collect-same-length-2 t)
-    (collect-returns-5 t)
+    (collect-returns-4 t)
     (collect-next-requires t)
     (collect-sub-left t)
     (collect-loop-less t)
     (collect-loop-again t)
     (collect-same-length-3 t)
-    (collect-returns-6 t)
+    (collect-returns-5 t)
