@@ -1,10 +1,17 @@
--- How far a text was read.
-use Prim.Native.Nat.{ℕ, _≤_}
+-- How far a text was read into its buffer.
+use Prim.Native.Nat.{ℕ, _≤_, _<_}
+use native.Mathlib.Omega.{arith}
+use native.Mathlib.Decide.{decLt}
 use mathlib.Core.Path.{_≡_, sym}
 use mathlib.Core.List.{List}
-use lib.ListN.{length}
+use lib.ListN.{length, take}
 use lib.Seq.{length-take-le}
+use borrow.Author.Tests.{lt-ltb, le-ltb}
 use Rattle.io.specs.Counts.{Counts}
+use Rattle.rules.specs.Refusals.{catalog, statement, limitPassed, refused}
+use Rattle.rules.specs.Limits.{mostBytes}
+use Rattle.rules.specs.Lists.{Bytes}
+use Rattle.reader.specs.Texts.{readTexts}
 use Rattle.read_texts.specs.declared.input.Input as In
 use Rattle.read_texts.specs.declared.input.Input.the-variants as I
 
@@ -12,6 +19,11 @@ use Rattle.read_texts.specs.declared.input.Input.the-variants as I
 unfoldable pub Within : List ℕ → In.Input → Type 0
 Within s (I.Bytes n) = Counts n s
 Within s I.Failed = Unit {0}
+
+-- and where that is no more than a text may have, there is room for more: the file ended there
+unfoldable pub Whole : List ℕ → In.Input → Type 0
+Whole s (I.Bytes n) = Counts n s × (n ≤ mostBytes → n < length s)
+Whole s I.Failed = Unit {0}
 
 pub within : (s : List ℕ) (n : ℕ) → n ≤ length s → Within s (I.Bytes n)
 unfolding Within
@@ -21,6 +33,25 @@ pub failed : (s : List ℕ) → Within s I.Failed
 unfolding Within
 failed s = tt
 
-pub counted : (s : List ℕ) (r : In.Input) {n : ℕ} → Within s r → r ≡ I.Bytes n → Counts n s
-unfolding Within
-counted s r h e = rw e at h
+pub whole : (s : List ℕ) (r : In.Input) → mostBytes < length s → Within s r → Whole s r
+unfolding Within Whole
+whole s (I.Bytes n) l h = (h, λ m. omega arith)
+whole s I.Failed l h = tt
+
+pub counted : (s : List ℕ) (r : In.Input) {n : ℕ} → Whole s r → r ≡ I.Bytes n → Counts n s
+unfolding Whole
+counted s r h e = (rw e at h) .0
+
+-- a file that fills the buffer is refused: 3, line 0, the catalog first
+module _ (s : Bytes) (n : ℕ) (h : Whole s (I.Bytes n)) (full : length s ≤ n) where
+  long : mostBytes < length (take n s)
+  unfolding Whole
+  long = elim (decLt mostBytes n) [ yes l ↦ omega (arith, h .0 .1) | no l ↦ absurd (omega (arith, h .1 (omega (arith, l)))) ]
+
+  pub long-catalog : (q : Bytes) → readTexts (take n s) q ≡ refused (record { reason = limitPassed; text = catalog; line = 0 })
+  unfolding readTexts
+  long-catalog q = rw (readTexts, lt-ltb mostBytes (length (take n s)) long)
+
+  pub long-statement : (c : Bytes) → length c ≤ mostBytes → readTexts c (take n s) ≡ refused (record { reason = limitPassed; text = statement; line = 0 })
+  unfolding readTexts
+  long-statement c l = rw (readTexts, le-ltb mostBytes (length c) l, lt-ltb mostBytes (length (take n s)) long)

@@ -1,8 +1,10 @@
 // A text from an open file, read as far as it takes to see that it is too long.
-ghost use Rattle.read_texts.specs.Input.{Within};
+ghost use Rattle.read_texts.specs.Input.{Within, Whole};
 
-// One byte more than a text may have.
 pub const SIZE: usize = 65537;
+
+// Room for a text of the most bytes, and for the byte that makes it too long.
+pub type Buffer = [u8; SIZE];
 
 // How many bytes were read, or that a read failed.
 pub enum Input {
@@ -11,7 +13,7 @@ pub enum Input {
 }
 
 // The file's bytes at the start of `text`, to the file's end or until `text` is full.
-pub fn read_text(fd: i32, text: &mut [u8]) -> Input
+fn fill(fd: i32, text: &mut [u8]) -> Input
     ensures { λ r. ⌜ Within (now (text .exit)) r ⌝ }
 {
     let mut done: usize = 0;
@@ -27,4 +29,11 @@ pub fn read_text(fd: i32, text: &mut [u8]) -> Input
         done += n;
     }
     Input::Bytes(done)
+}
+
+// A text's bytes: all of the file's, or more than a text may have.
+pub fn read_text(fd: i32, text: &mut Buffer) -> Input
+    ensures { λ r. ⌜ Whole (now (text .exit)) r ⌝ }
+{
+    fill(fd, text)
 }

@@ -2,13 +2,13 @@
 
 use std::fs;
 use std::path::{Path, PathBuf};
-use std::process::{Command, Stdio};
 
 use judge::compare::{Tally, Verdict, compare};
 use judge::folder;
 use judge::generate::{Case, case, damaged, limits, pairs};
 use judge::list::{self, Answered};
 use judge::predict::predict;
+use judge::program::Program;
 use judge::reading;
 use judge::sample::sample;
 use judge::shrink::shrink;
@@ -250,35 +250,17 @@ fn hold(folder: &Path) -> Result<bool, String> {
     Ok(held && missing == 0)
 }
 
-fn run_program(program: &Path, numbers: Numbers) -> Result<bool, String> {
-    let program = fs::canonicalize(program).map_err(|error| format!("{}: {error}", program.display()))?;
-    let folder = std::env::temp_dir().join(format!("judge-{}", std::process::id()));
-    fs::create_dir_all(&folder).map_err(|error| format!("{}: {error}", folder.display()))?;
-    let printed: Result<Vec<_>, String> = numbers
-        .cases()
-        .map(|(number, case)| match run_on(&program, &folder, &case) {
-            Ok(listing) => Ok((number, case, listing)),
-            Err(error) => Err(format!("{} on case {number}: {error}", program.display())),
-        })
-        .collect();
-    fs::remove_dir_all(&folder).map_err(|error| format!("{}: {error}", folder.display()))?;
-    let printed = printed?;
+fn run_program(path: &Path, numbers: Numbers) -> Result<bool, String> {
+    let program = Program::new(path)?;
+    let mut printed = Vec::new();
+    for (number, case) in numbers.cases() {
+        let listing =
+            program.print(&case).map_err(|error| format!("{} on case {number}: {error}", path.display()))?;
+        printed.push((number, case, listing));
+    }
     judge_all(
         printed.iter().map(|(number, case, listing)| (format!("case {number}"), case, listing.as_slice())),
     )
-}
-
-/// What a planning program prints: it reads `catalog.txt` where it runs, and the statement on standard input.
-fn run_on(program: &Path, folder: &Path, case: &Case) -> std::io::Result<Vec<u8>> {
-    let statement = folder.join("statement.txt");
-    fs::write(folder.join("catalog.txt"), &case.catalog)?;
-    fs::write(&statement, &case.statement)?;
-    let output = Command::new(program)
-        .current_dir(folder)
-        .stdin(Stdio::from(fs::File::open(&statement)?))
-        .stderr(Stdio::inherit())
-        .output()?;
-    Ok(output.stdout)
 }
 
 fn write_list(folder: &Path, file: &Path) -> Result<bool, String> {

@@ -6,6 +6,7 @@ pub mod generate;
 pub mod list;
 pub mod listing;
 pub mod predict;
+pub mod program;
 pub mod random;
 pub mod reading;
 pub mod sample;

@@ -19,9 +19,6 @@ fail-requires c κs = search needs
 returns : tie.Need-returns
 returns c = search needs
 
-slice-aggregate-read-text : tie.Need-slice-aggregate-read-text
-slice-aggregate-read-text c = search needs
-
 read-text-requires : tie.Need-read-text-requires
 read-text-requires c κs = search needs
 
@@ -43,9 +40,6 @@ returns-2 c = search needs
 close-requires : tie.Need-close-requires
 close-requires c κs = search needs
 
-slice-aggregate-read-text-2 : tie.Need-slice-aggregate-read-text-2
-slice-aggregate-read-text-2 c = search needs
-
 read-text-requires-2 : tie.Need-read-text-requires-2
 read-text-requires-2 c κs = search needs
 
@@ -65,16 +59,16 @@ returns-3 : tie.Need-returns-3
 returns-3 c = search needs
 
 array-share-prefix-catalog : tie.Need-array-share-prefix-catalog
-array-share-prefix-catalog c = counted _ _ (c .before .before .before .before .before .before .before .before .before .before .before .read-text .ensures) (c .before .before .before .before .before .before .before .before .c .given .1) .0
+array-share-prefix-catalog c = counted _ _ (c .before .before .before .before .before .before .before .before .before .read-text .ensures) (c .before .before .before .before .before .before .before .c .given .1) .0
 
 slice-aggregate-print : tie.Need-slice-aggregate-print
-slice-aggregate-print c = counted _ _ (c .before .before .before .before .before .before .before .before .before .before .before .before .read-text .ensures) (c .before .before .before .before .before .before .before .before .before .c .given .1) .1
+slice-aggregate-print c = counted _ _ (c .before .before .before .before .before .before .before .before .before .before .read-text .ensures) (c .before .before .before .before .before .before .before .before .c .given .1) .1
 
 array-share-prefix-statement : tie.Need-array-share-prefix-statement
-array-share-prefix-statement c = counted _ _ (c .before .before .before .before .before .read-text2 .ensures) (c .before .before .s .given .1) .0
+array-share-prefix-statement c = counted _ _ (c .before .before .before .before .read-text2 .ensures) (c .before .before .s .given .1) .0
 
 slice-aggregate-print-2 : tie.Need-slice-aggregate-print-2
-slice-aggregate-print-2 c = counted _ _ (c .before .before .before .before .before .before .read-text2 .ensures) (c .before .before .before .s .given .1) .1
+slice-aggregate-print-2 c = counted _ _ (c .before .before .before .before .before .read-text2 .ensures) (c .before .before .before .s .given .1) .1
 
 print-requires : tie.Need-print-requires
 print-requires c κs = search needs
@@ -91,7 +85,6 @@ main-spec =
     slice-aggregate-fail
     fail-requires
     returns
-    slice-aggregate-read-text
     read-text-requires
     enum-known-c
     enum-told
@@ -99,7 +92,6 @@ main-spec =
     fail-requires-2
     returns-2
     close-requires
-    slice-aggregate-read-text-2
     read-text-requires-2
     enum-known-s
     enum-told-2
