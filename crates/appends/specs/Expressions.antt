@@ -1,0 +1,5 @@
+-- An expression appended to the cells.
+pub mod Emit
+pub mod Constructors
+pub mod Steps
+pub mod Option

@@ -1,0 +1,5 @@
+-- The other statements, appended.
+pub mod Delete
+pub mod Insert
+pub mod Update
+pub mod Create
