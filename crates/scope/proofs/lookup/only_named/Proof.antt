@@ -1,0 +1,104 @@
+use mathlib.Core.Logic.{⊎-elim}
+use Prim.Native.Nat.{ℕ, _-_, _≤_, _<_}
+use native.Mathlib.Omega.{arith}
+use mathlib.Core.List.{List}
+use lib.ListN.{length}
+use Rattle.rules.specs.Places.{wordAt}
+use Rattle.rules.specs.Scope.{theOnly, isNamed}
+use Rattle.scope.specs.Labels.{labelAt, columnsOf}
+use Rattle.scope.specs.Search.{Seeking, seek-begin, seek-miss, seek-first}
+use Rattle.scope.specs.Search.{seek-second, seek-none, seek-one, only-none, only-one}
+use borrow.Author.Needs.{needs}
+use Rattle.scope.proofs.lookup.only_named.Statement.{statement}
+use Rattle.scope.proofs.lookup.only_named.Tie as tie
+use Rattle.scope.proofs.lookup.only_named.Reads as reads
+use Rattle.scope.proofs.lookup.only_named.Lts as lts
+
+abbrev Inv-loop : tie.InvT-loop
+Inv-loop catalog statement labels matches a n hit₀ i₀ hit i = (i ≤ length labels) × (length labels < 4294967296)
+    × ((ts : List ℕ) → Seeking theOnly (isNamed (wordAt catalog statement a n)) (labelAt catalog statement ts) labels i
+    hit)
+
+abbrev μ-loop : tie.MeasureT-loop
+μ-loop catalog statement labels matches a n hit₀ i₀ hit i = length labels - i
+
+loop-holds : tie.Need-loop-holds Inv-loop μ-loop
+loop-holds c = (search needs, search needs, λ ts. seek-begin _ _ _ _)
+
+mul-is-named : tie.Need-mul-is-named Inv-loop μ-loop
+mul-is-named c = search needs
+
+shared-slice-read-is-named : tie.Need-shared-slice-read-is-named Inv-loop μ-loop
+shared-slice-read-is-named c = search needs
+
+is-named-requires : tie.Need-is-named-requires Inv-loop μ-loop
+is-named-requires c κs = search needs
+
+returns : tie.Need-returns Inv-loop μ-loop
+unfolding columnsOf
+returns c =
+    λ ts. seek-second (c .before .before .before .before .before .loop .inv .2 ts)
+    (c .before .before .before .before .loop-test .taken) (c .before .before .is-named .ensures ts)
+    (c .before .if1 .taken) (c .if2 .taken)
+
+cast-hit : tie.Need-cast-hit Inv-loop μ-loop
+cast-hit c = search needs
+
+add-hit : tie.Need-add-hit Inv-loop μ-loop
+add-hit c = search needs
+
+add-i : tie.Need-add-i Inv-loop μ-loop
+add-i c = search needs
+
+loop-less : tie.Need-loop-less Inv-loop μ-loop
+loop-less c = search needs
+
+loop-again : tie.Need-loop-again Inv-loop μ-loop
+loop-again c = (
+  omega arith,
+  search needs,
+  λ ts. ⊎-elim
+      (λ w. seek-first (c .before .before .before .before .loop .inv .2 ts) (c .before .before .before .loop-test .taken)
+      (c .before .is-named .ensures ts) (w .0 .taken)
+      (omega (arith, w .1 .left)) (w .2))
+      (λ w. seek-miss (c .before .before .before .before .loop .inv .2 ts) (c .before .before .before .loop-test .taken)
+      (c .before .is-named .ensures ts) (w .0 .left) (w .1))
+      (c .if1 .came),
+)
+
+not-found-requires : tie.Need-not-found-requires Inv-loop μ-loop
+not-found-requires c κs = search needs
+
+returns-2 : tie.Need-returns-2 Inv-loop μ-loop
+unfolding columnsOf
+returns-2 c =
+    λ ts. seek-none (c .before .before .before .loop .inv .2 ts) (c .before .before .loop-test .left)
+    (c .before .if3 .taken) only-none (c .not-found .ensures)
+
+sub-t17 : tie.Need-sub-t17 Inv-loop μ-loop
+sub-t17 c = search needs
+
+returns-3 : tie.Need-returns-3 Inv-loop μ-loop
+unfolding columnsOf
+returns-3 c = λ ts. seek-one (c .before .before .loop .inv .2 ts) (c .before .loop-test .left) (omega arith) only-one
+
+pub only-named-spec : {M : Type 1} → statement M
+only-named-spec =
+    tie.close
+    (tie.spec
+    Inv-loop
+    μ-loop
+    loop-holds
+    mul-is-named
+    shared-slice-read-is-named
+    is-named-requires
+    returns
+    cast-hit
+    add-hit
+    add-i
+    loop-less
+    loop-again
+    not-found-requires
+    returns-2
+    sub-t17
+    returns-3)

@@ -1,0 +1,15 @@
+pub mod Labels
+pub mod Slots
+pub mod Scopes
+pub mod FromTable
+pub mod AddColumn
+pub mod Names
+pub mod Lookup
+pub mod Search
+pub mod Merging
+pub mod Merge
+pub mod Copies
+pub mod Remap
+pub mod Swap
+pub mod Project
+pub mod Hide

@@ -1,0 +1,154 @@
+// The scope (planner.rs, Scope): which columns are visible, under which names.
+pub mod labels;
+pub mod lookup;
+pub mod merging;
+
+ghost use mathlib.Core.Path.{_≡_};
+ghost use Prim.Native.Nat.{min};
+ghost use Rattle.scope.specs.AddColumn.{ColumnFits, ColumnAdded};
+ghost use Rattle.scope.specs.FromTable.{FromTable};
+ghost use Rattle.scope.specs.Hide.{HiddenFits, HiddenAdded};
+ghost use Rattle.scope.specs.Merge.{Mergeable, Merged};
+ghost use Rattle.scope.specs.Project.{Projectable, Projected};
+ghost use Rattle.scope.specs.Swap.{Swappable, Swapped};
+use labels::behind;
+use labels::label;
+use schema::column_count;
+use schema::column_name;
+
+// The most columns of a scope, and the most tables.
+pub const COLUMNS: usize = 256;
+
+pub const TABLES: usize = 16;
+
+// The columns: their labels, what is matched to each (0 nothing, or 1 + the row of an expression), and the tables they
+// come from. The last `hidden` of them are not shown.
+pub struct Scope {
+    pub labels: [u32; COLUMNS],
+    pub matches: [u16; COLUMNS],
+    pub tables: [u32; TABLES],
+    pub width: u32,
+    pub count: u32,
+    pub hidden: u32,
+}
+
+// How many columns of n a scope has.
+fn most_columns(n: u32) -> u32
+    ensures { λ r. ⌜ r ≡ min n 256 ⌝ }
+{
+    if n < COLUMNS as u32 {
+        return n;
+    }
+    COLUMNS as u32
+}
+
+impl Scope {
+    // The columns of the catalog's i-th table, under a name.
+    pub fn from_table(catalog: &[u32], i: u32, a: u32, n: u32) -> Scope
+        ensures { λ r. ⌜ FromTable (now (catalog .entry)) i a n r ⌝ }
+    {
+        let count = column_count(catalog, i);
+        let width = most_columns(count);
+        let mut labels = [0u32; COLUMNS];
+        let mut tables = [0u32; TABLES];
+        tables[0] = label(0, a, n);
+        let mut j: u32 = 0;
+        while j < width {
+            let name = column_name(catalog, i, j);
+            labels[j as usize] = label(1, name.address, name.length);
+            j += 1;
+        }
+        Scope {
+            labels: labels,
+            matches: [0u16; COLUMNS],
+            tables: tables,
+            width: width,
+            count: 1,
+            hidden: 0,
+        }
+    }
+
+    // A column behind the others.
+    pub fn add_column(mut self, x: u32) -> Scope
+        requires { ⌜ ColumnFits self x ⌝ }
+        ensures { λ r. ⌜ ColumnAdded self x r ⌝ }
+    {
+        let w = self.width as usize;
+        self.labels[w] = x;
+        self.matches[w] = 0;
+        self.width = self.width + 1;
+        self
+    }
+
+    // Another scope's columns and tables behind its own.
+    pub fn merge(mut self, other: Scope) -> Scope
+        requires { ⌜ Mergeable self other ⌝ }
+        ensures { λ r. ⌜ Merged self other r ⌝ }
+    {
+        let w = self.width as usize;
+        let t = self.count as usize;
+        let own = self.count;
+        let mut j: usize = 0;
+        while j < other.width as usize {
+            self.labels[w + j] = behind(other.labels[j], own);
+            j += 1;
+        }
+        let mut i: usize = 0;
+        while i < other.count as usize {
+            self.tables[t + i] = other.tables[i];
+            i += 1;
+        }
+        self.width = self.width + other.width;
+        self.count = own + other.count;
+        self
+    }
+
+    // The first a columns behind the b ones that follow them.
+    pub fn swap(mut self, a: u32, b: u32) -> Scope
+        requires { ⌜ Swappable self a b ⌝ }
+        ensures { λ r. ⌜ Swapped self a b r ⌝ }
+    {
+        let from = self.labels;
+        let first = a as usize;
+        let second = b as usize;
+        let mut j: usize = 0;
+        while j < second {
+            self.labels[j] = from[first + j];
+            j += 1;
+        }
+        let mut i: usize = 0;
+        while i < first {
+            self.labels[second + i] = from[i];
+            i += 1;
+        }
+        self
+    }
+
+    // A projection's columns by their labels, over the same tables.
+    pub fn project(mut self, labels: &[u32]) -> Scope
+        requires { ⌜ Projectable self (now labels) ⌝ }
+        ensures { λ r. ⌜ Projected self (now (labels .entry)) r ⌝ }
+    {
+        let mut j: usize = 0;
+        while j < labels.len() {
+            self.labels[j] = labels[j];
+            j += 1;
+        }
+        self.width = labels.len() as u32;
+        self.hidden = 0;
+        self
+    }
+
+    // A column of the scope that was projected, passed on behind the others and hidden.
+    pub fn add_hidden(mut self, x: u32) -> Scope
+        requires { ⌜ HiddenFits self x ⌝ }
+        ensures { λ r. ⌜ HiddenAdded self x r ⌝ }
+    {
+        let w = self.width as usize;
+        self.labels[w] = x;
+        self.matches[w] = 0;
+        self.width = self.width + 1;
+        self.hidden = self.hidden + 1;
+        self
+    }
+}

@@ -1,0 +1,222 @@
+// A column by its name.
+ghost use mathlib.Core.Path.{_≡_};
+ghost use mathlib.Core.List.{List};
+ghost use Prim.Native.Nat.{ℕ, _<_};
+ghost use lib.ListN.{length, take};
+ghost use Rattle.rules.specs.Lists.{any, positions};
+ghost use Rattle.rules.specs.Equality.{sameName};
+ghost use Rattle.rules.specs.Places.{wordAt};
+ghost use Rattle.rules.specs.Scope.{isNamed, isQualified, theOnly, theLast};
+ghost use Rattle.scope.specs.Labels.{labelAt, tablesOf, columnsOf};
+ghost use Rattle.scope.specs.Lookup.{qualifierOf, Sought, Looked};
+ghost use Rattle.scope.specs.Search.{Missing};
+use super::labels::has_name;
+use super::labels::slot;
+use numbers::number;
+
+// What was looked for: its position, or why there is none.
+pub enum Found {
+    At(u32),
+    UnknownQualifier,
+    UnknownColumn,
+    Ambiguous,
+    ConstantOnly,
+    NotAggregated,
+}
+
+// A column name's qualifier: none, or the place of a table's name.
+pub enum Qualifier {
+    Nothing,
+    Table(u32, u32),
+}
+
+// Whether a label has a name.
+fn is_named(catalog: &[u8], statement: &[u8], x: u32, a: u32, n: u32) -> bool
+    ensures { λ r. ⌜ ((ts : List ℕ) → r ≡ isNamed
+        (wordAt (now (catalog .entry)) (now (statement .entry)) a n)
+        (labelAt (now (catalog .entry)) (now (statement .entry)) ts x)) ⌝ }
+{
+    if x == 0 {
+        return false;
+    }
+    has_name(catalog, statement, x, a, n)
+}
+
+// Whether a label has a name and its table another.
+fn is_qualified(
+    catalog: &[u8],
+    statement: &[u8],
+    tables: &[u32],
+    x: u32,
+    b: u32,
+    m: u32,
+    a: u32,
+    n: u32,
+) -> bool
+    ensures { λ r. ⌜ r ≡ isQualified
+        (wordAt (now (catalog .entry)) (now (statement .entry)) b m)
+        (wordAt (now (catalog .entry)) (now (statement .entry)) a n)
+        (labelAt (now (catalog .entry)) (now (statement .entry)) (now (tables .entry)) x) ⌝ }
+{
+    let k = slot(x);
+    if k == 0 {
+        return false;
+    }
+    if !has_name(catalog, statement, x, a, n) {
+        return false;
+    }
+    has_name(catalog, statement, number(tables, k as usize - 1), b, m)
+}
+
+// Whether one of the tables has a name.
+pub fn has_table(catalog: &[u8], statement: &[u8], tables: &[u32], b: u32, m: u32) -> bool
+    ensures { λ r. ⌜ r ≡ any
+        (sameName (wordAt (now (catalog .entry)) (now (statement .entry)) b m))
+        (tablesOf (now (catalog .entry)) (now (statement .entry)) (now (tables .entry))) ⌝ }
+{
+    let mut i: usize = 0;
+    while i < tables.len() {
+        if has_name(catalog, statement, tables[i], b, m) {
+            return true;
+        }
+        i += 1;
+    }
+    false
+}
+
+// Why a name stands nowhere: 11 where something is matched, else 8.
+fn not_found(matches: &[u16]) -> Found
+    ensures { λ r. ⌜ Missing (now (matches .entry)) r ⌝ }
+{
+    let mut i: usize = 0;
+    while i < matches.len() {
+        if matches[i] != 0 {
+            return Found::NotAggregated;
+        }
+        i += 1;
+    }
+    Found::UnknownColumn
+}
+
+// The only column of a name.
+fn only_named<'a>(
+    catalog: &[u8],
+    statement: &[u8],
+    labels: &'a [u32],
+    matches: &'a [u16],
+    a: u32,
+    n: u32,
+) -> Found
+    requires { ⌜ length (now labels) < 4294967296 ⌝ }
+    ensures { λ r. ⌜ ((ts : List ℕ) → Sought theOnly
+        (positions (isNamed (wordAt (now (catalog .entry)) (now (statement .entry)) a n)) 0
+        (columnsOf (now (catalog .entry)) (now (statement .entry)) ts (now (labels .entry))))
+        (now (matches .entry)) r) ⌝ }
+{
+    let mut hit: u32 = 0;
+    let mut i: usize = 0;
+    while i < labels.len() {
+        if is_named(catalog, statement, labels[i], a, n) {
+            if 0 < hit {
+                return Found::Ambiguous;
+            }
+            hit = i as u32 + 1;
+        }
+        i += 1;
+    }
+    if hit == 0 {
+        return not_found(matches);
+    }
+    Found::At(hit - 1)
+}
+
+// The last column of a name whose table has a name.
+fn last_qualified<'a>(
+    catalog: &[u8],
+    statement: &[u8],
+    labels: &'a [u32],
+    matches: &'a [u16],
+    tables: &'a [u32],
+    b: u32,
+    m: u32,
+    a: u32,
+    n: u32,
+) -> Found
+    requires { ⌜ length (now labels) < 4294967296 ⌝ }
+    ensures { λ r. ⌜ Sought theLast
+        (positions
+        (isQualified
+        (wordAt (now (catalog .entry)) (now (statement .entry)) b m)
+        (wordAt (now (catalog .entry)) (now (statement .entry)) a n))
+        0
+        (columnsOf (now (catalog .entry)) (now (statement .entry)) (now (tables .entry)) (now (labels .entry))))
+        (now (matches .entry)) r ⌝ }
+{
+    let mut last: u32 = 0;
+    let mut i: usize = 0;
+    while i < labels.len() {
+        if is_qualified(catalog, statement, tables, labels[i], b, m, a, n) {
+            last = i as u32 + 1;
+        }
+        i += 1;
+    }
+    if last == 0 {
+        return not_found(matches);
+    }
+    Found::At(last - 1)
+}
+
+// The first n numbers, or as many of them as there are.
+pub fn first(s: &[u32], n: usize) -> &[u32]
+    ensures { λ r. ⌜ now r ≡ take n (now (s .entry)) ⌝ }
+{
+    if n <= s.len() {
+        return &s[..n];
+    }
+    s
+}
+
+// The first n matches, or as many of them as there are.
+fn first_matches(s: &[u16], n: usize) -> &[u16]
+    ensures { λ r. ⌜ now r ≡ take n (now (s .entry)) ⌝ }
+{
+    if n <= s.len() {
+        return &s[..n];
+    }
+    s
+}
+
+// The column that a name means, in a scope whose arrays are lent.
+pub fn lookup<'a>(
+    catalog: &[u8],
+    statement: &[u8],
+    labels: &'a [u32],
+    matches: &'a [u16],
+    width: u32,
+    tables: &'a [u32],
+    count: u32,
+    qualifier: Qualifier,
+    a: u32,
+    n: u32,
+) -> Found
+    ensures { λ r. ⌜ Looked (now (catalog .entry)) (now (statement .entry))
+        (take width (now (labels .entry))) (take width (now (matches .entry))) (take count (now (tables .entry)))
+        (qualifierOf (now (catalog .entry)) (now (statement .entry)) qualifier)
+        (wordAt (now (catalog .entry)) (now (statement .entry)) a n) r ⌝ }
+{
+    let xs = first(labels, width as usize);
+    if xs.len() == 0 {
+        return Found::ConstantOnly;
+    }
+    let ms = first_matches(matches, width as usize);
+    match qualifier {
+        Qualifier::Nothing => only_named(catalog, statement, xs, ms, a, n),
+        Qualifier::Table(b, m) => {
+            let ts = first(tables, count as usize);
+            if !has_table(catalog, statement, ts, b, m) {
+                return Found::UnknownQualifier;
+            }
+            last_qualified(catalog, statement, xs, ms, ts, b, m, a, n)
+        }
+    }
+}
