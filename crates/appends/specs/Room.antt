@@ -1,7 +1,11 @@
--- How many cells are appended, accepted or refused.
-pub mod Arguments
+-- How many cells and node numbers are appended, accepted or refused, and that there is room for them at each step.
 pub mod Written
-pub mod Items
+pub mod Expressions
+pub mod Entries
 pub mod Select
+pub mod From
 pub mod Points
 pub mod Statements
+pub mod Stages
+pub mod Clauses
+pub mod Records

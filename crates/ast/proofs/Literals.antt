@@ -4,7 +4,7 @@ use native.Mathlib.Omega.{arith}
 use mathlib.Core.Path.{_≡_, refl, sym, ap, _∙_}
 use mathlib.Core.Bool.{Bool, true, false, not}
 use mathlib.Core.List.{List, headD}
-use lib.Dec.{eqb, ltb}
+use lib.Dec.{eqb}
 use lib.IntN.{ℤ, pos, negsuc}
 use lib.ListN.{getD}
 use borrow.Author.Tests.{eqb-true, eqb-false, eq-eqb, ne-eqb}
@@ -12,9 +12,11 @@ use Rattle.rules.specs.Lists.{Bytes, same}
 use Rattle.rules.specs.Places.{wordAt}
 use Rattle.rules.specs.Schema.{Value, null, bool, int, float, text}
 use Rattle.rules.specs.Equality.{contents, sameValue}
-use Rattle.ast.specs.Table.{isOne, integerAt, valueAt}
-use Rattle.ast.specs.Codes.{orLeast, countFrom, coded-map, coded-least, coded-at, least-kept}
 use Rattle.text.specs.Order.{same-true, same-self}
+use Rattle.rules.specs.Area.{bits}
+use Rattle.numbers.specs.Bits.{joined, signed, bits-signed}
+use Rattle.numbers.specs.Values.{isOne, valueAt}
+use Rattle.numbers.specs.Codes.{orLeast, countFrom, coded-map, coded-least, coded-at, least-kept}
 
 no-true : (b : Bool) → (b ≡ true → ⊥) → b ≡ false
 no-true true h = absurd (h refl)
@@ -74,11 +76,11 @@ module _ (c q : Bytes) where
   unfolding valueAt
   value-bool k a b h = coded-at _ _ 1 1 k (number k 0 h)
 
-  pub value-int : (k a b : ℕ) → orLeast 1 5 k ≡ 3 → valueAt c q k a b ≡ int (integerAt a b)
+  pub value-int : (k a b : ℕ) → orLeast 1 5 k ≡ 3 → valueAt c q k a b ≡ int (signed (joined a b))
   unfolding valueAt
   value-int k a b h = coded-at _ _ 2 1 k (number k 1 h)
 
-  pub value-float : (k a b : ℕ) → orLeast 1 5 k ≡ 4 → valueAt c q k a b ≡ float (a + b * 2 ^ 32)
+  pub value-float : (k a b : ℕ) → orLeast 1 5 k ≡ 4 → valueAt c q k a b ≡ float (joined a b)
   unfolding valueAt
   value-float k a b h = coded-at _ _ 3 1 k (number k 2 h)
 
@@ -103,42 +105,25 @@ unfolding isOne
 bool-other a x h = rw (ne-eqb a 1 h) (bools false (eqb x 1))
 
 -- NUMBERS OF 64 BITS
--- an integer's 64 bits as a number
-unfoldable bitsOf : ℤ → ℕ
-bitsOf (pos n) = n
-bitsOf (negsuc n) = 2 ^ 64 - suc n
-
-bits-at : (a b : ℕ) → a + b * 2 ^ 32 < 2 ^ 64 → bitsOf (integerAt a b) ≡ a + b * 2 ^ 32
-unfolding integerAt bitsOf
-bits-at a b h = pick (ltb (a + b * 2 ^ 32) (2 ^ 63)) refl
-  where
-    pick : (t : Bool) → ltb (a + b * 2 ^ 32) (2 ^ 63) ≡ t → bitsOf (elim t [ true ↦ pos (a + b * 2 ^ 32) | false ↦ negsuc (2 ^ 64 - suc (a + b * 2 ^ 32)) ]) ≡ a + b * 2 ^ 32
-    pick true e = refl
-    pick false e = omega arith
-
--- the same of its contents
+-- an integer's bits by its contents
 unfoldable bitsIn : List ℕ → ℕ
 bitsIn r = elim (eqb (getD r 1 0) 0) [ true ↦ getD r 2 0 | false ↦ 2 ^ 64 - suc (getD r 2 0) ]
 
-bits-in : (z : ℤ) → bitsIn (contents (int z)) ≡ bitsOf z
-unfolding bitsIn contents bitsOf
+bits-in : (z : ℤ) → bitsIn (contents (int z)) ≡ bits z
+unfolding bitsIn contents bits
 bits-in (pos n) = refl
 bits-in (negsuc n) = refl
 
-integer-same : (a b x y : ℕ) → a + b * 2 ^ 32 ≡ x + y * 2 ^ 32 → integerAt a b ≡ integerAt x y
-unfolding integerAt
-integer-same a b x y = ap (λ (n : ℕ). elim (ltb n (2 ^ 63)) as (λ _. ℤ) [ true ↦ pos n | false ↦ negsuc (2 ^ 64 - suc n) ])
-
-pub ints : (a b x y : ℕ) → a + b * 2 ^ 32 < 2 ^ 64 → x + y * 2 ^ 32 < 2 ^ 64 → sameValue (int (integerAt a b)) (int (integerAt x y)) ≡ eqb (a + b * 2 ^ 32) (x + y * 2 ^ 32)
+pub ints : (m n : ℕ) → m < 2 ^ 64 → n < 2 ^ 64 → sameValue (int (signed m)) (int (signed n)) ≡ eqb m n
 unfolding sameValue
-ints a b x y h l = pick (eqb (a + b * 2 ^ 32) (x + y * 2 ^ 32)) refl
+ints m n h l = pick (eqb m n) refl
   where
-    bits : (a b : ℕ) → a + b * 2 ^ 32 < 2 ^ 64 → bitsIn (contents (int (integerAt a b))) ≡ a + b * 2 ^ 32
-    bits a b h = bits-in (integerAt a b) ∙ bits-at a b h
+    back : (n : ℕ) → n < 2 ^ 64 → bitsIn (contents (int (signed n))) ≡ n
+    back n h = bits-in (signed n) ∙ bits-signed n h
 
-    pick : (t : Bool) → eqb (a + b * 2 ^ 32) (x + y * 2 ^ 32) ≡ t → sameValue (int (integerAt a b)) (int (integerAt x y)) ≡ t
-    pick true e = ap (λ (z : ℤ). sameValue (int z) (int (integerAt x y))) (integer-same a b x y (eqb-true _ _ e)) ∙ same-self (contents (int (integerAt x y)))
-    pick false e = no-true _ (λ s. eqb-false _ _ e (sym (bits a b h) ∙ ap bitsIn (same-true _ _ s) ∙ bits x y l))
+    pick : (t : Bool) → eqb m n ≡ t → sameValue (int (signed m)) (int (signed n)) ≡ t
+    pick true e = ap (λ (k : ℕ). sameValue (int (signed k)) (int (signed n))) (eqb-true _ _ e) ∙ same-self (contents (int (signed n)))
+    pick false e = no-true _ (λ s. eqb-false _ _ e (sym (back m h) ∙ ap bitsIn (same-true _ _ s) ∙ back n l))
 
 pub floats : (m n : ℕ) → sameValue (float m) (float n) ≡ eqb m n
 unfolding sameValue contents same
@@ -149,10 +134,12 @@ floats m n = pick (eqb m n)
     pick false = refl
 
 -- two numbers of 64 bits by their halves
-pub low-differ : (a b x y : ℕ) → a < 2 ^ 32 → x < 2 ^ 32 → (a ≡ x → ⊥) → eqb (a + b * 2 ^ 32) (x + y * 2 ^ 32) ≡ false
+pub low-differ : (a b x y : ℕ) → a < 2 ^ 32 → x < 2 ^ 32 → (a ≡ x → ⊥) → eqb (joined a b) (joined x y) ≡ false
+unfolding joined
 low-differ a b x y ha hx h = ne-eqb (a + b * 2 ^ 32) (x + y * 2 ^ 32) (λ e. h (omega arith))
 
-pub low-same : (a b x y : ℕ) → a ≡ x → eqb (a + b * 2 ^ 32) (x + y * 2 ^ 32) ≡ eqb b y
+pub low-same : (a b x y : ℕ) → a ≡ x → eqb (joined a b) (joined x y) ≡ eqb b y
+unfolding joined
 low-same a b x y h = pick (eqb b y) refl
   where
     pick : (t : Bool) → eqb b y ≡ t → eqb (a + b * 2 ^ 32) (x + y * 2 ^ 32) ≡ t

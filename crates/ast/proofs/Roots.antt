@@ -11,8 +11,9 @@ use Rattle.rules.specs.Ast.{Expr, star, column, literal, call, unary, binary, i
 use Rattle.rules.specs.Views.{asStar, asColumn, asLiteral, asCall, asUnary, asBinary, asIs}
 use Rattle.rules.specs.Codes.{unaryCode, plainCode, binaryCode}
 use Rattle.rules.specs.Equality.{sameName, sameOptionalName, sameValue, equal, equalAll}
-use Rattle.ast.specs.Table.{at, rowsAt, unaryAt, binaryAt, valueAt, argumentsAt, starAt, rootAt}
-use Rattle.ast.specs.Codes.{orLeast, countFrom, coded-map, coded-least}
+use Rattle.numbers.specs.Values.{valueAt}
+use Rattle.numbers.specs.Codes.{orLeast, countFrom, coded-map, coded-least}
+use Rattle.ast.specs.Table.{at, rowsAt, unaryAt, binaryAt, argumentsAt, starAt, rootAt}
 use Rattle.ast.specs.Operands.{kindOf, kindAt, kind-at, tree-column, tree-qualified, tree-call, tree-unary, tree-binary, tree-is, tree-literal}
 use Rattle.ast.proofs.Equal.{stars, kinds-apart}
 

@@ -1,23 +1,14 @@
--- Names and flags as numbers, and read back: a name that may be missing is an address and a length, or zeros.
+-- Names read back from numbers: a name that may be missing is an address and a length, or zeros (the rules' `optionSpan`).
 use Prim.Native.Nat.{ℕ, zero, suc, _≤_}
 use native.Mathlib.Omega.{arith}
 use mathlib.Core.Path.{_≡_, refl, ap}
-use mathlib.Core.Bool.{Bool, true, false}
-use mathlib.Core.List.{List, [], _∷_}
 use mathlib.Core.Option.{Option, none, some}
 use lib.ListN.{length, getD}
 use Rattle.rules.specs.Lists.{Bytes}
 use Rattle.rules.specs.Lines.{Word}
 use Rattle.rules.specs.Places.{wordAt}
-use Rattle.ast.specs.Fits.{WordFits}
-
-unfoldable pub flagNumber : Bool → ℕ
-flagNumber true = 1
-flagNumber false = 0
-
-unfoldable pub nameNumbers : Option Word → List ℕ
-nameNumbers none = 0 ∷ 0 ∷ []
-nameNumbers (some w) = w .start ∷ length (w .bytes) ∷ []
+use Rattle.rules.specs.Area.{span, optionSpan}
+use Rattle.numbers.specs.Values.{WordFits}
 
 -- the name at an address of the catalog c or the statement q, or none where it has no bytes
 unfoldable pub nameAt : Bytes → Bytes → ℕ → ℕ → Option Word
@@ -38,7 +29,7 @@ module _ (c q : Bytes) where
       go zero e = absurd (let z = f .1 in omega (arith, z, e))
       go (suc n) e = rw e (ap some ((rw e at (f .0))))
 
-  pub names-back : (w : Option Word) → NameFits c q w → nameAt c q (getD (nameNumbers w) 0 0) (getD (nameNumbers w) 1 0) ≡ w
-  unfolding nameAt nameNumbers
+  pub names-back : (w : Option Word) → NameFits c q w → nameAt c q (getD (optionSpan w) 0 0) (getD (optionSpan w) 1 0) ≡ w
+  unfolding nameAt optionSpan span
   names-back none f = refl
   names-back (some w) f = name-back w f

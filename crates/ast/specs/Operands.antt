@@ -13,10 +13,11 @@ use borrow.Author.Tests.{ltb-true, ltb-false}
 use Rattle.rules.specs.Lists.{Bytes}
 use Rattle.rules.specs.Places.{wordAt}
 use Rattle.rules.specs.Ast.{Expr, star, column, literal, call, unary, binary, is, Exprs, nil, cons}
-use Rattle.ast.specs.Table.{rowSize, at, rowsAt, coded, unaryAt, binaryAt, valueAt, argumentsAt, treeBy, starAt}
+use Rattle.numbers.specs.Codes.{coded, orLeast, countFrom, coded-map, coded-beside, coded-least, coded-at, coded-below, least-kept}
+use Rattle.numbers.specs.Values.{valueAt}
+use Rattle.ast.specs.Table.{rowSize, at, rowsAt, unaryAt, binaryAt, argumentsAt, treeBy, starAt}
 use Rattle.ast.specs.Table.{rootAt, treeAt}
 use Rattle.ast.specs.Behind.{behind-step}
-use Rattle.ast.specs.Codes.{orLeast, countFrom, coded-map, coded-beside, coded-least, coded-at, coded-below, least-kept}
 
 unfoldable pub operandsOf : Expr → Exprs
 operandsOf (star l) = nil

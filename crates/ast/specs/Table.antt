@@ -7,20 +7,17 @@
 --   3  the operator's code (unary, binary), the arguments (call), the literal's kind (is, literal)
 --   4  5   the name's address and length, or the literal's two numbers
 --   6  7   the qualifying table's address and length
-use Prim.Native.Nat.{ℕ, zero, suc, _+_, _*_, _-_, _^_}
-use mathlib.Core.Bool.{Bool, true, false}
+use Prim.Native.Nat.{ℕ, zero, suc, _+_, _*_}
 use mathlib.Core.List.{List, [], _∷_}
-use mathlib.Core.Option.{Option, none, some}
-use lib.Dec.{eqb, ltb}
+use mathlib.Core.Option.{none, some}
 use lib.ListN.{length, getD}
-use lib.IntN.{ℤ, pos, negsuc}
 use Rattle.rules.specs.Limits.{mostCells, mostColumns}
 use Rattle.rules.specs.Lists.{Bytes}
-use Rattle.rules.specs.Lines.{Word}
 use Rattle.rules.specs.Places.{wordAt}
-use Rattle.rules.specs.Schema.{Value, null, bool, int, float, text}
-use Rattle.rules.specs.Ast.{Unary, not, fact, ident, neg, sqrt, Plain, and, or, eq, gt, lt, add, div, pow, mul, rem, sub, like, Binary, plain, ge, le, ne}
+use Rattle.rules.specs.Ast.{Unary, not, fact, ident, neg, sqrt, and, or, eq, gt, lt, add, div, pow, mul, rem, sub, like, Binary, plain, ge, le, ne}
 use Rattle.rules.specs.Ast.{Expr, star, column, literal, call, unary, binary, is, Exprs, nil, cons}
+use Rattle.numbers.specs.Codes.{coded}
+use Rattle.numbers.specs.Values.{valueAt}
 use Rattle.ast.specs.Behind.{behind}
 
 -- numbers a row
@@ -46,28 +43,12 @@ at t r k = getD t (rowSize * r + k) 0
 unfoldable pub rowsAt : List ℕ → ℕ → ℕ
 rowsAt t r = at t r 2
 
--- what a code stands for in a list, from the code n on; the default where it stands for nothing
-unfoldable pub coded : {A : Type 0} → A → List A → ℕ → ℕ → A
-coded d [] n k = d
-coded d (a ∷ as′) n k = elim (eqb n k) [ true ↦ a | false ↦ coded d as′ (suc n) k ]
-
 -- the operators by the rules' codes (unaryCode, plainCode, binaryCode)
 unfoldable pub unaryAt : ℕ → Unary
 unaryAt k = coded not (not ∷ fact ∷ ident ∷ neg ∷ sqrt ∷ []) 8 k
 
 unfoldable pub binaryAt : ℕ → Binary
 binaryAt k = coded (plain and) (plain and ∷ plain or ∷ plain eq ∷ plain gt ∷ plain lt ∷ plain add ∷ plain div ∷ plain pow ∷ plain mul ∷ plain rem ∷ plain sub ∷ plain like ∷ ge ∷ le ∷ ne ∷ []) 16 k
-
--- an integer by the two halves of its 64 bits
-unfoldable pub integerAt : ℕ → ℕ → ℤ
-integerAt l h = elim (ltb (l + h * 2 ^ 32) (2 ^ 63)) [ true ↦ pos (l + h * 2 ^ 32) | false ↦ negsuc (2 ^ 64 - suc (l + h * 2 ^ 32)) ]
-
-unfoldable pub isOne : ℕ → Bool
-isOne n = eqb n 1
-
--- a literal by its kind (1 null, 2 bool, 3 int, 4 float, 5 text) and two numbers
-unfoldable pub valueAt : Bytes → Bytes → ℕ → ℕ → ℕ → Value
-valueAt c q k a b = coded null (null ∷ bool (isOne a) ∷ int (integerAt a b) ∷ float (a + b * 2 ^ 32) ∷ text (wordAt c q a b) ∷ []) 1 k
 
 -- n expressions in a row, each read by f, from row r
 unfoldable pub argumentsAt : (ℕ → Expr) → List ℕ → ℕ → ℕ → Exprs

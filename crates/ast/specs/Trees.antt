@@ -10,9 +10,9 @@ use borrow.Author.Tests.{eqb-true, eqb-false}
 use Rattle.rules.specs.Lists.{Bytes}
 use Rattle.rules.specs.Ast.{Expr, star, column, literal, call, unary, binary, is}
 use Rattle.rules.specs.BuildAggregate.{isAggregate, collect, collectAll}
+use Rattle.numbers.specs.Codes.{orLeast}
 use Rattle.ast.specs.Behind.{behind, behind-step}
 use Rattle.ast.specs.Table.{rowSize, rowsAt, argumentsAt, starAt, rootAt, treeAt}
-use Rattle.ast.specs.Codes.{orLeast}
 use Rattle.ast.specs.Operands.{operandsOf, kindAt, operandsAt, operands-at, inside, tree-outside}
 use Rattle.ast.specs.Operands.{operands-outside, tree-at}
 use Rattle.ast.specs.Walk.{isAggregateCall, no-call, call-root}
@@ -104,15 +104,15 @@ module _ (c q : Bytes) (t : List ℕ) where
   collect-trees r = trees-by (length t) r (omega arith)
 
 -- INSIDE THE TABLE
-abbrev pub Inside : List ℕ → List ℕ → Type 0
-Inside t [] = Unit {0}
-Inside t (r ∷ rs) = (rowSize * r < length t) × Inside t rs
+abbrev pub RowsWithin : List ℕ → List ℕ → Type 0
+RowsWithin t [] = Unit {0}
+RowsWithin t (r ∷ rs) = (rowSize * r < length t) × RowsWithin t rs
 
-inside-append : (t xs ys : List ℕ) → Inside t xs → Inside t ys → Inside t (xs ++ ys)
+inside-append : (t xs ys : List ℕ) → RowsWithin t xs → RowsWithin t ys → RowsWithin t (xs ++ ys)
 inside-append t [] ys h k = k
 inside-append t (x ∷ xs) ys h k = (h .0, inside-append t xs ys (h .1) k)
 
-pub row-inside : (t rs : List ℕ) (k : ℕ) → Inside t rs → k < length rs → rowSize * getD rs k 0 < length t
+pub row-inside : (t rs : List ℕ) (k : ℕ) → RowsWithin t rs → k < length rs → rowSize * getD rs k 0 < length t
 row-inside t [] k h l = absurd (omega arith)
 row-inside t (r ∷ rs) zero h l = h .0
 row-inside t (r ∷ rs) (suc k) h l = row-inside t rs k (h .1) (omega arith)
@@ -126,24 +126,24 @@ call-inside c q t r h = pick (eqb (kindAt t r) 4) refl
     pick false e = absurd (eqb-false 1 0 refl (let f : _≡_ {A = Bool} true false = sym h ∙ no-call c q t r (eqb-false _ _ e) in cc))
 
 module _ (c q : Bytes) (t : List ℕ) where
-  inside-all : (g : ℕ → List ℕ) → ((r : ℕ) → Inside t (g r)) → (n r : ℕ) → Inside t (rowsOf g t n r)
+  inside-all : (g : ℕ → List ℕ) → ((r : ℕ) → RowsWithin t (g r)) → (n r : ℕ) → RowsWithin t (rowsOf g t n r)
   unfolding rowsOf
   inside-all g each zero r = tt
   inside-all g each (suc n) r = inside-append t (g r) _ (each r) (inside-all g each n (r + rowsAt t r))
 
-  inside-by : (n r : ℕ) → Inside t (behind (λ g. collectBy g c q t) [] n r)
+  inside-by : (n r : ℕ) → RowsWithin t (behind (λ g. collectBy g c q t) [] n r)
   unfolding behind collectBy
   inside-by zero r = tt
   inside-by (suc n) r = pick (isAggregateCall (rootAt c q t r)) refl
       (inside-all (behind (λ g. collectBy g c q t) [] n) (inside-by n) (operandsAt t r) (suc r))
     where
       pick : (b : Bool) → isAggregateCall (rootAt c q t r) ≡ b
-          → Inside t (rowsOf (behind (λ g. collectBy g c q t) [] n) t (operandsAt t r) (suc r))
-          → Inside t
+          → RowsWithin t (rowsOf (behind (λ g. collectBy g c q t) [] n) t (operandsAt t r) (suc r))
+          → RowsWithin t
           (elim b [ true ↦ r ∷ [] | false ↦ rowsOf (behind (λ g. collectBy g c q t) [] n) t (operandsAt t r) (suc r) ])
       pick true x h = (call-inside c q t r x, tt)
       pick false x h = h
 
-  pub rows-inside : (r : ℕ) → Inside t (collectRows c q t r)
+  pub rows-inside : (r : ℕ) → RowsWithin t (collectRows c q t r)
   unfolding collectRows
   rows-inside r = inside-by (length t) r

@@ -1,8 +1,6 @@
 // The statement's expressions in a table of rows, and walks over them (ast.rs).
 pub mod aggregates;
 pub mod equality;
-mod heads;
-pub mod reading;
+pub mod row;
 pub mod rows;
-pub mod starred;
 pub mod walk;

@@ -2,8 +2,8 @@
 // whatever the table holds, since a row outside the table has 0 rows.
 ghost use mathlib.Core.Path.{_≡_};
 ghost use Prim.Native.Nat.{_+_};
+ghost use Rattle.numbers.specs.Codes.{orLeast};
 ghost use Rattle.ast.specs.Table.{at, rowsAt};
-ghost use Rattle.ast.specs.Codes.{orLeast};
 ghost use Rattle.ast.specs.Operands.{kindAt, operandsAt};
 
 // Numbers a row.

@@ -1,11 +1,11 @@
--- The area speaks: the whole plan is read back from its numbers.
+-- The whole plan is read back from its numbers.
 pub mod Readings
 pub mod ReadArea
 pub mod ReadingLaws
 pub mod Readable
-pub mod AreaSpeaks
+pub mod AreaReadsBack
 pub mod ReadPlan
-pub mod PlanSpeaks
+pub mod PlanReadsBack
 pub mod NodeTree
 pub mod AreaExit
 pub mod Proper

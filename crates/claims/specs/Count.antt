@@ -7,6 +7,8 @@ pub mod Stars
 pub mod Select
 pub mod Hidden
 pub mod Arguments
+pub mod Uses
 pub mod Items
+pub mod Clauses
 pub mod Bound
 pub mod Statements

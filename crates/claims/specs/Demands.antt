@@ -50,7 +50,7 @@ use Rattle.claims.specs.Reading.Limits.{statement-limited, expressionCel
 use Rattle.claims.specs.Room.Statements.{room}
 use Rattle.claims.specs.Numbers32.Plan.{numbers-fit}
 use Rattle.claims.specs.Area.ReadPlan.{readPlan}
-use Rattle.claims.specs.Area.AreaDemand.{Speaks, area-demand, area-length}
+use Rattle.claims.specs.Area.AreaDemand.{ReadsBack, area-demand, area-length}
 use Rattle.claims.specs.Area.AreaExit as Exit
 use Rattle.claims.specs.Area.Accepted.{accepted, entry-built}
 use Rattle.claims.specs.Form.Kept.{Form, plan-form}
@@ -149,11 +149,11 @@ reasons c s = statement-refusals c s
 pub limits-passed : (c : Catalog) (q : Select) (r : Refusal) → buildSelect c q ≡ refused r → r .reason ≡ limitPassed → Passed c q
 limits-passed c q r e h = limit-passed c q r e h
 
--- THE AREA SPEAKS
+-- THE AREA READ BACK
 -- Where the entry accepts, the whole area, read back by numbers of docs/PLAN.md, gives exactly the plan and its cells, of all
 -- six statements, and the entry reports as many ..
-pub area-speaks : (c q : Bytes) (a : List ℕ) (p : Plan Built) → entry (length a) c q ≡ ok p → Speaks c q a p
-area-speaks c q a p h = area-demand c q a p h
+pub area-reads-back : (c q : Bytes) (a : List ℕ) (p : Plan Built) → entry (length a) c q ≡ ok p → ReadsBack c q a p
+area-reads-back c q a p h = area-demand c q a p h
 
 -- .. and what is read back has the form that docs/PLAN.md promises its readers.
 pub form-kept : (c q : Bytes) (p : Plan Built) → planOf c q ≡ ok p → Form (planCells p) (numberPlan p)
@@ -215,7 +215,7 @@ demand-3 c q a ts s ha hc hq ht hs = go (buildSelect ts s) refl
 
     go : (m : Answer (Plan Built)) → buildSelect ts s ≡ m → Planned c q a ts s ⊎ NotPlanned c q a ts s
     go (ok p) e =
-        let h = area-speaks c q a p (entered (ok p) e) in
+        let h = area-reads-back c q a p (entered (ok p) e) in
         let k = ensured (buildSelect ts s) _ (select-count ts s) p e in
         inl (record {
           resolved = p;

@@ -9,6 +9,7 @@ pub mod Building
 pub mod Order
 pub mod Refused
 pub mod Words
+pub mod Within
 pub mod Area
 pub mod Room
 pub mod Values

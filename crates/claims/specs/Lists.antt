@@ -1,8 +1,8 @@
 -- More laws of what holds of every entry of a list and of what an option gives.
 use Prim.Native.Nat.{ℕ, zero, suc, _<_}
 use native.Mathlib.Omega.{arith}
-use mathlib.Core.Path.{_≡_}
-use mathlib.Core.List.{List, [], _∷_, map}
+use mathlib.Core.Path.{_≡_, refl, ap}
+use mathlib.Core.List.{List, [], _∷_, _++_, map}
 use mathlib.Core.Option.{Option, none, some}
 use lib.ListN.{length}
 use Rattle.rules.specs.Lists.{mapOption, given, concat, entryAfter}
@@ -21,6 +21,10 @@ pub all-both : {B : Type 0} (P Q : B → Type 0) (xs : List B) → All P xs → 
 unfolding All
 all-both P Q [] h g = tt
 all-both P Q (x ∷ xs) h g = ((h .0, g .0), all-both P Q xs (h .1) (g .1))
+
+pub map-append : {A B : Type 0} (f : A → B) (xs ys : List A) → map f (xs ++ ys) ≡ map f xs ++ map f ys
+map-append f [] ys = refl
+map-append {B} f (x ∷ xs) ys = ap {B = List B} (λ r. f x ∷ r) (map-append f xs ys)
 
 -- of every list, and so of all of them as one
 pub all-concat : {B : Type 0} (Q : B → Type 0) (rs : List (List B)) → All (All Q) rs → All Q (concat rs)
@@ -45,6 +49,14 @@ unfolding entryAfter
 entry-below [] i a e = absurd (let z : _≡_ {A = ℕ} 0 1 = cc in omega arith)
 entry-below (x ∷ xs) zero a e = omega arith
 entry-below (x ∷ xs) (suc i) a e = omega (arith, entry-below xs i a e)
+
+-- what all entries have, one at a position has
+pub all-entry : {A : Type 0} (Q : A → Type 0) (as′ : List A) → All Q as′ → (i : ℕ) (a : A) → entryAfter i as′ ≡ some a
+    → Q a
+unfolding entryAfter All
+all-entry Q [] h i a e = absurd (let z : _≡_ {A = ℕ} 0 1 = cc in omega arith)
+all-entry Q (x ∷ xs) h zero a e = let q : x ≡ a = cc in rw (← q) (h .0)
+all-entry Q (x ∷ xs) h (suc i) a e = all-entry Q xs (h .1) i a e
 
 -- of what a function makes of any entry
 pub all-mapped : {A B : Type 0} (Q : B → Type 0) (f : A → B) → ((a : A) → Q (f a)) → (xs : List A) → All Q (map f xs)

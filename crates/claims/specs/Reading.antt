@@ -10,5 +10,6 @@ pub mod Sound
 pub mod Lines
 pub mod Records
 pub mod Expression
+pub mod Depth
 pub mod Statement
 pub mod Catalog

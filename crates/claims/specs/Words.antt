@@ -6,3 +6,4 @@ pub mod Lines
 pub mod Placed
 pub mod PlacedPlan
 pub mod Ends
+pub mod Within

@@ -17,11 +17,11 @@ use Rattle.text.specs.Lines.{field, fieldsFrom}
 use Rattle.text.specs.Numbers.{isName}
 use Rattle.text.specs.Reading.{fieldOf, rest-whole}
 use Rattle.text.specs.declared.Line.{Line}
-use Rattle.ast.specs.Says.{Inside}
-use Rattle.ast.specs.Reading.{here}
+use Rattle.text.specs.Fields.{Inside}
+use Rattle.read_expression.specs.Reading.{here}
 use Rattle.entries.specs.Entries.{EntryHead, columnHead, fieldsOf}
 use Rattle.entries.specs.Heads.{numbersOf}
-use Rattle.entries.specs.HeadFields.{LineAt, NameSaid, HeadSaid, Said, SaidHere, no-name, name-said, field-named, field-unnamed, said-as}
+use Rattle.entries.specs.HeadFields.{LineAt, NameIs, HeadNumbersAre, HeadIs, HeadIsHere, no-name, name-is, field-named, field-unnamed, head-is-as}
 use Rattle.entries.specs.ColumnWords.{wordsBy, wordsHead}
 use Rattle.entries.specs.HeadRecords.{field-at, without}
 use Rattle.entries.specs.declared.Head.{Head}
@@ -111,11 +111,11 @@ column-not (a ∷ (b ∷ (c ∷ (d ∷ (e ∷ (f ∷ (i ∷ (j ∷ (k ∷ ws))))
     ∙ no-reference (name a) (wordsBy (word datatypes b) (flagged (bytes "pk") c) (word nullness d) (flagged (bytes "unique") e) (flagged (bytes "index") f) (flagged (bytes "default") i))
 
 -- names put to words: what is said of both
-said-named : (t : Bytes) (a n x y : ℕ) (h : EntryHead) (o : Option Word) (v r : Head) → Inside t a n → isName n ≡ true → HeadSaid t h v → NameSaid t o x y
-    → (r .state ≡ 2) × (r .expressions ≡ v .expressions) × (numbersOf r ≡ (mostBytes + a) ∷ n ∷ v .code ∷ v .key ∷ v .nullable ∷ v .unique ∷ v .index ∷ x ∷ y ∷ []) → HeadSaid t (named (field mostBytes t a n) h o) r
+head-named : (t : Bytes) (a n x y : ℕ) (h : EntryHead) (o : Option Word) (v r : Head) → Inside t a n → isName n ≡ true → HeadNumbersAre t h v → NameIs t o x y
+    → (r .state ≡ 2) × (r .expressions ≡ v .expressions) × (numbersOf r ≡ (mostBytes + a) ∷ n ∷ v .code ∷ v .key ∷ v .nullable ∷ v .unique ∷ v .index ∷ x ∷ y ∷ []) → HeadNumbersAre t (named (field mostBytes t a n) h o) r
 unfolding named
-said-named t a n x y h o v r i e s q g = record {
-  named = rw (ra, rb) (name-said t a n i e);
+head-named t a n x y h o v r i e s q g = record {
+  named = rw (ra, rb) (name-is t a n i e);
   refers = rw (rc, rd) q;
   codes = s .codes ∙ (cc (g .2));
   expressions = g .1 ∙ s .expressions;
@@ -173,56 +173,56 @@ module _ (t : Bytes) (p : ℕ) (f : Line) (g : LineAt t p f) where
   unfolding fieldsFrom optionalName mapOption
   reference-no n h = rw (field-unnamed t _ _ (field-at t p f g 8 (omega (arith, n))) h)
 
-  worded : (o : Option EntryHead) (v : Head) → Said t o v → v .state ≡ 2 → (h : EntryHead) × (o ≡ some h) × HeadSaid t h v
-  unfolding Said
+  worded : (o : Option EntryHead) (v : Head) → HeadIs t o v → v .state ≡ 2 → (h : EntryHead) × (o ≡ some h) × HeadNumbersAre t h v
+  unfolding HeadIs
   worded none v s z = absurd (omega (arith, s, z))
   worded (some h) v s z = (h, refl, s .1)
 
-  wordless : (o : Option EntryHead) (v : Head) → Said t o v → (v .state ≡ 2 → ⊥) → o ≡ none
-  unfolding Said
+  wordless : (o : Option EntryHead) (v : Head) → HeadIs t o v → (v .state ≡ 2 → ⊥) → o ≡ none
+  unfolding HeadIs
   wordless none v s z = refl
   wordless (some h) v s z = absurd (z (s .0))
 
   module _ (r : Head) where
-    pub column-count : (f .count ≡ 8 → ⊥) → (f .count ≡ 9 → ⊥) → r .state ≡ 1 → SaidHere t p (fieldsOf 11 none) r
+    pub column-count : (f .count ≡ 8 → ⊥) → (f .count ≡ 9 → ⊥) → r .state ≡ 1 → HeadIsHere t p (fieldsOf 11 none) r
     column-count n m s = without t p f g r (fieldsOf 11 none) 7 8 (omega arith) (omega arith) n m column-not s
 
-    column-as : (o : Option EntryHead) (j : ℕ) → f .count ≡ 8 + j → j ≤ 1 → namedBy (name (words 1)) (wordsHead words) (optionalName (behind j)) ≡ o → Said t o r → SaidHere t p (fieldsOf 11 none) r
-    unfolding SaidHere
-    column-as o j e m d s l c k = said-as t _ o r (column-rest j e m l c k ∙ d) s
+    column-as : (o : Option EntryHead) (j : ℕ) → f .count ≡ 8 + j → j ≤ 1 → namedBy (name (words 1)) (wordsHead words) (optionalName (behind j)) ≡ o → HeadIs t o r → HeadIsHere t p (fieldsOf 11 none) r
+    unfolding HeadIsHere
+    column-as o j e m d s l c k = head-is-as t _ o r (column-rest j e m l c k ∙ d) s
 
-    column-none : 8 ≤ f .count → f .count ≤ 9 → ((j : ℕ) → namedBy (name (words 1)) (wordsHead words) (optionalName (behind j)) ≡ none) → r .state ≡ 1 → SaidHere t p (fieldsOf 11 none) r
-    unfolding Said
+    column-none : 8 ≤ f .count → f .count ≤ 9 → ((j : ℕ) → namedBy (name (words 1)) (wordsHead words) (optionalName (behind j)) ≡ none) → r .state ≡ 1 → HeadIsHere t p (fieldsOf 11 none) r
+    unfolding HeadIs
     column-none n m d s = column-as none (f .count - 8) (omega (arith, n)) (omega (arith, m)) (d (f .count - 8)) s
 
-    pub column-name-no : 8 ≤ f .count → f .count ≤ 9 → isName (getD (f .lens) 1 0) ≡ false → r .state ≡ 1 → SaidHere t p (fieldsOf 11 none) r
+    pub column-name-no : 8 ≤ f .count → f .count ≤ 9 → isName (getD (f .lens) 1 0) ≡ false → r .state ≡ 1 → HeadIsHere t p (fieldsOf 11 none) r
     column-name-no n m h s = column-none n m (λ j. rw (first-no n h) (nameless (wordsHead words) (optionalName (behind j)))) s
 
-    pub column-words-no : (v : Head) → 8 ≤ f .count → f .count ≤ 9 → Said t (wordsHead words) v → (v .state ≡ 2 → ⊥) → r .state ≡ 1 → SaidHere t p (fieldsOf 11 none) r
+    pub column-words-no : (v : Head) → 8 ≤ f .count → f .count ≤ 9 → HeadIs t (wordsHead words) v → (v .state ≡ 2 → ⊥) → r .state ≡ 1 → HeadIsHere t p (fieldsOf 11 none) r
     column-words-no v n m w z s = column-none n m (λ j. rw (wordless (wordsHead words) v w z) (no-words (name (words 1)) (optionalName (behind j)))) s
 
-    pub column-reference-no : f .count ≡ 9 → isName (getD (f .lens) 8 0) ≡ false → r .state ≡ 1 → SaidHere t p (fieldsOf 11 none) r
-    unfolding Said
+    pub column-reference-no : f .count ≡ 9 → isName (getD (f .lens) 8 0) ≡ false → r .state ≡ 1 → HeadIsHere t p (fieldsOf 11 none) r
+    unfolding HeadIs
     column-reference-no n h s = column-as none 1 (omega (arith, n)) (omega arith) (rw (reference-no n h) (no-reference (name (words 1)) (wordsHead words))) s
 
     -- a column whose words fit
-    module _ (v : Head) (w : Said t (wordsHead words) v) (z : v .state ≡ 2) (n : 8 ≤ f .count) (h : isName (getD (f .lens) 1 0) ≡ true) where
+    module _ (v : Head) (w : HeadIs t (wordsHead words) v) (z : v .state ≡ 2) (n : 8 ≤ f .count) (h : isName (getD (f .lens) 1 0) ≡ true) where
       abbrev first : Word
       first = field mostBytes t (getD (f .starts) 1 0) (getD (f .lens) 1 0)
 
-      column-named : (x : Option Word) (j c d : ℕ) → f .count ≡ 8 + j → j ≤ 1 → optionalName (behind j) ≡ some x → NameSaid t x c d
+      column-named : (x : Option Word) (j c d : ℕ) → f .count ≡ 8 + j → j ≤ 1 → optionalName (behind j) ≡ some x → NameIs t x c d
           → (r .state ≡ 2) × (r .expressions ≡ v .expressions) × (numbersOf r ≡ (mostBytes + getD (f .starts) 1 0) ∷ getD (f .lens) 1 0 ∷ v .code ∷ v .key ∷ v .nullable ∷ v .unique ∷ v .index ∷ c ∷ d ∷ [])
-          → SaidHere t p (fieldsOf 11 none) r
-      unfolding Said
+          → HeadIsHere t p (fieldsOf 11 none) r
+      unfolding HeadIs
       column-named x j c d e m o q s =
           let y = worded (wordsHead words) v w z in
           column-as (some (named first (y .0) x)) j e m (named-all _ _ _ first (y .0) x (first-yes n h) (y .1) o)
-          (s .0, said-named t _ _ c d (y .0) x v r (field-at t p f g 1 (omega (arith, n))) h (y .2) q s)
+          (s .0, head-named t _ _ c d (y .0) x v r (field-at t p f g 1 (omega (arith, n))) h (y .2) q s)
 
-      pub column-plain : f .count ≡ 8 → (r .state ≡ 2) × (r .expressions ≡ v .expressions) × (numbersOf r ≡ (mostBytes + getD (f .starts) 1 0) ∷ getD (f .lens) 1 0 ∷ v .code ∷ v .key ∷ v .nullable ∷ v .unique ∷ v .index ∷ 0 ∷ 0 ∷ []) → SaidHere t p (fieldsOf 11 none) r
+      pub column-plain : f .count ≡ 8 → (r .state ≡ 2) × (r .expressions ≡ v .expressions) × (numbersOf r ≡ (mostBytes + getD (f .starts) 1 0) ∷ getD (f .lens) 1 0 ∷ v .code ∷ v .key ∷ v .nullable ∷ v .unique ∷ v .index ∷ 0 ∷ 0 ∷ []) → HeadIsHere t p (fieldsOf 11 none) r
       column-plain e s = column-named none 0 0 0 (omega (arith, e)) (omega arith) reference-none (no-name t) s
 
       pub column-refers : (a : ℕ) → f .count ≡ 9 → isName (getD (f .lens) 8 0) ≡ true → a ≡ mostBytes + getD (f .starts) 8 0
           → (r .state ≡ 2) × (r .expressions ≡ v .expressions) × (numbersOf r ≡ (mostBytes + getD (f .starts) 1 0) ∷ getD (f .lens) 1 0 ∷ v .code ∷ v .key ∷ v .nullable ∷ v .unique ∷ v .index ∷ a ∷ getD (f .lens) 8 0 ∷ [])
-          → SaidHere t p (fieldsOf 11 none) r
-      column-refers a e i q s = column-named _ 1 a _ (omega (arith, e)) (omega arith) (reference-yes e i) (rw q (name-said t _ _ (field-at t p f g 8 (omega (arith, e))) i)) s
+          → HeadIsHere t p (fieldsOf 11 none) r
+      column-refers a e i q s = column-named _ 1 a _ (omega (arith, e)) (omega arith) (reference-yes e i) (rw q (name-is t _ _ (field-at t p f g 8 (omega (arith, e))) i)) s

@@ -12,14 +12,14 @@ use Rattle.rules.specs.Lines.{Word, bytes}
 use Rattle.rules.specs.Schema.{Datatype}
 use Rattle.rules.specs.Reader.{word}
 use Rattle.rules.specs.ReadColumn.{_>>=_, datatypes, flagged, nullness}
+use Rattle.rules.specs.Area.{flag, typeCode}
 use Rattle.text.specs.Lines.{field}
 use Rattle.text.specs.Words.{find, wordsOf, push, keys, nth, named-by, nth-none}
 use Rattle.text.specs.Reading.{fieldOf}
 use Rattle.text.specs.declared.Line.{Line}
-use Rattle.ast.specs.Names.{flagNumber}
-use Rattle.entries.specs.Entries.{EntryHead, typeNumber, nullNumber}
+use Rattle.entries.specs.Entries.{EntryHead, nullNumber}
 use Rattle.entries.specs.Heads.{numbersOf}
-use Rattle.entries.specs.HeadFields.{Said, said-as, said-none, said-plain}
+use Rattle.entries.specs.HeadFields.{HeadIs, head-is-as, head-none, head-plain}
 use Rattle.entries.specs.declared.Head.{Head}
 
 -- what the words say: type, key, nullable, unique, index, default
@@ -34,12 +34,12 @@ wordsBy t k u q i d = do
   some (record {
     name = none;
     reference = none;
-    code = typeNumber type′;
-    key = flagNumber key′;
+    code = typeCode type′;
+    key = flag key′;
     nullable = nullNumber nullable′;
-    unique = flagNumber unique′;
-    index = flagNumber index′;
-    expressions = flagNumber default′;
+    unique = flag unique′;
+    index = flag index′;
+    expressions = flag default′;
   })
 
 -- the same of the fields by their numbers
@@ -55,8 +55,8 @@ null-words : keys nullness ≡ wordsOf (bytes "null notnull - ")
 unfolding keys nullness wordsOf bytes push
 null-words = refl
 
-type-nth : (k : ℕ) → k < 4 → (d : Datatype) × (nth datatypes k ≡ some d) × (typeNumber d ≡ k + 1)
-unfolding nth datatypes typeNumber
+type-nth : (k : ℕ) → k < 4 → (d : Datatype) × (nth datatypes k ≡ some d) × (typeCode d ≡ k + 1)
+unfolding nth datatypes typeCode
 type-nth zero h = (_, refl, refl)
 type-nth (suc zero) h = (_, refl, refl)
 type-nth (suc (suc zero)) h = (_, refl, refl)
@@ -73,8 +73,8 @@ null-nth (suc (suc (suc k))) h = absurd (omega arith)
 abbrev flags : Bytes → List (Bytes × Bool)
 flags w = (w, true) ∷ (bytes "-", false) ∷ []
 
-flag-nth : (w : Bytes) (k : ℕ) → k < 2 → (b : Bool) × (nth (flags w) k ≡ some b) × (flagNumber b ≡ 1 - k)
-unfolding nth flagNumber
+flag-nth : (w : Bytes) (k : ℕ) → k < 2 → (b : Bool) × (nth (flags w) k ≡ some b) × (flag b ≡ 1 - k)
+unfolding nth flag
 flag-nth w zero h = (_, refl, refl)
 flag-nth w (suc zero) h = (_, refl, refl)
 flag-nth w (suc (suc k)) h = absurd (omega arith)
@@ -113,12 +113,12 @@ module _ (w : ℕ → Word) where
             words-are : (d : Bool) → flagged (bytes "default") (w 7) ≡ some d → wordsHead w ≡ some (record {
               name = none;
               reference = none;
-              code = typeNumber t;
-              key = flagNumber k;
+              code = typeCode t;
+              key = flag k;
               nullable = nullNumber u;
-              unique = flagNumber q;
-              index = flagNumber i;
-              expressions = flagNumber d;
+              unique = flag q;
+              index = flag i;
+              expressions = flag d;
             })
             unfolding wordsHead wordsBy _>>=_
             words-are d e = rw (e2, e3, e4, e5, e6, e)
@@ -153,46 +153,46 @@ unfolding keys wordsOf bytes push
 given-words = refl
 
 module _ (t : Bytes) (f : Line) (r : Head) {a : ℕ} (e2 : a ≡ find (wordsOf (bytes "bool int float text ")) (at t f 2)) where
-  pub words-type : 4 ≤ a → r .state ≡ 1 → Said t (wordsHead (fieldOf statement t f)) r
-  words-type l s = said-none t _ r (type-no _ (word-is t f 2 datatypes _ a type-words e2 ∙ nth-none datatypes a (unfold datatypes in l))) s
+  pub words-type : 4 ≤ a → r .state ≡ 1 → HeadIs t (wordsHead (fieldOf statement t f)) r
+  words-type l s = head-none t _ r (type-no _ (word-is t f 2 datatypes _ a type-words e2 ∙ nth-none datatypes a (unfold datatypes in l))) s
 
   module _ (l2 : a < 4) {b : ℕ} (e3 : b ≡ find (wordsOf (bytes "pk - ")) (at t f 3)) where
-    abbrev typed : (d : Datatype) × (word datatypes (fieldOf statement t f 2) ≡ some d) × (typeNumber d ≡ a + 1)
+    abbrev typed : (d : Datatype) × (word datatypes (fieldOf statement t f 2) ≡ some d) × (typeCode d ≡ a + 1)
     typed = let n = type-nth a l2 in (n .0, word-is t f 2 datatypes _ a type-words e2 ∙ n .1, n .2)
 
-    pub words-key : 2 ≤ b → r .state ≡ 1 → Said t (wordsHead (fieldOf statement t f)) r
-    words-key l s = said-none t _ r (key-no _ _ (typed .1) (flag-is t f 3 (bytes "pk") _ b pk-words e3 ∙ nth-none _ b l)) s
+    pub words-key : 2 ≤ b → r .state ≡ 1 → HeadIs t (wordsHead (fieldOf statement t f)) r
+    words-key l s = head-none t _ r (key-no _ _ (typed .1) (flag-is t f 3 (bytes "pk") _ b pk-words e3 ∙ nth-none _ b l)) s
 
     module _ (l3 : b < 2) {c : ℕ} (e4 : c ≡ find (wordsOf (bytes "null notnull - ")) (at t f 4)) where
-      abbrev keyed : (x : Bool) × (flagged (bytes "pk") (fieldOf statement t f 3) ≡ some x) × (flagNumber x ≡ 1 - b)
+      abbrev keyed : (x : Bool) × (flagged (bytes "pk") (fieldOf statement t f 3) ≡ some x) × (flag x ≡ 1 - b)
       keyed = let n = flag-nth (bytes "pk") b l3 in (n .0, flag-is t f 3 (bytes "pk") _ b pk-words e3 ∙ n .1, n .2)
 
-      pub words-null : 3 ≤ c → r .state ≡ 1 → Said t (wordsHead (fieldOf statement t f)) r
-      words-null l s = said-none t _ r (null-no _ _ (typed .1) _ (keyed .1) (word-is t f 4 nullness _ c null-words e4 ∙ nth-none nullness c (unfold nullness in l))) s
+      pub words-null : 3 ≤ c → r .state ≡ 1 → HeadIs t (wordsHead (fieldOf statement t f)) r
+      words-null l s = head-none t _ r (null-no _ _ (typed .1) _ (keyed .1) (word-is t f 4 nullness _ c null-words e4 ∙ nth-none nullness c (unfold nullness in l))) s
 
       module _ (l4 : c < 3) {d : ℕ} (e5 : d ≡ find (wordsOf (bytes "unique - ")) (at t f 5)) where
         abbrev nulled : (x : Option Bool) × (word nullness (fieldOf statement t f 4) ≡ some x) × (nullNumber x ≡ (c + 1) % 3)
         nulled = let n = null-nth c l4 in (n .0, word-is t f 4 nullness _ c null-words e4 ∙ n .1, n .2)
 
-        pub words-unique : 2 ≤ d → r .state ≡ 1 → Said t (wordsHead (fieldOf statement t f)) r
-        words-unique l s = said-none t _ r (unique-no _ _ (typed .1) _ (keyed .1) _ (nulled .1) (flag-is t f 5 (bytes "unique") _ d unique-words e5 ∙ nth-none _ d l)) s
+        pub words-unique : 2 ≤ d → r .state ≡ 1 → HeadIs t (wordsHead (fieldOf statement t f)) r
+        words-unique l s = head-none t _ r (unique-no _ _ (typed .1) _ (keyed .1) _ (nulled .1) (flag-is t f 5 (bytes "unique") _ d unique-words e5 ∙ nth-none _ d l)) s
 
         module _ (l5 : d < 2) {i : ℕ} (e6 : i ≡ find (wordsOf (bytes "index - ")) (at t f 6)) where
-          abbrev single : (x : Bool) × (flagged (bytes "unique") (fieldOf statement t f 5) ≡ some x) × (flagNumber x ≡ 1 - d)
+          abbrev single : (x : Bool) × (flagged (bytes "unique") (fieldOf statement t f 5) ≡ some x) × (flag x ≡ 1 - d)
           single = let n = flag-nth (bytes "unique") d l5 in (n .0, flag-is t f 5 (bytes "unique") _ d unique-words e5 ∙ n .1, n .2)
 
-          pub words-index : 2 ≤ i → r .state ≡ 1 → Said t (wordsHead (fieldOf statement t f)) r
-          words-index l s = said-none t _ r (index-no _ _ (typed .1) _ (keyed .1) _ (nulled .1) _ (single .1) (flag-is t f 6 (bytes "index") _ i index-words e6 ∙ nth-none _ i l)) s
+          pub words-index : 2 ≤ i → r .state ≡ 1 → HeadIs t (wordsHead (fieldOf statement t f)) r
+          words-index l s = head-none t _ r (index-no _ _ (typed .1) _ (keyed .1) _ (nulled .1) _ (single .1) (flag-is t f 6 (bytes "index") _ i index-words e6 ∙ nth-none _ i l)) s
 
           module _ (l6 : i < 2) {g : ℕ} (e7 : g ≡ find (wordsOf (bytes "default - ")) (at t f 7)) where
-            abbrev indexed : (x : Bool) × (flagged (bytes "index") (fieldOf statement t f 6) ≡ some x) × (flagNumber x ≡ 1 - i)
+            abbrev indexed : (x : Bool) × (flagged (bytes "index") (fieldOf statement t f 6) ≡ some x) × (flag x ≡ 1 - i)
             indexed = let n = flag-nth (bytes "index") i l6 in (n .0, flag-is t f 6 (bytes "index") _ i index-words e6 ∙ n .1, n .2)
 
-            pub words-default : 2 ≤ g → r .state ≡ 1 → Said t (wordsHead (fieldOf statement t f)) r
-            words-default l s = said-none t _ r (default-no _ _ (typed .1) _ (keyed .1) _ (nulled .1) _ (single .1) _ (indexed .1) (flag-is t f 7 (bytes "default") _ g given-words e7 ∙ nth-none _ g l)) s
+            pub words-default : 2 ≤ g → r .state ≡ 1 → HeadIs t (wordsHead (fieldOf statement t f)) r
+            words-default l s = head-none t _ r (default-no _ _ (typed .1) _ (keyed .1) _ (nulled .1) _ (single .1) _ (indexed .1) (flag-is t f 7 (bytes "default") _ g given-words e7 ∙ nth-none _ g l)) s
 
-            pub words-right : g < 2 → (r .state ≡ 2) × (r .expressions ≡ 1 - g) × (numbersOf r ≡ 0 ∷ 0 ∷ (a + 1) ∷ (1 - b) ∷ ((c + 1) % 3) ∷ (1 - d) ∷ (1 - i) ∷ 0 ∷ 0 ∷ []) → Said t (wordsHead (fieldOf statement t f)) r
+            pub words-right : g < 2 → (r .state ≡ 2) × (r .expressions ≡ 1 - g) × (numbersOf r ≡ 0 ∷ 0 ∷ (a + 1) ∷ (1 - b) ∷ ((c + 1) % 3) ∷ (1 - d) ∷ (1 - i) ∷ 0 ∷ 0 ∷ []) → HeadIs t (wordsHead (fieldOf statement t f)) r
             words-right l s =
                 let n = flag-nth (bytes "default") g l in
-                said-as t _ _ r (words-are _ _ (typed .1) _ (keyed .1) _ (nulled .1) _ (single .1) _ (indexed .1) _ (flag-is t f 7 (bytes "default") _ g given-words e7 ∙ n .1))
-                (said-plain t _ r refl refl (rw (typed .2, keyed .2, nulled .2, single .2, indexed .2, n .2) s) (omega (arith, n .2)))
+                head-is-as t _ _ r (words-are _ _ (typed .1) _ (keyed .1) _ (nulled .1) _ (single .1) _ (indexed .1) _ (flag-is t f 7 (bytes "default") _ g given-words e7 ∙ n .1))
+                (head-plain t _ r refl refl (rw (typed .2, keyed .2, nulled .2, single .2, indexed .2, n .2) s) (omega (arith, n .2)))

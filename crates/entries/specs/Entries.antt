@@ -10,13 +10,12 @@ use Rattle.rules.specs.Refusals.{ok}
 use Rattle.rules.specs.Limits.{mostEntries, mostRows, mostTableColumns}
 use Rattle.rules.specs.Lists.{Bytes, mapOption}
 use Rattle.rules.specs.Lines.{Word, bytes}
-use Rattle.rules.specs.Schema.{Datatype, boolean, integer, floating, string}
 use Rattle.rules.specs.Ast.{Exprs}
-use Rattle.rules.specs.Reader.{Place, Read, give, _>>=_, at, name, word, countField, noField, oneField, optionalName, recordWithin, atLeastOne}
+use Rattle.rules.specs.Reader.{Read, give, _>>=_, at, name, word, countField, noField, oneField, optionalName, recordWithin, atLeastOne}
 use Rattle.rules.specs.ReadExpression.{times, expression}
 use Rattle.rules.specs.ReadColumn.{ColumnHead, newColumnFields}
 use Rattle.rules.specs.ReadStatement.{directions, risingSet}
-use Rattle.ast.specs.Names.{flagNumber}
+use Rattle.rules.specs.Area.{flag, typeCode}
 
 -- What the fields of an entry's record say: a name (alias, inserted name, column), a reference, and numbers; and how many
 -- expressions follow it. What its kind does not have is none or 0.
@@ -66,18 +65,11 @@ namedHead n w = record { name = w; reference = none; code = 0; key = 0; nullable
 
 -- 1 for `desc`
 unfoldable pub orderHead : Bool → EntryHead
-orderHead d = record { name = none; reference = none; code = flagNumber d; key = 0; nullable = 0; unique = 0; index = 0; expressions = 1 }
+orderHead d = record { name = none; reference = none; code = flag d; key = 0; nullable = 0; unique = 0; index = 0; expressions = 1 }
 
 -- a default has no expression
 unfoldable pub setHead : Word × Bool → EntryHead
 setHead r = elim (r .1) [ true ↦ namedHead 0 (some (r .0)) | false ↦ namedHead 1 (some (r .0)) ]
-
--- 1 bool, 2 int, 3 float, 4 text, as in the catalog's numbers
-unfoldable pub typeNumber : Datatype → ℕ
-typeNumber boolean = 1
-typeNumber integer = 2
-typeNumber floating = 3
-typeNumber string = 4
 
 -- 0 not said, 1 null, 2 notnull
 unfoldable pub nullNumber : Option Bool → ℕ
@@ -89,12 +81,12 @@ unfoldable pub columnHead : ColumnHead → EntryHead
 columnHead c = record {
   name = some (c .name);
   reference = c .reference;
-  code = typeNumber (c .type);
-  key = flagNumber (c .key);
+  code = typeCode (c .type);
+  key = flag (c .key);
   nullable = nullNumber (c .nullable);
-  unique = flagNumber (c .unique);
-  index = flagNumber (c .index);
-  expressions = flagNumber (c .default);
+  unique = flag (c .unique);
+  index = flag (c .index);
+  expressions = flag (c .default);
 }
 
 -- what the fields of a record of a kind say, behind an entry with this name

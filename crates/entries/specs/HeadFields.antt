@@ -10,15 +10,16 @@ use Rattle.rules.specs.Limits.{mostBytes, mostCells}
 use Rattle.rules.specs.Lists.{Bytes, mapOption}
 use Rattle.rules.specs.Lines.{Word}
 use Rattle.rules.specs.Reader.{Place, at, rest, name, noField}
+use Rattle.rules.specs.Area.{span, optionSpan}
 use Rattle.text.specs.Lines.{field, Fields}
 use Rattle.text.specs.Numbers.{isName, name-in, name-out}
 use Rattle.text.specs.declared.Line.{Line}
-use Rattle.ast.specs.Says.{Inside}
-use Rattle.ast.specs.Heads.{field-length, field-fits}
-use Rattle.ast.specs.Names.{nameNumbers, NameFits}
-use Rattle.ast.specs.Reading.{here}
+use Rattle.text.specs.Fields.{Inside, field-length}
+use Rattle.read_expression.specs.Heads.{field-fits}
+use Rattle.ast.specs.Names.{NameFits}
+use Rattle.read_expression.specs.Reading.{here}
 use Rattle.entries.specs.Entries.{EntryHead, keywordOf, plainHead, namedHead, fieldsOf, nameOf}
-use Rattle.entries.specs.Heads.{headNumbers, lastName, numbersOf, Entered, Says}
+use Rattle.entries.specs.Heads.{headNumbers, lastName, numbersOf, Entered, IsHead}
 use Rattle.entries.specs.declared.Head.{Head}
 
 -- CONTRACTS
@@ -29,27 +30,27 @@ pub record LineAt (t : Bytes) (p : ℕ) (f : Line) : Type 0 where
   pub fields : Fields t p f
 
 -- a name of the statement by its address and length, or zeros
-pub record NameSaid (t : Bytes) (w : Option Word) (a n : ℕ) : Type 0 where
-  pub numbers : nameNumbers w ≡ a ∷ n ∷ []
+pub record NameIs (t : Bytes) (w : Option Word) (a n : ℕ) : Type 0 where
+  pub numbers : optionSpan w ≡ a ∷ n ∷ []
   pub fits : (c : Bytes) → NameFits c t w
   pub last : lastName t a n ≡ mapOption (λ (w : Word). w .bytes) w
 
 -- the numbers of a record's fields
-pub record HeadSaid (t : Bytes) (h : EntryHead) (r : Head) : Type 0 where
-  pub named : NameSaid t (h .name) (r .a) (r .b)
-  pub refers : NameSaid t (h .reference) (r .c) (r .d)
+pub record HeadNumbersAre (t : Bytes) (h : EntryHead) (r : Head) : Type 0 where
+  pub named : NameIs t (h .name) (r .a) (r .b)
+  pub refers : NameIs t (h .reference) (r .c) (r .d)
   pub codes : h .code ∷ h .key ∷ h .nullable ∷ h .unique ∷ h .index ∷ [] ≡ r .code ∷ r .key ∷ r .nullable ∷ r .unique ∷ r .index ∷ []
   pub expressions : r .expressions ≡ h .expressions
   pub few : r .expressions ≤ suc mostCells
 
 -- fields that do not fit, or what they say
-unfoldable pub Said : Bytes → Option EntryHead → Head → Type 0
-Said t none r = r .state ≡ 1
-Said t (some h) r = (r .state ≡ 2) × HeadSaid t h r
+unfoldable pub HeadIs : Bytes → Option EntryHead → Head → Type 0
+HeadIs t none r = r .state ≡ 1
+HeadIs t (some h) r = (r .state ≡ 2) × HeadNumbersAre t h r
 
 -- what a rule says of the fields at position p
-unfoldable pub SaidHere : Bytes → ℕ → (List Word → Option EntryHead) → Head → Type 0
-SaidHere t p g r = (l c k : ℕ) → Said t (g (rest (here t p l c k))) r
+unfoldable pub HeadIsHere : Bytes → ℕ → (List Word → Option EntryHead) → Head → Type 0
+HeadIsHere t p g r = (l c k : ℕ) → HeadIs t (g (rest (here t p l c k))) r
 
 -- no field, and n expressions
 unfoldable pub clauseFields : ℕ → List Word → Option EntryHead
@@ -60,8 +61,8 @@ unfoldable pub nameHead : ℕ → Word → Option EntryHead
 nameHead n w = mapOption (λ v. namedHead n (some v)) (name w)
 
 -- NAMES
-pub no-name : (t : Bytes) → NameSaid t none 0 0
-unfolding nameNumbers NameFits lastName mapOption
+pub no-name : (t : Bytes) → NameIs t none 0 0
+unfolding optionSpan span NameFits lastName mapOption
 no-name t = record { numbers = refl; fits = λ c. tt; last = refl }
 
 name-some : (n : ℕ) → isName n ≡ true → 1 ≤ n
@@ -75,9 +76,9 @@ last-some t a zero h = absurd (omega arith)
 last-some t a (suc n) h = let e : mostBytes + a - mostBytes ≡ a = omega arith in rw e
 
 module _ (t : Bytes) (a n : ℕ) (i : Inside t a n) where
-  pub name-said : isName n ≡ true → NameSaid t (some (field mostBytes t a n)) (mostBytes + a) n
-  unfolding nameNumbers NameFits mapOption
-  name-said h = record {
+  pub name-is : isName n ≡ true → NameIs t (some (field mostBytes t a n)) (mostBytes + a) n
+  unfolding optionSpan span NameFits mapOption
+  name-is h = record {
     numbers = unfold field in rw (field-length t a n i);
     fits = λ c. (field-fits t a n i c, unfold field in rw (field-length t a n i) (name-some n h));
     last = unfold field in last-some t a n (name-some n h);
@@ -92,19 +93,19 @@ module _ (t : Bytes) (a n : ℕ) (i : Inside t a n) where
   field-unnamed h = name-out _ (ap isName (field-length t a n i) ∙ h)
 
 -- RECORDS
-pub said-as : (t : Bytes) (g h : Option EntryHead) (r : Head) → g ≡ h → Said t h r → Said t g r
-said-as t g h r e s = rw e s
+pub head-is-as : (t : Bytes) (g h : Option EntryHead) (r : Head) → g ≡ h → HeadIs t h r → HeadIs t g r
+head-is-as t g h r e s = rw e s
 
 -- fields that do not fit
-pub said-none : (t : Bytes) (o : Option EntryHead) (r : Head) → o ≡ none → r .state ≡ 1 → Said t o r
-unfolding Said
-said-none t o r e s = rw e s
+pub head-none : (t : Bytes) (o : Option EntryHead) (r : Head) → o ≡ none → r .state ≡ 1 → HeadIs t o r
+unfolding HeadIs
+head-none t o r e s = rw e s
 
 -- numbers without names
-pub said-plain : (t : Bytes) (h : EntryHead) (r : Head) → h .name ≡ none → h .reference ≡ none
-    → (r .state ≡ 2) × (r .expressions ≡ h .expressions) × (numbersOf r ≡ 0 ∷ 0 ∷ h .code ∷ h .key ∷ h .nullable ∷ h .unique ∷ h .index ∷ 0 ∷ 0 ∷ []) → h .expressions ≤ suc mostCells → Said t (some h) r
-unfolding Said
-said-plain t h r e f g l = (
+pub head-plain : (t : Bytes) (h : EntryHead) (r : Head) → h .name ≡ none → h .reference ≡ none
+    → (r .state ≡ 2) × (r .expressions ≡ h .expressions) × (numbersOf r ≡ 0 ∷ 0 ∷ h .code ∷ h .key ∷ h .nullable ∷ h .unique ∷ h .index ∷ 0 ∷ 0 ∷ []) → h .expressions ≤ suc mostCells → HeadIs t (some h) r
+unfolding HeadIs
+head-plain t h r e f g l = (
   g .0,
   record {
     named = rw (e, a, b) (no-name t);
@@ -128,13 +129,13 @@ said-plain t h r e f g l = (
     d = cc (g .2)
 
 -- a name
-pub said-name : (t : Bytes) (a n e : ℕ) (r : Head) → Inside t a n → isName n ≡ true → e ≤ 1
-    → (r .state ≡ 2) × (r .expressions ≡ e) × (numbersOf r ≡ (mostBytes + a) ∷ n ∷ 0 ∷ 0 ∷ 0 ∷ 0 ∷ 0 ∷ 0 ∷ 0 ∷ []) → Said t (nameHead e (field mostBytes t a n)) r
-unfolding nameHead mapOption namedHead Said
-said-name t a n e r i h l g = rw (field-named t a n i h) ((
+pub head-name : (t : Bytes) (a n e : ℕ) (r : Head) → Inside t a n → isName n ≡ true → e ≤ 1
+    → (r .state ≡ 2) × (r .expressions ≡ e) × (numbersOf r ≡ (mostBytes + a) ∷ n ∷ 0 ∷ 0 ∷ 0 ∷ 0 ∷ 0 ∷ 0 ∷ 0 ∷ []) → HeadIs t (nameHead e (field mostBytes t a n)) r
+unfolding nameHead mapOption namedHead HeadIs
+head-name t a n e r i h l g = rw (field-named t a n i h) ((
   g .0,
   record {
-    named = rw (x, y) (name-said t a n i h);
+    named = rw (x, y) (name-is t a n i h);
     refers = rw (z, w) (no-name t);
     codes = cc (g .2);
     expressions = g .1;
@@ -154,17 +155,17 @@ said-name t a n e r i h l g = rw (field-named t a n i h) ((
     w : r .d ≡ 0
     w = cc (g .2)
 
-pub said-unnamed : (t : Bytes) (a n e : ℕ) (r : Head) → Inside t a n → isName n ≡ false → r .state ≡ 1 → Said t (nameHead e (field mostBytes t a n)) r
+pub head-unnamed : (t : Bytes) (a n e : ℕ) (r : Head) → Inside t a n → isName n ≡ false → r .state ≡ 1 → HeadIs t (nameHead e (field mostBytes t a n)) r
 unfolding nameHead mapOption
-said-unnamed t a n e r i h s = said-none t _ r (rw (field-unnamed t a n i h)) s
+head-unnamed t a n e r i h s = head-none t _ r (rw (field-unnamed t a n i h)) s
 
 -- ENTRIES
 module _ (t : Bytes) (kind : ℕ) (b : Option Bytes) (p : Place) (r : Head) where
-  pub says-missing : r .state ≡ 0 → at (keywordOf kind) p ≡ false → Says t kind b p r
-  says-missing z h = record { missing = λ e. h; wrong = λ e. absurd (omega (arith, z, e)); entered = λ e. absurd (omega (arith, z, e)); states = omega (arith, z) }
+  pub no-head : r .state ≡ 0 → at (keywordOf kind) p ≡ false → IsHead t kind b p r
+  no-head z h = record { missing = λ e. h; wrong = λ e. absurd (omega (arith, z, e)); entered = λ e. absurd (omega (arith, z, e)); states = omega (arith, z) }
 
-  entered-said : (h : EntryHead) → at (keywordOf kind) p ≡ true → fieldsOf kind b (rest p) ≡ some h → HeadSaid t h r → Entered t kind b p r
-  entered-said h e f s = record {
+  entered-head : (h : EntryHead) → at (keywordOf kind) p ≡ true → fieldsOf kind b (rest p) ≡ some h → HeadNumbersAre t h r → Entered t kind b p r
+  entered-head h e f s = record {
     head = h;
     stands = e;
     is = f;
@@ -180,9 +181,9 @@ module _ (t : Bytes) (kind : ℕ) (b : Option Bytes) (p : Place) (r : Head) wher
           → a ∷ b ∷ x ∷ y ∷ z ∷ u ∷ v ∷ c ∷ d ∷ [] ≡ a ∷ b ∷ x′ ∷ y′ ∷ z′ ∷ u′ ∷ v′ ∷ c ∷ d ∷ []
       codes a b c d x y z u v x′ y′ z′ u′ v′ e = ap (λ (l : List ℕ). a ∷ b ∷ (l ++ (c ∷ d ∷ []))) e
 
-  pub says-fields : at (keywordOf kind) p ≡ true → Said t (fieldsOf kind b (rest p)) r → Says t kind b p r
-  says-fields h s = go (fieldsOf kind b (rest p)) refl s
+  pub head-fields : at (keywordOf kind) p ≡ true → HeadIs t (fieldsOf kind b (rest p)) r → IsHead t kind b p r
+  head-fields h s = go (fieldsOf kind b (rest p)) refl s
     where
-      go : (o : Option EntryHead) → fieldsOf kind b (rest p) ≡ o → Said t o r → Says t kind b p r
-      go none e f = unfold Said in record { missing = λ z. absurd (omega (arith, z, f)); wrong = λ z. (h, e); entered = λ z. absurd (omega (arith, z, f)); states = omega (arith, f) }
-      go (some x) e f = unfold Said in record { missing = λ z. absurd (omega (arith, z, f .0)); wrong = λ z. absurd (omega (arith, z, f .0)); entered = λ z. entered-said x h e (f .1); states = omega (arith, f .0) }
+      go : (o : Option EntryHead) → fieldsOf kind b (rest p) ≡ o → HeadIs t o r → IsHead t kind b p r
+      go none e f = unfold HeadIs in record { missing = λ z. absurd (omega (arith, z, f)); wrong = λ z. (h, e); entered = λ z. absurd (omega (arith, z, f)); states = omega (arith, f) }
+      go (some x) e f = unfold HeadIs in record { missing = λ z. absurd (omega (arith, z, f .0)); wrong = λ z. absurd (omega (arith, z, f .0)); entered = λ z. entered-head x h e (f .1); states = omega (arith, f .0) }

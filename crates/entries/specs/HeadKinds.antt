@@ -15,10 +15,10 @@ use Rattle.text.specs.Order.{same-true, same-self}
 use Rattle.text.specs.Words.{find, wordsOf, push}
 use Rattle.text.specs.Reading.{at-is}
 use Rattle.text.specs.declared.Line.{Line}
-use Rattle.ast.specs.Reading.{here}
+use Rattle.read_expression.specs.Reading.{here}
 use Rattle.entries.specs.Entries.{EntryHead, keywords, keywordOf, fieldsOf}
-use Rattle.entries.specs.Heads.{Says}
-use Rattle.entries.specs.HeadFields.{SaidHere, clauseFields, said-as, says-missing, says-fields}
+use Rattle.entries.specs.Heads.{IsHead}
+use Rattle.entries.specs.HeadFields.{HeadIsHere, clauseFields, head-is-as, no-head, head-fields}
 use Rattle.entries.specs.declared.Head.{Head}
 
 -- KEYWORDS
@@ -105,23 +105,23 @@ module _ (t : Bytes) (p : ℕ) (f : Line) (g : Fields t p f) {k kind : ℕ} (m :
       go false s = refl
       go true s = absurd (q (e ∙ ap (find _) (same-true _ _ s) ∙ kind-found kind m))
 
-  pub head-missing : (b : Option Bytes) (r : Head) → (k ≡ kind → ⊥) → r .state ≡ 0 → (l c n : ℕ) → Says t kind b (here t p l c n) r
-  head-missing b r q z l c n = says-missing t kind b _ r z (kind-not q l c n)
+  pub head-missing : (b : Option Bytes) (r : Head) → (k ≡ kind → ⊥) → r .state ≡ 0 → (l c n : ℕ) → IsHead t kind b (here t p l c n) r
+  head-missing b r q z l c n = no-head t kind b _ r z (kind-not q l c n)
 
   -- the kinds by what they make of their fields
-  head-as : (m : List Word → Option EntryHead) (b : Option Bytes) (r : Head) → k ≡ kind → ((ws : List Word) → fieldsOf kind b ws ≡ m ws) → SaidHere t p m r → (l c n : ℕ) → Says t kind b (here t p l c n) r
-  unfolding SaidHere
-  head-as m b r q w s l c n = says-fields t kind b _ r (kind-here q l c n) (said-as t _ _ r (w _) (s l c n))
+  head-as : (m : List Word → Option EntryHead) (b : Option Bytes) (r : Head) → k ≡ kind → ((ws : List Word) → fieldsOf kind b ws ≡ m ws) → HeadIsHere t p m r → (l c n : ℕ) → IsHead t kind b (here t p l c n) r
+  unfolding HeadIsHere
+  head-as m b r q w s l c n = head-fields t kind b _ r (kind-here q l c n) (head-is-as t _ _ r (w _) (s l c n))
 
-  pub head-by : (j : ℕ) (b : Option Bytes) (r : Head) → k ≡ kind → k ≡ j → (j ≡ 10 → ⊥) → SaidHere t p (fieldsOf j none) r → (l c n : ℕ) → Says t kind b (here t p l c n) r
+  pub head-by : (j : ℕ) (b : Option Bytes) (r : Head) → k ≡ kind → k ≡ j → (j ≡ 10 → ⊥) → HeadIsHere t p (fieldsOf j none) r → (l c n : ℕ) → IsHead t kind b (here t p l c n) r
   head-by j b r q z d = let y : kind ≡ j = sym q ∙ z in head-as (fieldsOf j none) b r q (λ ws. rw y (last-unused j b ws d))
 
-  pub head-set : (b : Option Bytes) (r : Head) → k ≡ kind → k ≡ 10 → SaidHere t p (fieldsOf 10 b) r → (l c n : ℕ) → Says t kind b (here t p l c n) r
+  pub head-set : (b : Option Bytes) (r : Head) → k ≡ kind → k ≡ 10 → HeadIsHere t p (fieldsOf 10 b) r → (l c n : ℕ) → IsHead t kind b (here t p l c n) r
   head-set b r q z = let y : kind ≡ 10 = sym q ∙ z in head-as (fieldsOf 10 b) b r q (λ ws. rw y)
 
-  pub head-columns : (b : Option Bytes) (r : Head) → k ≡ kind → k ≡ 7 → SaidHere t p (clauseFields 0) r → (l c n : ℕ) → Says t kind b (here t p l c n) r
+  pub head-columns : (b : Option Bytes) (r : Head) → k ≡ kind → k ≡ 7 → HeadIsHere t p (clauseFields 0) r → (l c n : ℕ) → IsHead t kind b (here t p l c n) r
   unfolding fieldsOf clauseFields
   head-columns b r q z = let y : kind ≡ 7 = sym q ∙ z in head-as (clauseFields 0) b r q (λ ws. rw y)
 
-  pub head-clause : (b : Option Bytes) (r : Head) → k ≡ kind → (k ≡ 0 → ⊥) → (k ≡ 4 → ⊥) → (k ≡ 7 → ⊥) → (k ≡ 8 → ⊥) → (k ≡ 9 → ⊥) → (k ≡ 10 → ⊥) → (k ≡ 11 → ⊥) → SaidHere t p (clauseFields 1) r → (l c n : ℕ) → Says t kind b (here t p l c n) r
+  pub head-clause : (b : Option Bytes) (r : Head) → k ≡ kind → (k ≡ 0 → ⊥) → (k ≡ 4 → ⊥) → (k ≡ 7 → ⊥) → (k ≡ 8 → ⊥) → (k ≡ 9 → ⊥) → (k ≡ 10 → ⊥) → (k ≡ 11 → ⊥) → HeadIsHere t p (clauseFields 1) r → (l c n : ℕ) → IsHead t kind b (here t p l c n) r
   head-clause b r q n0 n4 n7 n8 n9 n10 n11 = head-as (clauseFields 1) b r q (λ ws. rw (← q) (clause-kind k b ws (omega (arith, q)) n0 n4 n7 n8 n9 n10 n11))

@@ -4,18 +4,18 @@ use mathlib.Core.Path.{_≡_}
 use mathlib.Core.Bool.{true, false}
 use mathlib.Core.List.{List, [], _∷_, _++_}
 use mathlib.Core.Option.{Option, none, some}
-use lib.ListN.{length, take, drop}
+use lib.ListN.{take, drop}
 use Rattle.rules.specs.Limits.{mostBytes, mostCells}
 use Rattle.rules.specs.Lists.{Bytes}
 use Rattle.rules.specs.Reader.{Place, at, rest}
-use Rattle.ast.specs.Names.{nameNumbers, NameFits}
-use Rattle.ast.specs.Reading.{here}
+use Rattle.rules.specs.Area.{optionSpan}
+use Rattle.ast.specs.Names.{NameFits}
 use Rattle.entries.specs.Entries.{EntryHead, keywordOf, fieldsOf, nameOf}
 use Rattle.entries.specs.declared.Head.{Head}
 
 -- the numbers of an entry behind its line, the number of its expressions and their first row
 unfoldable pub headNumbers : EntryHead → List ℕ
-headNumbers h = nameNumbers (h .name) ++ (h .code ∷ h .key ∷ h .nullable ∷ h .unique ∷ h .index ∷ nameNumbers (h .reference))
+headNumbers h = optionSpan (h .name) ++ (h .code ∷ h .key ∷ h .nullable ∷ h .unique ∷ h .index ∷ optionSpan (h .reference))
 
 -- the name of the entry before, by its address and length; none where it has no bytes
 unfoldable pub lastName : Bytes → ℕ → ℕ → Option Bytes
@@ -38,7 +38,7 @@ pub record Entered (t : Bytes) (kind : ℕ) (b : Option Bytes) (p : Place) (r : 
   pub last : lastName t (r .a) (r .b) ≡ nameOf head
 
 -- state 0: no such record stands here; 1: its fields do not fit; 2: it says these numbers
-pub record Says (t : Bytes) (kind : ℕ) (b : Option Bytes) (p : Place) (r : Head) : Type 0 where
+pub record IsHead (t : Bytes) (kind : ℕ) (b : Option Bytes) (p : Place) (r : Head) : Type 0 where
   pub missing : r .state ≡ 0 → at (keywordOf kind) p ≡ false
   pub wrong : r .state ≡ 1 → (at (keywordOf kind) p ≡ true) × (fieldsOf kind b (rest p) ≡ none)
   pub entered : r .state ≡ 2 → Entered t kind b p r

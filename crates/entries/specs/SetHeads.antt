@@ -20,7 +20,7 @@ use Rattle.text.specs.declared.Order.{Order}
 use Rattle.text.specs.declared.Order.the-variants.{Before, Same, After}
 use Rattle.entries.specs.Entries.{setHead, fieldsOf}
 use Rattle.entries.specs.Heads.{lastName}
-use Rattle.entries.specs.HeadFields.{LineAt, Said, SaidHere, nameHead, said-as, said-none}
+use Rattle.entries.specs.HeadFields.{LineAt, HeadIs, HeadIsHere, nameHead, head-is-as, head-none}
 use Rattle.entries.specs.HeadRecords.{with-one, with-two, without}
 use Rattle.entries.specs.declared.Head.{Head}
 
@@ -122,29 +122,29 @@ module _ (t : Bytes) (p : ℕ) (f : Line) (g : LineAt t p f) (r : Head) (b : Opt
   abbrev second : Word
   second = field mostBytes t (getD (f .starts) 2 0) (getD (f .lens) 2 0)
 
-  pub set-count : (f .count ≡ 2 → ⊥) → (f .count ≡ 3 → ⊥) → r .state ≡ 1 → SaidHere t p (fieldsOf 10 b) r
+  pub set-count : (f .count ≡ 2 → ⊥) → (f .count ≡ 3 → ⊥) → r .state ≡ 1 → HeadIsHere t p (fieldsOf 10 b) r
   set-count n m s = without t p f g r (fieldsOf 10 b) 1 2 (omega arith) (omega arith) n m (λ ws x y. set-fields b _ ∙ set-not b ws x y) s
 
-  pub set-below : 2 ≤ f .count → f .count ≤ 3 → rises b first ≡ false → r .state ≡ 1 → SaidHere t p (fieldsOf 10 b) r
+  pub set-below : 2 ≤ f .count → f .count ≤ 3 → rises b first ≡ false → r .state ≡ 1 → HeadIsHere t p (fieldsOf 10 b) r
   set-below n m h s = go (f .count) refl n m
     where
-      go : (k : ℕ) → f .count ≡ k → 2 ≤ k → k ≤ 3 → SaidHere t p (fieldsOf 10 b) r
+      go : (k : ℕ) → f .count ≡ k → 2 ≤ k → k ≤ 3 → HeadIsHere t p (fieldsOf 10 b) r
       go zero e n m = absurd (omega arith)
       go (suc zero) e n m = absurd (omega arith)
-      go (suc (suc zero)) e n m = with-one t p f g r (fieldsOf 10 b) e (said-none t _ r (set-fields b _ ∙ set-falls b first h) s)
-      go (suc (suc (suc zero))) e n m = with-two t p f g r (fieldsOf 10 b) e (said-none t _ r (set-fields b _ ∙ set-falls-two b first second h) s)
+      go (suc (suc zero)) e n m = with-one t p f g r (fieldsOf 10 b) e (head-none t _ r (set-fields b _ ∙ set-falls b first h) s)
+      go (suc (suc (suc zero))) e n m = with-two t p f g r (fieldsOf 10 b) e (head-none t _ r (set-fields b _ ∙ set-falls-two b first second h) s)
       go (suc (suc (suc (suc k)))) e n m = absurd (omega arith)
 
-  pub set-one : f .count ≡ 2 → rises b first ≡ true → Said t (nameHead 1 first) r → SaidHere t p (fieldsOf 10 b) r
-  set-one n h s = with-one t p f g r (fieldsOf 10 b) n (said-as t _ _ r (set-fields b _ ∙ set-value b first h) s)
+  pub set-one : f .count ≡ 2 → rises b first ≡ true → HeadIs t (nameHead 1 first) r → HeadIsHere t p (fieldsOf 10 b) r
+  set-one n h s = with-one t p f g r (fieldsOf 10 b) n (head-is-as t _ _ r (set-fields b _ ∙ set-value b first h) s)
 
   module _ (n : f .count ≡ 3) {k : ℕ} (e : k ≡ find (wordsOf (bytes "default ")) (take (getD (f .lens) 2 0) (drop (getD (f .starts) 2 0) t))) where
     default-is : word defaults second ≡ nth defaults k
     unfolding word field
     default-is = named-by defaults (bytes "default ") _ k default-words e
 
-    pub set-other : (k ≡ 0 → ⊥) → r .state ≡ 1 → SaidHere t p (fieldsOf 10 b) r
-    set-other h s = with-two t p f g r (fieldsOf 10 b) n (said-none t _ r (set-fields b _ ∙ set-word b first second (default-is ∙ nth-none defaults k (unfold defaults in omega (arith, h)))) s)
+    pub set-other : (k ≡ 0 → ⊥) → r .state ≡ 1 → HeadIsHere t p (fieldsOf 10 b) r
+    set-other h s = with-two t p f g r (fieldsOf 10 b) n (head-none t _ r (set-fields b _ ∙ set-word b first second (default-is ∙ nth-none defaults k (unfold defaults in omega (arith, h)))) s)
 
-    pub set-two : k ≡ 0 → rises b first ≡ true → Said t (nameHead 0 first) r → SaidHere t p (fieldsOf 10 b) r
-    set-two z h s = with-two t p f g r (fieldsOf 10 b) n (said-as t _ _ r (set-fields b _ ∙ set-default b first second h (default-is ∙ rw z (unfold defaults nth in refl))) s)
+    pub set-two : k ≡ 0 → rises b first ≡ true → HeadIs t (nameHead 0 first) r → HeadIsHere t p (fieldsOf 10 b) r
+    set-two z h s = with-two t p f g r (fieldsOf 10 b) n (head-is-as t _ _ r (set-fields b _ ∙ set-default b first second h (default-is ∙ rw z (unfold defaults nth in refl))) s)

@@ -3,17 +3,16 @@ ghost use mathlib.Core.Path.{_≡_};
 ghost use mathlib.Core.List.{[], _∷_};
 ghost use mathlib.Core.Option.{none};
 ghost use Prim.Native.Nat.{ℕ, _+_, _-_, _≤_};
-ghost use lib.ListN.{length};
 ghost use Rattle.rules.specs.Refusals.{statement};
 ghost use Rattle.rules.specs.Limits.{mostBytes};
 ghost use Rattle.rules.specs.ReadStatement as rules;
 ghost use Rattle.text.specs.Lines.{field};
 ghost use Rattle.text.specs.Reading.{fieldOf};
-ghost use Rattle.ast.specs.Says.{Inside};
-ghost use Rattle.ast.specs.Reading.{here};
+ghost use Rattle.text.specs.Fields.{Inside};
+ghost use Rattle.read_expression.specs.Reading.{here};
 ghost use Rattle.entries.specs.Entries.{fieldsOf};
-ghost use Rattle.entries.specs.Heads.{Says, lastName, numbersOf};
-ghost use Rattle.entries.specs.HeadFields.{LineAt, Said, SaidHere, clauseFields, nameHead};
+ghost use Rattle.entries.specs.Heads.{IsHead, lastName, numbersOf};
+ghost use Rattle.entries.specs.HeadFields.{LineAt, HeadIs, HeadIsHere, clauseFields, nameHead};
 ghost use Rattle.entries.specs.ColumnWords.{wordsHead};
 use text::Line;
 use text::Number;
@@ -70,7 +69,7 @@ fn wrong() -> Head
 // A record without fields, and so many expressions.
 fn clause(t: &[u8], p: usize, f: Line, expressions: u32) -> Head
     requires { ⌜ LineAt (now t) p f ⌝ ∗ ⌜ expressions ≤ 1 ⌝ }
-    ensures { λ r. ⌜ SaidHere (now (t .entry)) p (clauseFields expressions) r ⌝ }
+    ensures { λ r. ⌜ HeadIsHere (now (t .entry)) p (clauseFields expressions) r ⌝ }
 {
     if f.count != 1 {
         return wrong();
@@ -81,7 +80,7 @@ fn clause(t: &[u8], p: usize, f: Line, expressions: u32) -> Head
 // A name, and so many expressions.
 fn name_head(t: &[u8], a: usize, n: usize, expressions: u32) -> Head
     requires { ⌜ Inside (now t) a n ⌝ ∗ ⌜ expressions ≤ 1 ⌝ }
-    ensures { λ r. ⌜ Said (now (t .entry)) (nameHead expressions (field mostBytes (now (t .entry)) a n)) r ⌝ }
+    ensures { λ r. ⌜ HeadIs (now (t .entry)) (nameHead expressions (field mostBytes (now (t .entry)) a n)) r ⌝ }
 {
     if !text::is_name(n) {
         return wrong();
@@ -104,7 +103,7 @@ fn name_head(t: &[u8], a: usize, n: usize, expressions: u32) -> Head
 // An item: its alias or none.
 fn item(t: &[u8], p: usize, f: Line) -> Head
     requires { ⌜ LineAt (now t) p f ⌝ }
-    ensures { λ r. ⌜ SaidHere (now (t .entry)) p (fieldsOf 0 none) r ⌝ }
+    ensures { λ r. ⌜ HeadIsHere (now (t .entry)) p (fieldsOf 0 none) r ⌝ }
 {
     if f.count == 1 {
         return plain(FITS, 1, 0);
@@ -118,7 +117,7 @@ fn item(t: &[u8], p: usize, f: Line) -> Head
 // An order key: its direction.
 fn order(t: &[u8], p: usize, f: Line) -> Head
     requires { ⌜ LineAt (now t) p f ⌝ }
-    ensures { λ r. ⌜ SaidHere (now (t .entry)) p (fieldsOf 4 none) r ⌝ }
+    ensures { λ r. ⌜ HeadIsHere (now (t .entry)) p (fieldsOf 4 none) r ⌝ }
 {
     if f.count != 2 {
         return wrong();
@@ -133,7 +132,7 @@ fn order(t: &[u8], p: usize, f: Line) -> Head
 // An inserted name.
 fn name(t: &[u8], p: usize, f: Line) -> Head
     requires { ⌜ LineAt (now t) p f ⌝ }
-    ensures { λ r. ⌜ SaidHere (now (t .entry)) p (fieldsOf 8 none) r ⌝ }
+    ensures { λ r. ⌜ HeadIsHere (now (t .entry)) p (fieldsOf 8 none) r ⌝ }
 {
     if f.count != 2 {
         return wrong();
@@ -144,7 +143,7 @@ fn name(t: &[u8], p: usize, f: Line) -> Head
 // An inserted row: the number of its expressions.
 fn row(t: &[u8], p: usize, f: Line) -> Head
     requires { ⌜ LineAt (now t) p f ⌝ }
-    ensures { λ r. ⌜ SaidHere (now (t .entry)) p (fieldsOf 9 none) r ⌝ }
+    ensures { λ r. ⌜ HeadIsHere (now (t .entry)) p (fieldsOf 9 none) r ⌝ }
 {
     if f.count != 2 {
         return wrong();
@@ -186,7 +185,7 @@ fn rises(t: &[u8], last: u32, len: u32, a: usize, n: usize) -> bool
 // A set: its name, and whether it is set to its default.
 fn set(t: &[u8], p: usize, f: Line, last: u32, len: u32) -> Head
     requires { ⌜ LineAt (now t) p f ⌝ }
-    ensures { λ r. ⌜ SaidHere (now (t .entry)) p (fieldsOf 10 (lastName (now (t .entry)) last len)) r ⌝ }
+    ensures { λ r. ⌜ HeadIsHere (now (t .entry)) p (fieldsOf 10 (lastName (now (t .entry)) last len)) r ⌝ }
 {
     let n = f.count;
     if n < 2 {
@@ -212,7 +211,7 @@ fn set(t: &[u8], p: usize, f: Line, last: u32, len: u32) -> Head
 
 // The words of a column's record, without its names: type, `pk`, `null` or `notnull`, `unique`, `index`, `default`.
 fn column_words(t: &[u8], f: Line) -> Head
-    ensures { λ r. ⌜ Said (now (t .entry)) (wordsHead (fieldOf statement (now (t .entry)) f)) r ⌝ }
+    ensures { λ r. ⌜ HeadIs (now (t .entry)) (wordsHead (fieldOf statement (now (t .entry)) f)) r ⌝ }
 {
     let code = text::which(b"bool int float text ", t, f.starts[2], f.lens[2]);
     if 4 <= code {
@@ -276,7 +275,7 @@ fn column_head(w: Head, a: usize, n: usize, c: u32, d: u32) -> Head
 // A new column: its name, its words, its reference or none.
 fn column(t: &[u8], p: usize, f: Line) -> Head
     requires { ⌜ LineAt (now t) p f ⌝ }
-    ensures { λ r. ⌜ SaidHere (now (t .entry)) p (fieldsOf 11 none) r ⌝ }
+    ensures { λ r. ⌜ HeadIsHere (now (t .entry)) p (fieldsOf 11 none) r ⌝ }
 {
     let n = f.count;
     if n < 8 {
@@ -308,7 +307,7 @@ fn column(t: &[u8], p: usize, f: Line) -> Head
 // The record of a kind at a position, by its fields, behind an entry whose name has this address and length (length 0: none).
 pub fn entry_head(t: &[u8], p: usize, f: Line, kind: u32, last: u32, len: u32) -> Head
     requires { ⌜ LineAt (now t) p f ⌝ ∗ ⌜ kind ≤ 11 ⌝ }
-    ensures { λ r. ⌜ ((l c k : ℕ) → Says (now (t .entry)) kind (lastName (now (t .entry)) last len) (here (now (t .entry)) p l c k) r) ⌝ }
+    ensures { λ r. ⌜ ((l c k : ℕ) → IsHead (now (t .entry)) kind (lastName (now (t .entry)) last len) (here (now (t .entry)) p l c k) r) ⌝ }
 {
     let k = text::which(
         b"item where group having order offset limit columns name row set column ",

@@ -2,3 +2,5 @@
 mod Codes
 mod Steps
 mod Rows
+mod Checks
+mod ValueNumbers

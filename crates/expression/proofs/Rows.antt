@@ -16,13 +16,14 @@ use Rattle.rules.specs.Operators.{unaryOf, binaryOf, isOf}
 use Rattle.rules.specs.Places.{wordAt}
 use Rattle.rules.specs.Refusals.{Refusal, Answer, ok, refused, refuse, statement}
 use Rattle.rules.specs.Schema.{Value}
+use Rattle.numbers.specs.Codes.{coded-beside, countFrom}
+use Rattle.numbers.specs.Values.{valueAt}
 use Rattle.value.specs.Values.{valueOf, held}
 use Rattle.value.specs.declared.Value as code
-use Rattle.ast.specs.Codes.{coded-beside, countFrom}
 use Rattle.ast.specs.Operands.{operandsOf, kindOf, kindAt, operandsAt, kind-at, operands-at, tree-call, tree-unary}
 use Rattle.ast.specs.Operands.{tree-binary, tree-is, tree-literal, operands-call, operands-unary, operands-binary}
 use Rattle.ast.specs.Operands.{operands-is, no-operands, arguments-none, arguments-more, tree-at}
-use Rattle.ast.specs.Table.{at, rowsAt, unaryAt, binaryAt, valueAt, argumentsAt, treeBy, treeAt}
+use Rattle.ast.specs.Table.{at, rowsAt, unaryAt, binaryAt, argumentsAt, treeBy, treeAt}
 use Rattle.expression.specs.Answers.{mapAnswer, reasonOf, answerOf, Evaluates}
 use Rattle.expression.specs.declared.Evaluated.the-variants as Ev
 use Rattle.expression.specs.declared.Evaluated.{Evaluated}

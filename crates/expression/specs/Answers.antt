@@ -6,8 +6,8 @@ use Rattle.rules.specs.Refusals.{Answer, ok, refused, refuse, constantOnly, uns
 use Rattle.rules.specs.Schema.{Value}
 use Rattle.rules.specs.Ast.{Expr}
 use Rattle.rules.specs.Evaluate.{evaluate}
+use Rattle.numbers.specs.Values.{valueAt}
 use Rattle.value.specs.Values.{valueOf, held}
-use Rattle.ast.specs.Table.{valueAt}
 use Rattle.expression.specs.declared.Reason.{Reason}
 use Rattle.expression.specs.declared.Reason.the-variants as Re
 use Rattle.expression.specs.declared.Evaluated.{Evaluated}

@@ -1,1 +1,3 @@
 pub mod Answers
+pub mod Constants
+pub mod Numbers

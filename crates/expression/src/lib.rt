@@ -1,5 +1,7 @@
 // Constant expressions worked out over the statement's table (expression.rs, evaluate).
+pub mod constants;
 pub mod operators;
+pub mod planned;
 
 ghost use mathlib.Core.Path.{_≡_};
 ghost use Prim.Native.Nat.{ℕ, suc, _+_};
@@ -15,6 +17,7 @@ ghost use Rattle.expression.specs.declared.Evaluated.the-variants as Ev;
 use ast::rows;
 use value::Value;
 use value::arithmetic;
+use value::literals;
 
 // Why an expression has no value.
 pub enum Reason {
@@ -72,7 +75,7 @@ fn leaf(table: &[u32], r: usize) -> Evaluated
             let v = rows::at(table, r, 3);
             let a = rows::at(table, r, 4);
             let b = rows::at(table, r, 5);
-            Evaluated::Value(operators::literal(v, a, b))
+            Evaluated::Value(literals::literal(v, a, b))
         }
         _ => Evaluated::Refused(Reason::UnsupportedStar, line),
     }

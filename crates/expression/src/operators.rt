@@ -1,11 +1,12 @@
-// The operators of the table by their codes, and literals by their kinds.
+// The operators of the table by their codes.
 ghost use mathlib.Core.Path.{_≡_};
 ghost use Prim.Native.Nat.{ℕ};
 ghost use Rattle.rules.specs.Lists.{Bytes};
 ghost use Rattle.rules.specs.Operators.{unaryOf, binaryOf, isOf};
 ghost use Rattle.rules.specs.Evaluate.{workedAt};
-ghost use Rattle.value.specs.Values.{valueOf, workedOf, held};
-ghost use Rattle.ast.specs.Table.{unaryAt, binaryAt, valueAt};
+ghost use Rattle.numbers.specs.Values.{valueAt};
+ghost use Rattle.value.specs.Values.{valueOf, workedOf};
+ghost use Rattle.ast.specs.Table.{unaryAt, binaryAt};
 ghost use Rattle.expression.specs.Answers.{answerOf};
 use crate::Evaluated;
 use crate::Reason;
@@ -14,20 +15,6 @@ use value::Worked;
 use value::arithmetic;
 use value::comparison;
 use value::logic;
-
-// A literal's value, by its kind and two numbers.
-pub fn literal(k: u32, a: u32, b: u32) -> Value
-    ensures { λ r. ⌜ ((c q : Bytes) → valueOf c q r ≡ held (valueAt c q k a b)) ⌝ }
-{
-    let n = (a as u64) + (b as u64) * 4294967296;
-    match k {
-        2 => Value::Bool(a == 1),
-        3 => Value::Int(ints::bits::from_bits(n)),
-        4 => Value::Float(value::bits::from_bits(n)),
-        5 => Value::Text(a, b),
-        _ => Value::Null,
-    }
-}
 
 // What an operator gave, for a record at a line.
 pub fn worked_at(w: Worked, line: u32) -> Evaluated

@@ -13,17 +13,18 @@ use Rattle.rules.specs.Reader.{turns, optional}
 use Rattle.rules.specs.ReadExpression.{expression}
 use Rattle.rules.specs.ReadStatement.{fromTree}
 use Rattle.text.specs.Answers.{wrongAt, limitAt}
-use Rattle.ast.specs.Table.{rowSize, isOne}
-use Rattle.ast.specs.Reading.{here, Below, Given, Took}
+use Rattle.numbers.specs.Values.{isOne}
+use Rattle.numbers.specs.Kept.{Kept, kept-on, kept-first}
+use Rattle.ast.specs.Table.{rowSize}
+use Rattle.read_expression.specs.Reading.{here, Given, Took}
 use Rattle.from.specs.Layout.{treesBefore}
 use Rattle.from.specs.Rules.{Frame, first, second, restOf, rest-right, rest-close, rest-close-no, rest-end}
 use Rattle.from.specs.Trees.{lineIn, kindIn, onIn, Closed, TreeTook}
-use Rattle.ast.specs.Rows.{below-trans, below-less}
 use Rattle.from.specs.Rows.{sidesBefore, join-row}
 use Rattle.from.specs.Stack.{codeOf, Holds, lefts, holds-push, line-in, kind-in, on-in}
 use Rattle.from.specs.Loop.{held, TreeLoop}
-use Rattle.ast.specs.declared.reading.Read as Rd
-use Rattle.ast.specs.declared.reading.Read.the-variants as R
+use Rattle.read_expression.specs.declared.reading.Read as Rd
+use Rattle.read_expression.specs.declared.reading.Read.the-variants as R
 
 nothing : (fs : List Frame) → length fs ≡ 0 → fs ≡ []
 nothing [] e = refl
@@ -57,7 +58,7 @@ module _ {t : Bytes} {p₀ l₀ c₀ k₀ n₀ : ℕ} {cells₀ rows₀ : List �
       where
         go : (fs : List Frame) → restOf true (h .fuel) fs (h .tree) (here t p l c k) ≡ turns fromTree (here t p₀ l₀ c₀ k₀) → d ≡ length fs → Holds stack fs
             → n + length (held true (h .tree) (lefts fs)) + 2 * k₀ ≡ n₀ + 2 * k
-            → ((cells″ : List ℕ) → Below (rowSize * c) cells cells″ → (b : Bytes)
+            → ((cells″ : List ℕ) → Kept 0 (rowSize * c) cells cells″ → (b : Bytes)
             → treesBefore b t cells″ rows n ≡ held true (h .tree) (lefts fs) ++ treesBefore b t cells″ rows₀ n₀)
             → TreeLoop t p₀ l₀ c₀ k₀ n₀ cells₀ rows₀ false p l c k n d (set stack (d - 1) (v + 1)) cells rows
         go [] is opened holds count stand = absurd (inner opened)
@@ -140,13 +141,13 @@ module _ {t : Bytes} {p₀ l₀ c₀ k₀ n₀ : ℕ} {cells₀ rows₀ : List �
           loop-closed cl rl = go (h .frames) (h .is) (h .opened) (h .holds) (h .count) (h .stand)
             where
               -- what was written below row c is as it was
-              below : (cells″ : List ℕ) → Below (rowSize * c′) cells′ cells″ → Below (rowSize * c) cells cells″
-              below cells″ w = below-trans (rowSize * c) cells cells′ cells″ (took .holds .cells-kept)
-                  (below-less (rowSize * c′) (rowSize * c) cells′ cells″ (omega (arith, took .more)) w)
+              below : (cells″ : List ℕ) → Kept 0 (rowSize * c′) cells′ cells″ → Kept 0 (rowSize * c) cells cells″
+              below cells″ w = kept-on (took .holds .cells-kept)
+                  (kept-first (rowSize * c) w (omega (arith, took .more)))
 
               go : (fs : List Frame) → restOf true (h .fuel) fs (h .tree) (here t p l c k) ≡ turns fromTree (here t p₀ l₀ c₀ k₀) → d ≡ length fs → Holds stack fs
                   → n + length (held true (h .tree) (lefts fs)) + 2 * k₀ ≡ n₀ + 2 * k
-                  → ((cells″ : List ℕ) → Below (rowSize * c) cells cells″ → (b : Bytes)
+                  → ((cells″ : List ℕ) → Kept 0 (rowSize * c) cells cells″ → (b : Bytes)
                   → treesBefore b t cells″ rows n ≡ held true (h .tree) (lefts fs) ++ treesBefore b t cells″ rows₀ n₀)
                   → TreeLoop t p₀ l₀ c₀ k₀ n₀ cells₀ rows₀ true p′ l′ c′ k (n + 1) (d - 1) stack cells′ rows′
               go [] is opened holds count stand = absurd (inner opened)
@@ -179,8 +180,8 @@ module _ {t : Bytes} {p₀ l₀ c₀ k₀ n₀ : ℕ} {cells₀ rows₀ : List �
                         (omega (arith, close-room, h .rows-room)) (w .written) b t cells″ j a (h .tree)
                         (lefts fs ++ treesBefore b t cells″ rows₀ n₀) (took .value) ek refl
                         (stand cells″ (below cells″ u) b) (w .stands cells″ u b));
-                    cells-kept = below-trans (rowSize * c₀) cells₀ cells cells′ (h .cells-kept)
-                        (below-less (rowSize * c) (rowSize * c₀) cells cells′ (omega (arith, h .more)) (w .cells-kept));
+                    cells-kept = kept-on (h .cells-kept)
+                        (kept-first (rowSize * c₀) (w .cells-kept) (omega (arith, h .more)));
                     stack-room = h .stack-room;
                     cells-room = cl ∙ h .cells-room;
                     rows-room = rl ∙ h .rows-room;

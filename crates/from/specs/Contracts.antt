@@ -8,8 +8,9 @@ use Rattle.rules.specs.Ast.{From}
 use Rattle.rules.specs.Reader.{turns}
 use Rattle.rules.specs.ReadStatement.{froms}
 use Rattle.text.specs.Answers.{wrongAt, limitAt}
+use Rattle.numbers.specs.Kept.{Kept}
 use Rattle.ast.specs.Table.{rowSize}
-use Rattle.ast.specs.Reading.{here, Position, Below}
+use Rattle.read_expression.specs.Reading.{here, Position}
 use Rattle.from.specs.Layout.{fromsAt}
 use Rattle.from.specs.declared.Froms as Fr
 use Rattle.from.specs.declared.Froms.the-variants as F
@@ -23,8 +24,8 @@ pub record FromsTook (t : Bytes) (p l c : ℕ) (cells cells′ rows′ : List �
   pub moved : p ≤ p′
   pub more : c ≤ c′
   pub few : n ≤ 31
-  pub stand : (cells″ : List ℕ) → Below (rowSize * c′) cells′ cells″ → (b : Bytes) → fromsAt b t cells″ rows′ n ≡ value
-  pub cells-kept : Below (rowSize * c) cells cells′
+  pub stand : (cells″ : List ℕ) → Kept 0 (rowSize * c′) cells′ cells″ → (b : Bytes) → fromsAt b t cells″ rows′ n ≡ value
+  pub cells-kept : Kept 0 (rowSize * c) cells cells′
 
 unfoldable pub FromsRead : (t : Bytes) (p l c : ℕ) (cells cells′ rows′ : List ℕ) → Fr.Froms → Type 0
 FromsRead t p l c cells cells′ rows′ (F.Done p′ l′ c′ n) = FromsTook t p l c cells cells′ rows′ p′ l′ c′ n

@@ -13,24 +13,25 @@ use Rattle.rules.specs.Lines.{bytes}
 use Rattle.rules.specs.Ast.{Join, cross, inner, left, right}
 use Rattle.rules.specs.Reader.{baseAddress, key, rest, lineHere, apply, oneOf, name, word, both, twoFields, optionalName, nameAlias}
 use Rattle.rules.specs.ReadStatement.{FromHead, joins, predicates, fromHeads}
+use Rattle.rules.specs.Area.{flag, span, optionSpan}
 use Rattle.text.specs.Lines.{field, keptFields, Fields}
 use Rattle.text.specs.Words.{find, wordsOf, push, keys, nth, named-by, nth-none}
 use Rattle.text.specs.Numbers.{isName, name-in, name-out}
 use Rattle.text.specs.Reading.{fieldOf, key-is, one-of, rest-one, rest-two, rest-other}
 use Rattle.text.specs.Records.{two-fields, name-alias}
 use Rattle.text.specs.declared.Line.{Line}
-use Rattle.ast.specs.Says.{Inside}
-use Rattle.ast.specs.Heads.{field-length, field-fits}
-use Rattle.ast.specs.Reading.{here}
-use Rattle.ast.specs.Names.{flagNumber, nameNumbers, NameFits}
-use Rattle.from.specs.Records.{joinNumber, tableFields, joinFields, fromNumbers, FromFits, numbersOf, FromSays}
+use Rattle.text.specs.Fields.{Inside, field-length}
+use Rattle.read_expression.specs.Heads.{field-fits}
+use Rattle.read_expression.specs.Reading.{here}
+use Rattle.ast.specs.Names.{NameFits}
+use Rattle.from.specs.Records.{joinNumber, tableFields, joinFields, fromNumbers, FromFits, numbersOf, IsFromRow}
 use Rattle.from.specs.declared.record.FromRecord.{FromRecord}
 
-pub says-as : {t : Bytes} {e : ℕ} {h : Option FromHead} {r : FromRecord} (g : Option FromHead) → g ≡ h → FromSays t e h r → FromSays t e g r
-says-as g e s = rw e s
+pub row-as : {t : Bytes} {e : ℕ} {h : Option FromHead} {r : FromRecord} (g : Option FromHead) → g ≡ h → IsFromRow t e h r → IsFromRow t e g r
+row-as g e s = rw e s
 
-pub says-next : {t : Bytes} {e e′ : ℕ} {h : Option FromHead} {r : FromRecord} → e ≡ e′ → FromSays t e h r → FromSays t e′ h r
-says-next z s = record { is = s .is; fits = s .fits; next = s .next ∙ z }
+pub row-next : {t : Bytes} {e e′ : ℕ} {h : Option FromHead} {r : FromRecord} → e ≡ e′ → IsFromRow t e h r → IsFromRow t e′ h r
+row-next z s = record { is = s .is; fits = s .fits; next = s .next ∙ z }
 
 -- NAMES
 module _ (t : Bytes) (a n : ℕ) (i : Inside t a n) where
@@ -57,10 +58,10 @@ module _ (t : Bytes) (a n : ℕ) (i : Inside t a n) where
   unfolding tableFields mapOption nameAlias both
   table-none h = rw (field-none h)
 
-  pub table-some : (e : ℕ) (r : FromRecord) → isName n ≡ true → numbersOf r ≡ 1 ∷ 0 ∷ (mostBytes + a) ∷ n ∷ 0 ∷ 0 ∷ [] → r .next ≡ e → FromSays t e (tableFields (field mostBytes t a n ∷ [])) r
+  pub table-some : (e : ℕ) (r : FromRecord) → isName n ≡ true → numbersOf r ≡ 1 ∷ 0 ∷ (mostBytes + a) ∷ n ∷ 0 ∷ 0 ∷ [] → r .next ≡ e → IsFromRow t e (tableFields (field mostBytes t a n ∷ [])) r
   unfolding tableFields mapOption nameAlias both optionalName
   table-some e r h x y = rw (field-name h) (record {
-    is = unfold fromNumbers nameNumbers field in rw (field-length t a n i) (sym x);
+    is = unfold fromNumbers optionSpan span field in rw (field-length t a n i) (sym x);
     fits = λ c. unfold FromFits NameFits in (field-fits t a n i c, tt);
     next = y;
   })
@@ -75,10 +76,10 @@ module _ (t : Bytes) (a n b m : ℕ) (i : Inside t a n) (j : Inside t b m) where
   alias-second h g = rw (field-name t a n i h, field-none t b m j g)
 
   pub alias-some : (e : ℕ) (r : FromRecord) → isName n ≡ true → isName m ≡ true → numbersOf r ≡ 1 ∷ 0 ∷ (mostBytes + a) ∷ n ∷ (mostBytes + b) ∷ m ∷ [] → r .next ≡ e
-      → FromSays t e (tableFields (field mostBytes t a n ∷ field mostBytes t b m ∷ [])) r
+      → IsFromRow t e (tableFields (field mostBytes t a n ∷ field mostBytes t b m ∷ [])) r
   unfolding tableFields mapOption nameAlias both optionalName
   alias-some e r h g x y = rw (field-name t a n i h, field-name t b m j g) (record {
-    is = unfold fromNumbers nameNumbers field in rw (field-length t a n i, field-length t b m j) (sym x);
+    is = unfold fromNumbers optionSpan span field in rw (field-length t a n i, field-length t b m j) (sym x);
     fits = λ c. unfold FromFits in (field-fits t a n i c, field-fit t b m j c g);
     next = y;
   })
@@ -109,10 +110,10 @@ join-at (suc (suc (suc (suc k)))) h = absurd (omega arith)
 record FlagAt (k : ℕ) : Type 0 where
   on : Bool
   is : nth predicates k ≡ some on
-  number : flagNumber on ≡ 1 - k
+  number : flag on ≡ 1 - k
 
 flag-at : (k : ℕ) → k < 2 → FlagAt k
-unfolding predicates nth flagNumber
+unfolding predicates nth flag
 flag-at zero h = record { on = true; is = refl; number = refl }
 flag-at (suc zero) h = record { on = false; is = refl; number = refl }
 flag-at (suc (suc k)) h = absurd (omega arith)
@@ -141,7 +142,7 @@ module _ (t : Bytes) (a n b m j : ℕ) (words : Bytes) (w : keys joins ≡ words
     predicate-none h = rw (predicates-is, nth-none predicates o (unfold predicates in h), neither (word joins (field mostBytes t a n)))
 
     pub join-some : (e : ℕ) (r : FromRecord) → j < 4 → o < 2 → numbersOf r ≡ (j + 2) ∷ (1 - o) ∷ 0 ∷ 0 ∷ 0 ∷ 0 ∷ [] → r .next ≡ e
-        → FromSays t e (joinFields (field mostBytes t a n ∷ field mostBytes t b m ∷ [])) r
+        → IsFromRow t e (joinFields (field mostBytes t a n ∷ field mostBytes t b m ∷ [])) r
     unfolding joinFields mapOption twoFields both
     join-some e r hj ho x y =
         let u = join-at j hj in

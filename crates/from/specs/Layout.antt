@@ -15,7 +15,8 @@ use mathlib.Core.Option.{Option, none, some}
 use Rattle.rules.specs.Lists.{Bytes}
 use Rattle.rules.specs.Places.{wordAt}
 use Rattle.rules.specs.Ast.{Expr, cross, inner, left, right, From, table, join}
-use Rattle.ast.specs.Table.{at, coded, treeAt}
+use Rattle.numbers.specs.Codes.{coded}
+use Rattle.ast.specs.Table.{at, treeAt}
 use Rattle.ast.specs.Names.{nameAt}
 
 -- ROWS

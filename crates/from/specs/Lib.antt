@@ -1,5 +1,6 @@
 pub mod Layout
 pub mod Roots
+pub mod Access
 pub mod Contracts
 pub mod Records
 pub mod Fields
@@ -9,7 +10,7 @@ pub mod Trees
 pub mod Rows
 pub mod Predicates
 pub mod Stack
-pub mod Said
+pub mod Kinds
 pub mod Loop
 pub mod Closed
 pub mod Turns

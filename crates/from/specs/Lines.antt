@@ -17,7 +17,7 @@ use Rattle.rules.specs.ReadStatement.{FromHead, tableHead, joinHead, joins, pre
 use Rattle.text.specs.Order.{same-true}
 use Rattle.text.specs.Lines.{lineEnd}
 use Rattle.text.specs.Reading.{place-line}
-use Rattle.ast.specs.Reading.{here}
+use Rattle.read_expression.specs.Reading.{here}
 use Rattle.from.specs.Records.{tableFields, joinFields}
 
 -- THE FIELDS OF A LINE AND ITS BYTES

@@ -14,21 +14,21 @@ use Rattle.rules.specs.Lists.{Bytes}
 use Rattle.rules.specs.Ast.{From, table, join}
 use Rattle.rules.specs.Reader.{stop, lineHere, next, oneOf, turns}
 use Rattle.rules.specs.ReadStatement.{fromHeads, tabled, fromTree}
+use Rattle.rules.specs.Area.{flag}
 use Rattle.text.specs.Lines.{lineEnd, line-most}
 use Rattle.text.specs.Reading.{place, place-next, place-length}
 use Rattle.text.specs.Answers.{wrongAt, limitAt}
+use Rattle.numbers.specs.Kept.{Kept, kept-all}
 use Rattle.ast.specs.Table.{rowSize, tableSize}
-use Rattle.ast.specs.Reading.{here, Position, Below}
-use Rattle.ast.specs.Names.{flagNumber}
+use Rattle.read_expression.specs.Reading.{here, Position}
 use Rattle.from.specs.Layout.{treesBefore}
-use Rattle.from.specs.Records.{FromSays}
+use Rattle.from.specs.Records.{IsFromRow}
 use Rattle.from.specs.Lines.{record-moves, join-moves}
 use Rattle.from.specs.Rules.{Frame, first, restOf, rest-begin, rest-no, rest-table, rest-join, here-wrong, here-limit, here-table, here-join}
 use Rattle.from.specs.Trees.{TreeReady}
-use Rattle.ast.specs.Rows.{below-refl}
 use Rattle.from.specs.Rows.{table-row}
 use Rattle.from.specs.Stack.{codeOf, Holds, lefts, join-small, flag-small, holds-push}
-use Rattle.from.specs.Said.{TableSaid, JoinSaid, said-wrong, said-table, said-join}
+use Rattle.from.specs.Kinds.{IsTable, IsJoin, row-wrong, row-table, row-join}
 use Rattle.from.specs.declared.record.FromRecord.{FromRecord}
 
 -- the tree that was read, before the left sides of the open joins
@@ -54,9 +54,9 @@ pub record TreeLoop (t : Bytes) (p₀ l₀ c₀ k₀ n₀ : ℕ) (cells₀ rows�
   pub tables : k ≤ mostFromTables
   pub begun : n₀ ≤ 2 * k₀
   pub count : n + length (held done tree (lefts frames)) + 2 * k₀ ≡ n₀ + 2 * k
-  pub stand : (cells″ : List ℕ) → Below (rowSize * c) cells cells″ → (b : Bytes)
+  pub stand : (cells″ : List ℕ) → Kept 0 (rowSize * c) cells cells″ → (b : Bytes)
       → treesBefore b t cells″ rows n ≡ held done tree (lefts frames) ++ treesBefore b t cells″ rows₀ n₀
-  pub cells-kept : Below (rowSize * c₀) cells₀ cells
+  pub cells-kept : Kept 0 (rowSize * c₀) cells₀ cells
   pub stack-room : length stack ≡ 5041
   pub cells-room : length cells ≡ tableSize
   pub rows-room : length rows ≡ 248
@@ -80,7 +80,7 @@ loop-begin {t} {p} {l} {c} {k} {n} {cells} {rows} stack w h = record {
   begun = w .count;
   count = omega arith;
   stand = λ cells″ g b. refl;
-  cells-kept = below-refl _ _;
+  cells-kept = kept-all 0 _ _;
   stack-room = h;
   cells-room = w .cells-room;
   rows-room = w .rows-room;
@@ -102,8 +102,8 @@ next-position t p l c e w z m = record {
 
 -- A SIDE IS TO BE READ
 module _ {t : Bytes} {p₀ l₀ c₀ k₀ n₀ : ℕ} {cells₀ rows₀ : List ℕ} {p l c k n d : ℕ} {stack cells rows : List ℕ} (h : TreeLoop t p₀ l₀ c₀ k₀ n₀ cells₀ rows₀ false p l c k n d stack cells rows)
-    {r : FromRecord} (f : (l c k : ℕ) → FromSays t (lineEnd t p) (oneOf fromHeads (lineHere (here t p l c k))) r) where
-  said : FromSays t (lineEnd t p) (oneOf fromHeads (lineHere (here t p l c k))) r
+    {r : FromRecord} (f : (l c k : ℕ) → IsFromRow t (lineEnd t p) (oneOf fromHeads (lineHere (here t p l c k))) r) where
+  said : IsFromRow t (lineEnd t p) (oneOf fromHeads (lineHere (here t p l c k))) r
   said = f l c k
 
   pub next-within : r .next ≤ length t
@@ -117,11 +117,11 @@ module _ {t : Bytes} {p₀ l₀ c₀ k₀ n₀ : ℕ} {cells₀ rows₀ : List �
 
   pub loop-wrong : r .kind ≡ 0 → turns fromTree (here t p₀ l₀ c₀ k₀) ≡ wrongAt statement l
   unfolding wrongAt stop place
-  loop-wrong z = sym rest-is ∙ rest-no (here t p l c k) (h .fuel - 1) (h .frames) (h .tree) _ (here-wrong (here t p l c k) (said-wrong _ said z))
+  loop-wrong z = sym rest-is ∙ rest-no (here t p l c k) (h .fuel - 1) (h .frames) (h .tree) _ (here-wrong (here t p l c k) (row-wrong _ said z))
 
   module _ (z : r .kind ≡ 1) where
-    named : TableSaid t (oneOf fromHeads (lineHere (here t p l c k))) r
-    named = said-table _ said z
+    named : IsTable t (oneOf fromHeads (lineHere (here t p l c k))) r
+    named = row-table _ said z
 
     pub loop-limit : mostFromTables ≤ k → turns fromTree (here t p₀ l₀ c₀ k₀) ≡ limitAt statement l
     unfolding limitAt stop place
@@ -170,8 +170,8 @@ module _ {t : Bytes} {p₀ l₀ c₀ k₀ n₀ : ℕ} {cells₀ rows₀ : List �
 
   -- one more join is open
   module _ (z : r .kind ≡ 0 → ⊥) (y : r .kind ≡ 1 → ⊥) where
-    joins : JoinSaid (oneOf fromHeads (lineHere (here t p l c k))) r
-    joins = said-join _ said z y
+    joins : IsJoin (oneOf fromHeads (lineHere (here t p l c k))) r
+    joins = row-join _ said z y
 
     pub push-moves : p + 13 ≤ r .next
     push-moves = omega (arith, join-moves t p l c k _ _ (joins .is), said .next)
@@ -217,21 +217,21 @@ module _ {t : Bytes} {p₀ l₀ c₀ k₀ n₀ : ℕ} {cells₀ rows₀ : List �
 -- WHAT IS LEFT
 -- each turn reads a record, closes a join, or turns to a right side
 unfoldable pub turnsLeft : Bytes → ℕ → ℕ → Bool → ℕ
-turnsLeft t p d done = 2 * (length t - p) + d + flagNumber done
+turnsLeft t p d done = 2 * (length t - p) + d + flag done
 
 module _ (t : Bytes) (p d : ℕ) (done : Bool) where
   pub table-falls : (p′ : ℕ) → done ≡ false → p < p′ → p ≤ length t → p′ ≤ length t → turnsLeft t p′ d true < turnsLeft t p d done
-  unfolding turnsLeft flagNumber
+  unfolding turnsLeft flag
   table-falls p′ e h g k = rw e (omega arith)
 
   pub push-falls : (p′ : ℕ) → done ≡ false → p + 13 ≤ p′ → p′ ≤ length t → turnsLeft t p′ (d + 1) false < turnsLeft t p d done
-  unfolding turnsLeft flagNumber
+  unfolding turnsLeft flag
   push-falls p′ e h k = rw e (omega arith)
 
   pub right-falls : done ≡ true → turnsLeft t p d false < turnsLeft t p d done
-  unfolding turnsLeft flagNumber
+  unfolding turnsLeft flag
   right-falls e = rw e (omega arith)
 
   pub close-falls : (p′ : ℕ) → done ≡ true → (d ≡ 0 → ⊥) → p ≤ p′ → turnsLeft t p′ (d - 1) true < turnsLeft t p d done
-  unfolding turnsLeft flagNumber
+  unfolding turnsLeft flag
   close-falls p′ e h g = rw e (omega arith)

@@ -15,15 +15,17 @@ use Rattle.rules.specs.Ast.{nil, cons}
 use Rattle.rules.specs.Reader.{optional}
 use Rattle.rules.specs.ReadExpression.{times, expression}
 use Rattle.text.specs.Answers.{wrongAt, limitAt}
-use Rattle.ast.specs.Table.{rowSize, tableSize, isOne}
-use Rattle.ast.specs.Reading.{here, Position, Given, Took, Rows}
+use Rattle.numbers.specs.Values.{isOne}
+use Rattle.numbers.specs.Kept.{kept-all}
+use Rattle.ast.specs.Table.{rowSize, tableSize}
+use Rattle.read_expression.specs.Reading.{here, Position, Given, Took, Rows}
 use Rattle.from.specs.Layout.{predicateAt}
-use Rattle.ast.specs.Rows.{below-refl, rows-kept, tree-back}
+use Rattle.read_expression.specs.Rows.{rows-kept, tree-back}
 use Rattle.from.specs.Rules.{single, single-no, without}
 use Rattle.from.specs.Rows.{sidesBefore}
 use Rattle.from.specs.Trees.{lineIn, kindIn, onIn, Closed}
-use Rattle.ast.specs.declared.reading.Read as Rd
-use Rattle.ast.specs.declared.reading.Read.the-variants as R
+use Rattle.read_expression.specs.declared.reading.Read as Rd
+use Rattle.read_expression.specs.declared.reading.Read.the-variants as R
 
 module _ (t : Bytes) (p l c n v : ℕ) (cells rows : List ℕ) where
   -- none follows
@@ -37,7 +39,7 @@ module _ (t : Bytes) (p l c n v : ℕ) (cells rows : List ℕ) where
     position = w;
     moved = omega arith;
     more = omega arith;
-    holds = record { number = 0; written = rw (← y) e; stands = λ cells″ g b. refl; cells-kept = below-refl _ _ };
+    holds = record { number = 0; written = rw (← y) e; stands = λ cells″ g b. refl; cells-kept = kept-all 0 _ _ };
   }
 
   module _ (on : onIn v ≡ 1) (cells′ : List ℕ) (r : Rd.Read) (g : (k : ℕ)

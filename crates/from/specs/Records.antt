@@ -10,8 +10,9 @@ use Rattle.rules.specs.Lines.{Word}
 use Rattle.rules.specs.Ast.{Join, cross, inner, left, right}
 use Rattle.rules.specs.Reader.{word, twoFields, nameAlias}
 use Rattle.rules.specs.ReadStatement.{FromHead, tableHead, joinHead, joins, predicates}
-use Rattle.ast.specs.Fits.{WordFits}
-use Rattle.ast.specs.Names.{flagNumber, nameNumbers, NameFits}
+use Rattle.rules.specs.Area.{flag, optionSpan}
+use Rattle.numbers.specs.Values.{WordFits}
+use Rattle.ast.specs.Names.{NameFits}
 use Rattle.from.specs.declared.record.FromRecord.{FromRecord}
 
 -- the kind of a join's row
@@ -31,8 +32,8 @@ joinFields r = mapOption (λ (q : Join × Bool). joinHead (q .0) (q .1)) (twoFie
 -- a record's numbers but the position behind it; zeros where it is wrong
 unfoldable pub fromNumbers : Option FromHead → List ℕ
 fromNumbers none = 0 ∷ 0 ∷ 0 ∷ 0 ∷ 0 ∷ 0 ∷ []
-fromNumbers (some (tableHead n a)) = 1 ∷ 0 ∷ n .start ∷ length (n .bytes) ∷ nameNumbers a
-fromNumbers (some (joinHead j o)) = joinNumber j ∷ flagNumber o ∷ 0 ∷ 0 ∷ 0 ∷ 0 ∷ []
+fromNumbers (some (tableHead n a)) = 1 ∷ 0 ∷ n .start ∷ length (n .bytes) ∷ optionSpan a
+fromNumbers (some (joinHead j o)) = joinNumber j ∷ flag o ∷ 0 ∷ 0 ∷ 0 ∷ 0 ∷ []
 
 -- its names are the words at their places, of the catalog c and the statement q
 unfoldable pub FromFits : Bytes → Bytes → Option FromHead → Type 0
@@ -44,7 +45,7 @@ abbrev pub numbersOf : FromRecord → List ℕ
 numbersOf r = r .kind ∷ r .on ∷ r .a ∷ r .b ∷ r .c ∷ r .d ∷ []
 
 -- the numbers of a record of the statement t, behind which position e lies
-pub record FromSays (t : Bytes) (e : ℕ) (h : Option FromHead) (r : FromRecord) : Type 0 where
+pub record IsFromRow (t : Bytes) (e : ℕ) (h : Option FromHead) (r : FromRecord) : Type 0 where
   pub is : fromNumbers h ≡ numbersOf r
   pub fits : (c : Bytes) → FromFits c t h
   pub next : r .next ≡ e

@@ -9,9 +9,10 @@ use lib.Seq.{sets}
 use Rattle.rules.specs.Lists.{Bytes}
 use Rattle.rules.specs.Places.{wordAt}
 use Rattle.rules.specs.Ast.{Expr, Join, cross, inner, left, right, From, table, join}
-use Rattle.numbers.specs.Kept.{sets-before, sets-at}
-use Rattle.ast.specs.Table.{rowSize, at, coded}
-use Rattle.ast.specs.Reading.{Below}
+use Rattle.numbers.specs.Stores.{stored-sets}
+use Rattle.numbers.specs.Codes.{coded}
+use Rattle.numbers.specs.Kept.{Kept, kept-sets-behind}
+use Rattle.ast.specs.Table.{rowSize, at}
 use Rattle.ast.specs.Names.{nameAt}
 use Rattle.from.specs.Layout.{sizeAt, firstAt, leftAt, rootsIn, rootsBefore, predicateAt, tableBy, rowBy, tableAt}
 use Rattle.from.specs.Layout.{rowAt, treeIn, fromAt, treesBefore}
@@ -43,9 +44,9 @@ unfolding sidesBefore firstAt leftAt
 sides-sum rows r h g = omega (arith, h, g)
 
 -- ROWS THAT ARE KEPT
-module _ (rows rows′ : List ℕ) (n : ℕ) (h : Below (rowSize * n) rows rows′) where
+module _ (rows rows′ : List ℕ) (n : ℕ) (h : Kept 0 (rowSize * n) rows rows′) where
   at-kept : (r k : ℕ) → r < n → k < 8 → at rows′ r k ≡ at rows r k
-  at-kept r k l m = unfold at Below in h (rowSize * r + k) (omega arith)
+  at-kept r k l m = unfold at in h .same (rowSize * r + k) (omega arith) (omega arith)
 
   first-kept : (r : ℕ) → r < n → firstAt rows′ r ≡ firstAt rows r
   unfolding firstAt sizeAt
@@ -116,11 +117,10 @@ module _ (rows rows′ : List ℕ) (n k l x a m c d s : ℕ) (room : rowSize * n
     (e : rows′ ≡ sets rows (rowSize * n) (k ∷ l ∷ x ∷ a ∷ m ∷ c ∷ d ∷ s ∷ [])) where
   numbers : (i : ℕ) → i < 8 → at rows′ n i ≡ getD (k ∷ l ∷ x ∷ a ∷ m ∷ c ∷ d ∷ s ∷ []) i 0
   unfolding at
-  numbers i h = rw e (sets-at (k ∷ l ∷ x ∷ a ∷ m ∷ c ∷ d ∷ s ∷ []) rows (rowSize * n) i (omega arith) (omega arith))
+  numbers i h = rw e (stored-sets rows (rowSize * n) (k ∷ l ∷ x ∷ a ∷ m ∷ c ∷ d ∷ s ∷ []) (omega arith) .at i (omega arith))
 
-  earlier : Below (rowSize * n) rows rows′
-  unfolding Below
-  earlier i h = rw e (sets-before (k ∷ l ∷ x ∷ a ∷ m ∷ c ∷ d ∷ s ∷ []) rows (rowSize * n) i h)
+  earlier : Kept 0 (rowSize * n) rows rows′
+  earlier = rw e (kept-sets-behind rows (rowSize * n) (k ∷ l ∷ x ∷ a ∷ m ∷ c ∷ d ∷ s ∷ []) 0 (rowSize * n) (omega arith))
 
   first-is : firstAt rows′ n ≡ n - s
   unfolding firstAt sizeAt

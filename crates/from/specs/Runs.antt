@@ -16,14 +16,14 @@ use Rattle.rules.specs.ReadStatement.{fromHeads, fromTree, froms}
 use Rattle.text.specs.Lines.{lineEnd}
 use Rattle.text.specs.Reading.{place-length}
 use Rattle.text.specs.Answers.{wrongAt, limitAt, bind-ok, bind-no, prefixed, prefixed-none, prefixed-twice, give-first}
+use Rattle.numbers.specs.Kept.{Kept, kept-all, kept-on, kept-first}
 use Rattle.ast.specs.Table.{rowSize, tableSize}
-use Rattle.ast.specs.Reading.{here, Position, Below}
+use Rattle.read_expression.specs.Reading.{here, Position}
 use Rattle.from.specs.Layout.{treesBefore}
 use Rattle.from.specs.Roots.{trees-none, froms-are}
 use Rattle.from.specs.Contracts.{FromsRead}
-use Rattle.from.specs.Records.{FromSays}
+use Rattle.from.specs.Records.{IsFromRow}
 use Rattle.from.specs.Trees.{TreeTook, TreeReady, TreeRead}
-use Rattle.ast.specs.Rows.{below-refl, below-trans, below-less}
 use Rattle.from.specs.Loop.{loop-begin, loop-limit, loop-table}
 use Rattle.from.specs.Closed.{loop-end}
 use Rattle.from.specs.declared.record.FromRecord.{FromRecord}
@@ -40,7 +40,7 @@ unfolding noJoins
 no-joins = length-replicate {A = ℕ} 5041 0
 
 module _ {t : Bytes} {p l c k n : ℕ} {cells rows : List ℕ} (w : TreeReady t p l c k n cells rows) {r : FromRecord}
-    (f : (l c k : ℕ) → FromSays t (lineEnd t p) (oneOf fromHeads (lineHere (here t p l c k))) r) (z : r .kind ≡ 1) where
+    (f : (l c k : ℕ) → IsFromRow t (lineEnd t p) (oneOf fromHeads (lineHere (here t p l c k))) r) (z : r .kind ≡ 1) where
   pub table-limit : mostFromTables ≤ k → TreeRead t p l c k n cells cells rows rows (T.Limit l)
   unfolding TreeRead
   table-limit m = loop-limit (loop-begin noJoins w no-joins) f z m
@@ -79,8 +79,8 @@ pub record FromsLoop (t : Bytes) (p₀ l₀ c₀ : ℕ) (cells₀ : List ℕ) (p
   pub more : c₀ ≤ c
   pub ready : TreeReady t p l c k n cells rows
   pub few : n ≤ 31
-  pub stand : (cells″ : List ℕ) → Below (rowSize * c) cells cells″ → (b : Bytes) → treesBefore b t cells″ rows n ≡ trees
-  pub cells-kept : Below (rowSize * c₀) cells₀ cells
+  pub stand : (cells″ : List ℕ) → Kept 0 (rowSize * c) cells cells″ → (b : Bytes) → treesBefore b t cells″ rows n ≡ trees
+  pub cells-kept : Kept 0 (rowSize * c₀) cells₀ cells
 
 pub froms-begin : {t : Bytes} {p l c : ℕ} {cells rows : List ℕ} → Position t p l c → length cells ≡ tableSize
     → length rows ≡ 248 → FromsLoop t p l c cells p l c 0 0 cells rows
@@ -95,7 +95,7 @@ froms-begin {t} {p} {l} {c} w h g = record {
   ready = record { position = w; cells-room = h; rows-room = g; tables = omega arith; count = omega arith };
   few = omega arith;
   stand = λ cells″ y b. trees-none b t cells″ _;
-  cells-kept = below-refl _ _;
+  cells-kept = kept-all 0 _ _;
 }
 
 module _ {t : Bytes} {p₀ l₀ c₀ : ℕ} {cells₀ : List ℕ} {p l c k n : ℕ} {cells rows : List ℕ} (h : FromsLoop t p₀ l₀ c₀ cells₀ p l c k n cells rows) where
@@ -159,10 +159,10 @@ module _ {t : Bytes} {p₀ l₀ c₀ : ℕ} {cells₀ : List ℕ} {p l c k n : �
         };
         few = omega (arith, took .count, took .tables, h .ready .count);
         stand = λ cells″ y b. took .stand cells″ y b ∙ ap (λ xs. took .value ∷ xs) (h .stand cells″ (below cells″ y) b);
-        cells-kept = below-trans (rowSize * c₀) cells₀ cells cells′ (h .cells-kept)
-            (below-less (rowSize * c) (rowSize * c₀) cells cells′ (omega (arith, h .more)) (took .cells-kept));
+        cells-kept = kept-on (h .cells-kept)
+            (kept-first (rowSize * c₀) (took .cells-kept) (omega (arith, h .more)));
       }
         where
-          below : (cells″ : List ℕ) → Below (rowSize * c′) cells′ cells″ → Below (rowSize * c) cells cells″
-          below cells″ y = below-trans (rowSize * c) cells cells′ cells″ (took .cells-kept)
-              (below-less (rowSize * c′) (rowSize * c) cells′ cells″ (omega (arith, took .more)) y)
+          below : (cells″ : List ℕ) → Kept 0 (rowSize * c′) cells′ cells″ → Kept 0 (rowSize * c) cells cells″
+          below cells″ y = kept-on (took .cells-kept)
+              (kept-first (rowSize * c) y (omega (arith, took .more)))

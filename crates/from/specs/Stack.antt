@@ -1,21 +1,21 @@
 -- The stack of open joins: one number a join, the innermost last.
 use Prim.Native.Nat.{ℕ, _+_, _*_, _/_, _%_, _≤_, _<_}
 use native.Mathlib.Omega.{arith}
-use mathlib.Core.Path.{_≡_, refl, ap, _∙_}
+use mathlib.Core.Path.{_≡_, ap, _∙_}
 use mathlib.Core.Bool.{Bool, true, false}
 use mathlib.Core.List.{List, [], _∷_}
 use lib.ListN.{length, getD, set}
 use lib.Seq.{getD-set-same, getD-set-other}
 use Rattle.rules.specs.Ast.{Join, cross, inner, left, right, From}
-use Rattle.ast.specs.Table.{isOne}
-use Rattle.ast.specs.Names.{flagNumber}
+use Rattle.rules.specs.Area.{flag}
+use Rattle.numbers.specs.Values.{isOne, flag-back}
 use Rattle.from.specs.Records.{joinNumber}
 use Rattle.from.specs.Rules.{Frame, first, second}
 use Rattle.from.specs.Trees.{lineIn, kindIn, onIn}
 
 -- an open join's number, of which the last bit says whether its left side is read
 abbrev pub openCode : ℕ → Join → Bool → ℕ
-openCode l j o = l * 32 + joinNumber j * 4 + flagNumber o * 2
+openCode l j o = l * 32 + joinNumber j * 4 + flag o * 2
 
 unfoldable pub codeOf : Frame → ℕ
 codeOf (first l j o) = openCode l j o
@@ -40,15 +40,10 @@ join-small inner = (omega arith, omega arith)
 join-small left = (omega arith, omega arith)
 join-small right = (omega arith, omega arith)
 
-pub flag-small : (o : Bool) → flagNumber o ≤ 1
-unfolding flagNumber
+pub flag-small : (o : Bool) → flag o ≤ 1
+unfolding flag
 flag-small true = omega arith
 flag-small false = omega arith
-
-pub flag-is : (o : Bool) → isOne (flagNumber o) ≡ o
-unfolding flagNumber isOne
-flag-is true = refl
-flag-is false = refl
 
 module _ (l : ℕ) (j : Join) (o : Bool) (v : ℕ) (e : v ≡ openCode l j o + 1) where
   pub line-in : lineIn v ≡ l
@@ -61,7 +56,7 @@ module _ (l : ℕ) (j : Join) (o : Bool) (v : ℕ) (e : v ≡ openCode l j o + 1
 
   pub on-in : isOne (onIn v) ≡ o
   unfolding onIn
-  on-in = let z : v / 2 % 2 ≡ flagNumber o = omega (arith, flag-small o) in ap isOne z ∙ flag-is o
+  on-in = let z : v / 2 % 2 ≡ flag o = omega (arith, flag-small o) in ap isOne z ∙ flag-back o
 
 -- STORES
 holds-set : (s : List ℕ) (i v : ℕ) (fs : List Frame) → length fs ≤ i → Holds s fs → Holds (set s i v) fs

@@ -12,8 +12,9 @@ use Rattle.rules.specs.Ast.{Expr, From}
 use Rattle.rules.specs.Reader.{turns}
 use Rattle.rules.specs.ReadStatement.{fromTree}
 use Rattle.text.specs.Answers.{wrongAt, limitAt}
+use Rattle.numbers.specs.Kept.{Kept}
 use Rattle.ast.specs.Table.{rowSize, tableSize}
-use Rattle.ast.specs.Reading.{here, Position, Below}
+use Rattle.read_expression.specs.Reading.{here, Position}
 use Rattle.from.specs.Layout.{predicateAt, treesBefore}
 use Rattle.from.specs.Rows.{sidesBefore}
 use Rattle.from.specs.declared.Tree as Tr
@@ -33,8 +34,8 @@ onIn v = v / 2 % 2
 pub record Closed (t : Bytes) (c n v : ℕ) (cells cells′ rows rows′ : List ℕ) (c′ : ℕ) (e : Option Expr) : Type 0 where
   pub number : ℕ
   pub written : rows′ ≡ sets rows (rowSize * n) (kindIn v ∷ lineIn v ∷ number ∷ 0 ∷ 0 ∷ 0 ∷ 0 ∷ sidesBefore rows n ∷ [])
-  pub stands : (cells″ : List ℕ) → Below (rowSize * c′) cells′ cells″ → (b : Bytes) → predicateAt b t cells″ number ≡ e
-  pub cells-kept : Below (rowSize * c) cells cells′
+  pub stands : (cells″ : List ℕ) → Kept 0 (rowSize * c′) cells′ cells″ → (b : Bytes) → predicateAt b t cells″ number ≡ e
+  pub cells-kept : Kept 0 (rowSize * c) cells cells′
 
 -- a tree that was read behind k tables and n FROM rows: it stands before the trees of those rows
 pub record TreeTook (t : Bytes) (p l c k n : ℕ) (cells cells′ rows rows′ : List ℕ) (p′ l′ c′ k′ n′ : ℕ) : Type 0 where
@@ -45,9 +46,9 @@ pub record TreeTook (t : Bytes) (p l c k n : ℕ) (cells cells′ rows rows′ :
   pub more : c ≤ c′
   pub tables : k′ ≤ mostFromTables
   pub count : n′ + 1 + 2 * k ≡ n + 2 * k′
-  pub stand : (cells″ : List ℕ) → Below (rowSize * c′) cells′ cells″ → (b : Bytes)
+  pub stand : (cells″ : List ℕ) → Kept 0 (rowSize * c′) cells′ cells″ → (b : Bytes)
       → treesBefore b t cells″ rows′ n′ ≡ value ∷ treesBefore b t cells″ rows n
-  pub cells-kept : Below (rowSize * c) cells cells′
+  pub cells-kept : Kept 0 (rowSize * c) cells cells′
 
 unfoldable pub TreeRead : (t : Bytes) (p l c k n : ℕ) (cells cells′ rows rows′ : List ℕ) → Tr.Tree → Type 0
 TreeRead t p l c k n cells cells′ rows rows′ (T.Done p′ l′ c′ k′ n′) = TreeTook t p l c k n cells cells′ rows rows′ p′ l′ c′ k′ n′

@@ -7,7 +7,7 @@ use Rattle.rules.specs.Lists.{Bytes}
 use Rattle.rules.specs.Reader.{turns}
 use Rattle.rules.specs.ReadStatement.{fromTree}
 use Rattle.text.specs.Answers.{wrongAt, limitAt}
-use Rattle.ast.specs.Reading.{here}
+use Rattle.read_expression.specs.Reading.{here}
 use Rattle.from.specs.Trees.{TreeTook, TreeRead}
 use Rattle.from.specs.Loop.{TreeLoop, turnsLeft}
 use Rattle.from.specs.declared.Stand.{Stand}

@@ -1,6 +1,7 @@
 // FROM: the trees of tables and joins, read by a loop over an explicit stack of the joins that are open.
 mod record;
 pub mod roots;
+pub mod row;
 
 ghost use mathlib.Core.Path.{_≡_};
 ghost use mathlib.Core.Bool.{true, false};
@@ -10,8 +11,9 @@ ghost use lib.ListN.{length};
 ghost use lib.Seq.{sets};
 ghost use Rattle.rules.specs.Reader.{optional};
 ghost use Rattle.rules.specs.ReadExpression.{expression};
-ghost use Rattle.ast.specs.Table.{rowSize, tableSize, isOne};
-ghost use Rattle.ast.specs.Reading.{Position, Given};
+ghost use Rattle.numbers.specs.Values.{isOne};
+ghost use Rattle.ast.specs.Table.{rowSize, tableSize};
+ghost use Rattle.read_expression.specs.Reading.{Position, Given};
 ghost use Rattle.from.specs.Contracts.{FromsRead};
 ghost use Rattle.from.specs.Trees.{onIn, Closed, TreeReady, TreeRead};
 ghost use Rattle.from.specs.Turns.{TreeBegun, RowsBegun, TurnFrom};
@@ -19,9 +21,9 @@ use self::record::TABLE;
 use self::record::from_record;
 use self::record::from_stands;
 use self::roots::sides;
-use ast::reading::Read;
-use ast::reading::read_expressions;
 use ast::rows::ROW_SIZE;
+use read_expression::reading::Read;
+use read_expression::reading::read_expressions;
 
 // Most tables in FROM.
 const MOST_TABLES: u32 = 16;

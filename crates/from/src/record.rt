@@ -10,9 +10,9 @@ ghost use Rattle.rules.specs.Lines.{bytes};
 ghost use Rattle.rules.specs.Reader.{key, lineHere, oneOf};
 ghost use Rattle.rules.specs.ReadStatement.{fromHeads};
 ghost use Rattle.text.specs.Lines.{field, lineEnd};
-ghost use Rattle.ast.specs.Says.{Inside};
-ghost use Rattle.ast.specs.Reading.{here};
-ghost use Rattle.from.specs.Records.{tableFields, joinFields, FromSays};
+ghost use Rattle.text.specs.Fields.{Inside};
+ghost use Rattle.read_expression.specs.Reading.{here};
+ghost use Rattle.from.specs.Records.{tableFields, joinFields, IsFromRow};
 
 // The kind of a table's row; those of joins are 2 to 5, and 0 stands for a wrong record.
 pub const TABLE: u32 = 1;
@@ -30,7 +30,7 @@ pub struct FromRecord {
 }
 
 fn wrong_record(e: usize) -> FromRecord
-    ensures { λ r. ⌜ ((t : List ℕ) → FromSays t e none r) ⌝ }
+    ensures { λ r. ⌜ ((t : List ℕ) → IsFromRow t e none r) ⌝ }
 {
     FromRecord {
         kind: 0,
@@ -46,7 +46,7 @@ fn wrong_record(e: usize) -> FromRecord
 // A table's name.
 fn table_record(t: &[u8], a: usize, n: usize, e: usize) -> FromRecord
     requires { ⌜ Inside (now t) a n ⌝ }
-    ensures { λ r. ⌜ FromSays (now (t .entry)) e (tableFields (field mostBytes (now (t .entry)) a n ∷ [])) r ⌝ }
+    ensures { λ r. ⌜ IsFromRow (now (t .entry)) e (tableFields (field mostBytes (now (t .entry)) a n ∷ [])) r ⌝ }
 {
     if !text::is_name(n) {
         return wrong_record(e);
@@ -65,7 +65,7 @@ fn table_record(t: &[u8], a: usize, n: usize, e: usize) -> FromRecord
 // A table's name and its alias.
 fn alias_record(t: &[u8], a: usize, n: usize, b: usize, m: usize, e: usize) -> FromRecord
     requires { ⌜ Inside (now t) a n ⌝ ∗ ⌜ Inside (now t) b m ⌝ }
-    ensures { λ r. ⌜ FromSays (now (t .entry)) e (tableFields (field mostBytes (now (t .entry)) a n ∷ field mostBytes (now (t .entry)) b m ∷ [])) r ⌝ }
+    ensures { λ r. ⌜ IsFromRow (now (t .entry)) e (tableFields (field mostBytes (now (t .entry)) a n ∷ field mostBytes (now (t .entry)) b m ∷ [])) r ⌝ }
 {
     if !text::is_name(n) {
         return wrong_record(e);
@@ -86,7 +86,7 @@ fn alias_record(t: &[u8], a: usize, n: usize, b: usize, m: usize, e: usize) -> F
 
 // A join's two words.
 fn join_record(t: &[u8], a: usize, n: usize, b: usize, m: usize, e: usize) -> FromRecord
-    ensures { λ r. ⌜ FromSays (now (t .entry)) e (joinFields (field mostBytes (now (t .entry)) a n ∷ field mostBytes (now (t .entry)) b m ∷ [])) r ⌝ }
+    ensures { λ r. ⌜ IsFromRow (now (t .entry)) e (joinFields (field mostBytes (now (t .entry)) a n ∷ field mostBytes (now (t .entry)) b m ∷ [])) r ⌝ }
 {
     let j = text::which(b"cross inner left right ", t, a, n);
     if 4 <= j {
@@ -110,7 +110,7 @@ fn join_record(t: &[u8], a: usize, n: usize, b: usize, m: usize, e: usize) -> Fr
 // The FROM record at a position.
 pub fn from_record(t: &[u8], p: usize) -> FromRecord
     requires { ⌜ (length (now t) ≤ 65536) × (p ≤ length (now t)) ⌝ }
-    ensures { λ r. ⌜ ((l c k : ℕ) → FromSays (now (t .entry)) (lineEnd (now (t .entry)) p) (oneOf fromHeads (lineHere (here (now (t .entry)) p l c k))) r) ⌝ }
+    ensures { λ r. ⌜ ((l c k : ℕ) → IsFromRow (now (t .entry)) (lineEnd (now (t .entry)) p) (oneOf fromHeads (lineHere (here (now (t .entry)) p l c k))) r) ⌝ }
 {
     let f = text::fields(t, p);
     let n = f.count;

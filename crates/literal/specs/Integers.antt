@@ -1,33 +1,23 @@
 -- Integers in text, by their sign and their decimal.
-use Prim.Native.Nat.{ℕ, zero, suc, _+_, _-_, _%_, _^_, _≤_, _<_, min}
+use Prim.Native.Nat.{ℕ, suc, _+_, _-_, _%_, _^_, _≤_, _<_, min}
 use native.Mathlib.Omega.{arith}
-use mathlib.Core.Path.{_≡_, refl, sym, ap, _∙_}
-use mathlib.Core.Bool.{Bool, true, false}
-use mathlib.Core.Option.{Option, none, some}
-use mathlib.Core.List.{List, [], _∷_}
-use lib.Dec.{ltb, leb, eqb}
+use mathlib.Core.Path.{_≡_, refl, sym, ap}
+use mathlib.Core.Option.{none, some}
+use mathlib.Core.List.{[], _∷_}
 use lib.ListN.{length, getD, take, drop}
 use lib.Seq.{take-all}
-use lib.IntN.{ℤ, pos, negsuc}
-use borrow.Author.Tests.{lt-ltb, le-ltb, le-leb, lt-leb, eq-eqb, ne-eqb}
+use lib.IntN.{ℤ, pos}
+use borrow.Author.Tests.{le-leb, lt-leb, eq-eqb, ne-eqb}
 use Rattle.rules.specs.Lists.{Bytes, mapOption}
 use Rattle.rules.specs.Lines.{within, negated, decimal, integer}
 use Rattle.text.specs.Numbers.{valueOf, within-min}
 use Rattle.text.specs.declared.Number.{Number}
 use Rattle.text.specs.declared.Number.the-variants as Number
-use Rattle.literal.specs.Bits.{signed}
+use Rattle.numbers.specs.Bits.{signed, signed-low, signed-high}
 
 -- the greatest integer
 abbrev pub greatest : ℕ
 greatest = 9223372036854775807
-
-signed-low : (n : ℕ) → n ≤ greatest → signed n ≡ pos n
-unfolding signed
-signed-low n h = rw (signed, lt-ltb n 9223372036854775808 (omega arith))
-
-signed-high : (n m : ℕ) → 18446744073709551615 - m ≡ n → greatest < n → signed n ≡ negsuc m
-unfolding signed
-signed-high n m e h = let k : 18446744073709551616 - suc n ≡ m = omega arith in rw (signed, le-ltb n 9223372036854775808 (omega arith), k)
 
 module _ (d : Number) where
   pub none-positive : d ≡ Number.Wrong → mapOption {A = ℕ} {B = ℤ} signed none ≡ mapOption pos (within greatest (valueOf d))
@@ -45,7 +35,7 @@ module _ (d : Number) where
 
     pub positive-in : m ≤ greatest → mapOption signed (some m) ≡ mapOption pos (within greatest (valueOf d))
     unfolding mapOption valueOf within
-    positive-in h = rw (e, within, le-leb m greatest h, signed-low m h)
+    positive-in h = rw (e, within, le-leb m greatest h, signed-low m (omega arith))
 
     pub negative-large : greatest + 1 < m → mapOption {A = ℕ} {B = ℤ} signed none ≡ negated (within (greatest + 1) (valueOf d))
     unfolding mapOption valueOf within negated
@@ -59,8 +49,8 @@ module _ (d : Number) where
     unfolding mapOption valueOf within negated
     negative-in n h z f l =
         let k : m ≡ suc (m - 1) = omega (arith, z) in
-        let q : 18446744073709551615 - (m - 1) ≡ n = omega (arith, z) in
-        rw (e, within, le-leb m (greatest + 1) h, signed-high n (m - 1) q (omega arith)) (ap negated (ap some (sym k)))
+        let q : 2 ^ 64 - suc n ≡ m - 1 = omega (arith, z) in
+        rw (e, within, le-leb m (greatest + 1) h, signed-high n (omega arith), q) (ap negated (ap some (sym k)))
 
 -- BY THE SIGN
 pub integer-empty : (x : Bytes) → length x ≡ 0 → integer x ≡ none

@@ -1,3 +1,4 @@
 pub mod Bits
 pub mod Integers
 pub mod Floats
+pub mod Records

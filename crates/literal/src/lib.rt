@@ -1,13 +1,16 @@
 // Literals in text: an integer in shortest signed decimal, a float in 16 lower-case hexadecimal digits, both by their 64 bits.
+pub mod record;
+
 ghost use mathlib.Core.Path.{_≡_};
 ghost use mathlib.Core.Option.{some};
 ghost use Prim.Native.Nat.{_≤_};
-ghost use lib.ListN.{length, take, drop};
+ghost use lib.ListN.{take, drop};
 ghost use lib.IntN.{pos};
 ghost use Rattle.rules.specs.Lists.{mapOption};
 ghost use Rattle.rules.specs.Lines as lines;
 ghost use Rattle.text.specs.Numbers.{valueOf};
-ghost use Rattle.literal.specs.Bits.{signed, bitsOf};
+ghost use Rattle.numbers.specs.Bits.{signed};
+ghost use Rattle.literal.specs.Bits.{bitsOf};
 use text::Number;
 
 // The 64 bits of a literal, an integer's in two's complement; or none.

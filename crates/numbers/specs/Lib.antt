@@ -1,1 +1,5 @@
+pub mod Bits
+pub mod Codes
 pub mod Kept
+pub mod Stores
+pub mod Values

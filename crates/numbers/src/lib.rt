@@ -1,4 +1,6 @@
 // Numbers of 32 bits in a lent slice.
+pub mod halves;
+
 ghost use mathlib.Core.Path.{_≡_};
 ghost use mathlib.Core.List.{[], _∷_};
 ghost use Prim.Native.Nat.{_+_, _≤_};

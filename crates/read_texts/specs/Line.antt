@@ -13,7 +13,7 @@ use Rattle.rules.specs.Sizes.{statementSize}
 use Rattle.rules.specs.Entry.{textNumber}
 use Rattle.rules.specs.Print.{decimalOf, tabbed, showLines, textName, showRefusal, showAnswer}
 use Rattle.reader.specs.Texts.{kindOf}
-use Rattle.reader.specs.Reading.{told}
+use Rattle.reader.specs.Reading.{textsOf}
 use Rattle.reader.specs.declared.Texts as Tx
 use Rattle.reader.specs.declared.Texts.the-variants as T
 
@@ -75,12 +75,12 @@ unfolding textWord textNumber textName
 text-word catalog = refl
 text-word statement = refl
 
-refused-line : (r : Refusal) → lineOf (told (refused r)) ≡ printed (refused r)
-unfolding lineOf told printed showAnswer showLines showRefusal
+refused-line : (r : Refusal) → lineOf (textsOf (refused r)) ≡ printed (refused r)
+unfolding lineOf textsOf printed showAnswer showLines showRefusal
 refused-line r = rw (text-word (r .text))
 
 -- what is answered is printed so
-pub line-told : (a : Answer (Catalog × Statement)) → lineOf (told a) ≡ printed a
-unfolding lineOf told printed
+pub line-told : (a : Answer (Catalog × Statement)) → lineOf (textsOf a) ≡ printed a
+unfolding lineOf textsOf printed
 line-told (ok x) = rw (kind-word (x .1))
 line-told (refused r) = refused-line r

@@ -16,8 +16,7 @@ use Rattle.rules.specs.Entry.{textNumber}
 use Rattle.rules.specs.ReadCatalog.{readCatalog}
 use Rattle.rules.specs.ReadStatement.{readStatement}
 use Rattle.text.specs.Answers.{wrongAt, limitAt}
-use Rattle.ast.specs.Table.{coded}
-use Rattle.ast.specs.Codes.{coded-above}
+use Rattle.numbers.specs.Codes.{coded, coded-above}
 use Rattle.schema.specs.Layout.{tablesAt, catalogAt}
 use Rattle.schema.specs.TableRuns.{catalogOf, catalogAnswer}
 use Rattle.schema.specs.declared.read.Read as Rd
@@ -27,7 +26,7 @@ use Rattle.statement.specs.Whole.{statementOf, statementAnswer, Counts}
 use Rattle.statement.specs.declared.Outcome as Oc
 use Rattle.statement.specs.declared.Outcome.the-variants as O
 use Rattle.reader.specs.Texts.{kindOf, notOther, bothOf, readTexts}
-use Rattle.reader.specs.Reading.{told, isOther, toldBy, TextsRead}
+use Rattle.reader.specs.Reading.{textsOf, isOther, textsBy, TextsRead}
 use Rattle.reader.specs.declared.Texts.the-variants as T
 
 -- REFUSED
@@ -36,8 +35,8 @@ never e = let z : _≡_ {A = ℕ} 0 1 = cc in omega arith
 
 module _ {c q : Bytes} {tables cells froms parts : List ℕ} where
   refused-read : (ρ : Refusal) → readTexts c q ≡ refused ρ → TextsRead c q tables cells froms parts (T.Refused (refusalNumber (ρ .reason)) (textNumber (ρ .text)) (ρ .line))
-  unfolding told
-  refused-read ρ e = record { says = sym (ap told e); stands = λ x z. absurd (never (sym e ∙ z)) }
+  unfolding textsOf
+  refused-read ρ e = record { is = sym (ap textsOf e); stands = λ x z. absurd (never (sym e ∙ z)) }
 
   pub catalog-long : mostBytes < length c → TextsRead c q tables cells froms parts (T.Refused 3 1 0)
   unfolding readTexts refusalNumber textNumber
@@ -49,35 +48,35 @@ module _ {c q : Bytes} {tables cells froms parts : List ℕ} where
 
 -- READ
 -- a kind of no statement, and of one
-pub told-zero : {k : ℕ} (l n m : ℕ) → k ≡ 0 → T.Refused 4 2 l ≡ toldBy k l n m
-unfolding toldBy isOther
-told-zero {k} l n m h = sym (rw (toldBy, isOther, eq-eqb k 0 h))
+pub texts-zero : {k : ℕ} (l n m : ℕ) → k ≡ 0 → T.Refused 4 2 l ≡ textsBy k l n m
+unfolding textsBy isOther
+texts-zero {k} l n m h = sym (rw (textsBy, isOther, eq-eqb k 0 h))
 
-pub told-above : {k : ℕ} (l n m : ℕ) → 6 < k → T.Refused 4 2 l ≡ toldBy k l n m
-unfolding toldBy isOther
-told-above {k} l n m h = sym (rw (toldBy, isOther, ne-eqb k 0 (λ z. omega arith), lt-ltb 6 k h))
+pub texts-above : {k : ℕ} (l n m : ℕ) → 6 < k → T.Refused 4 2 l ≡ textsBy k l n m
+unfolding textsBy isOther
+texts-above {k} l n m h = sym (rw (textsBy, isOther, ne-eqb k 0 (λ z. omega arith), lt-ltb 6 k h))
 
-pub told-read : {k : ℕ} (l n m : ℕ) → (k ≡ 0 → ⊥) → k ≤ 6 → T.Read k n m ≡ toldBy k l n m
-unfolding toldBy isOther
-told-read {k} l n m h g = sym (rw (toldBy, isOther, ne-eqb k 0 h, le-ltb 6 k g))
+pub texts-one : {k : ℕ} (l n m : ℕ) → (k ≡ 0 → ⊥) → k ≤ 6 → T.Read k n m ≡ textsBy k l n m
+unfolding textsBy isOther
+texts-one {k} l n m h g = sym (rw (textsBy, isOther, ne-eqb k 0 h, le-ltb 6 k g))
 
 -- the statement that a kind stands for, of one statement of each kind
 module _ (l : ℕ) (s : Ast.Select) (d : Ast.Create) (e : Ast.Drop) (f : Ast.Delete) (g : Ast.Insert) (h : Ast.Update) where
   abbrev ofKind : ℕ → Statement
   ofKind k = coded (Ast.other l) (Ast.select s ∷ Ast.create d ∷ Ast.drop e ∷ Ast.delete f ∷ Ast.insert g ∷ Ast.update h ∷ []) 1 k
 
-  told-of-kind : (ts : Catalog) (k n m : ℕ) → n ≡ statementSize (ofKind k) → m ≡ length ts → told (notOther (ofKind k) >>= λ s′. ok (ts, s′)) ≡ toldBy k l n m
-  unfolding coded told toldBy isOther notOther kindOf _>>=_ refuse refusalNumber textNumber
-  told-of-kind ts zero n m i j = refl
-  told-of-kind ts (suc zero) n m i j = rw (i, j)
-  told-of-kind ts (suc (suc zero)) n m i j = rw (i, j)
-  told-of-kind ts (suc (suc (suc zero))) n m i j = rw (i, j)
-  told-of-kind ts (suc (suc (suc (suc zero)))) n m i j = rw (i, j)
-  told-of-kind ts (suc (suc (suc (suc (suc zero))))) n m i j = rw (i, j)
-  told-of-kind ts (suc (suc (suc (suc (suc (suc zero)))))) n m i j = rw (i, j)
-  told-of-kind ts (suc (suc (suc (suc (suc (suc (suc k))))))) n m i j =
+  texts-of-kind : (ts : Catalog) (k n m : ℕ) → n ≡ statementSize (ofKind k) → m ≡ length ts → textsOf (notOther (ofKind k) >>= λ s′. ok (ts, s′)) ≡ textsBy k l n m
+  unfolding coded textsOf textsBy isOther notOther kindOf _>>=_ refuse refusalNumber textNumber
+  texts-of-kind ts zero n m i j = refl
+  texts-of-kind ts (suc zero) n m i j = rw (i, j)
+  texts-of-kind ts (suc (suc zero)) n m i j = rw (i, j)
+  texts-of-kind ts (suc (suc (suc zero))) n m i j = rw (i, j)
+  texts-of-kind ts (suc (suc (suc (suc zero)))) n m i j = rw (i, j)
+  texts-of-kind ts (suc (suc (suc (suc (suc zero))))) n m i j = rw (i, j)
+  texts-of-kind ts (suc (suc (suc (suc (suc (suc zero)))))) n m i j = rw (i, j)
+  texts-of-kind ts (suc (suc (suc (suc (suc (suc (suc k))))))) n m i j =
       rw (coded-above (Ast.other l) (Ast.select s ∷ Ast.create d ∷ Ast.drop e ∷ Ast.delete f ∷ Ast.insert g ∷ Ast.update h ∷ []) 1 (suc (suc (suc (suc (suc (suc (suc k))))))) (omega arith))
-      (told-above {k = suc (suc (suc (suc (suc (suc (suc k))))))} l n m (omega arith))
+      (texts-above {k = suc (suc (suc (suc (suc (suc (suc k))))))} l n m (omega arith))
 
 same-read : (ts : Catalog) (s : Statement) (x : Catalog × Statement) → (notOther s >>= λ s′. ok (ts, s′)) ≡ ok x → (ts, s) ≡ x
 unfolding notOther _>>=_ refuse
@@ -148,9 +147,9 @@ module _ {c q : Bytes} {tables : List ℕ} {k : Rd.Read} (g : CatalogRead c q ta
     unfolding Counts
     counted y = rw y at (h .size)
 
-    pub texts-read : {n : ℕ} → o ≡ O.Done n → TextsRead c q tables cells froms parts (toldBy (getD parts 0 0) (getD parts 1 0) n (getD tables 0 0))
+    pub texts-read : {n : ℕ} → o ≡ O.Done n → TextsRead c q tables cells froms parts (textsBy (getD parts 0 0) (getD parts 1 0) n (getD tables 0 0))
     unfolding statementAt catalogAt
     texts-read {n} y = record {
-      says = sym (ap told (taken y) ∙ told-of-kind _ _ _ _ _ _ _ (catalogAt c q tables) (getD parts 0 0) n (getD tables 0 0) (counted y) (sym (tables-length c q tables 0 (getD tables 0 0))));
+      is = sym (ap textsOf (taken y) ∙ texts-of-kind _ _ _ _ _ _ _ (catalogAt c q tables) (getD parts 0 0) n (getD tables 0 0) (counted y) (sym (tables-length c q tables 0 (getD tables 0 0))));
       stands = λ x e. same-read _ _ x (sym (taken y) ∙ e);
     }

@@ -18,19 +18,19 @@ use Rattle.reader.specs.declared.Texts as Tx
 use Rattle.reader.specs.declared.Texts.the-variants as T
 
 -- the numbers of an answer: document 01's number of the refusal, its text and line
-unfoldable pub told : Answer (Catalog × Statement) → Tx.Texts
-told (ok x) = T.Read (kindOf (x .1)) (statementSize (x .1)) (length (x .0))
-told (refused r) = T.Refused (refusalNumber (r .reason)) (textNumber (r .text)) (r .line)
+unfoldable pub textsOf : Answer (Catalog × Statement) → Tx.Texts
+textsOf (ok x) = T.Read (kindOf (x .1)) (statementSize (x .1)) (length (x .0))
+textsOf (refused r) = T.Refused (refusalNumber (r .reason)) (textNumber (r .text)) (r .line)
 
 -- no kind of a statement that can be planned
 unfoldable pub isOther : ℕ → Bool
 isOther k = eqb k 0 || ltb 6 k
 
 -- a statement of kind k at line l, with n cells, and m tables
-unfoldable pub toldBy : ℕ → ℕ → ℕ → ℕ → Tx.Texts
-toldBy k l n m = elim (isOther k) [ true ↦ T.Refused 4 2 l | false ↦ T.Read k n m ]
+unfoldable pub textsBy : ℕ → ℕ → ℕ → ℕ → Tx.Texts
+textsBy k l n m = elim (isOther k) [ true ↦ T.Refused 4 2 l | false ↦ T.Read k n m ]
 
 -- what is answered for the catalog c and the statement q, and that the slices stand for both where they are accepted
 pub record TextsRead (c q : Bytes) (tables cells froms parts : List ℕ) (r : Tx.Texts) : Type 0 where
-  pub says : r ≡ told (readTexts c q)
+  pub is : r ≡ textsOf (readTexts c q)
   pub stands : (x : Catalog × Statement) → readTexts c q ≡ ok x → (catalogAt c q tables, statementAt c q cells froms parts) ≡ x

@@ -1,7 +1,9 @@
 // Both texts read: the catalog and the statement as numbers, or document 01's 2, 3 or 4.
 ghost use mathlib.Core.Path.{_≡_};
-ghost use Rattle.reader.specs.Reading.{toldBy, TextsRead};
-use schema::NUMBERS;
+ghost use Prim.Native.Nat.{_≤_};
+ghost use lib.ListN.{length};
+ghost use Rattle.schema.specs.Room.{numbersFor};
+ghost use Rattle.reader.specs.Reading.{textsBy, TextsRead};
 use schema::read::Read;
 use statement::CELL_NUMBERS;
 use statement::FROM_NUMBERS;
@@ -25,7 +27,7 @@ pub enum Texts {
 
 // A statement that was read, by its kind and line: 4 where it is none of the six.
 fn taken(kind: u32, line: u32, cells: u32, tables: u32) -> Texts
-    ensures { λ r. ⌜ r ≡ toldBy kind line cells tables ⌝ }
+    ensures { λ r. ⌜ r ≡ textsBy kind line cells tables ⌝ }
 {
     if kind == 0 {
         return Texts::Refused(4, STATEMENT, line);
@@ -36,15 +38,17 @@ fn taken(kind: u32, line: u32, cells: u32, tables: u32) -> Texts
     Texts::Read(kind, cells, tables)
 }
 
-// Both texts, whatever they are. Where they are refused the numbers in the slices mean nothing.
+// Both texts, whatever they are; `tables` has enough numbers for the catalog (schema::read::numbers_for). Where the texts
+// are refused the numbers in the slices mean nothing.
 pub fn read_texts(
     catalog: &[u8],
     statement: &[u8],
-    tables: &mut [u32; NUMBERS],
+    tables: &mut [u32],
     cells: &mut [u32; CELL_NUMBERS],
     froms: &mut [u32; FROM_NUMBERS],
     parts: &mut [u32; PART_NUMBERS],
 ) -> Texts
+    requires { ⌜ numbersFor (length (now catalog)) ≤ length (now tables) ⌝ }
     ensures { λ r. ⌜ TextsRead (now (catalog .entry)) (now (statement .entry)) (now (tables .exit)) (now (cells .exit)) (now (froms .exit)) (now (parts .exit)) r ⌝ }
 {
     if (text::MOST_BYTES as usize) < catalog.len() {

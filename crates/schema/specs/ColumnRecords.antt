@@ -5,7 +5,6 @@ use mathlib.Core.Path.{_≡_, refl, sym, ap, _∙_}
 use mathlib.Core.Bool.{Bool, true, false}
 use mathlib.Core.List.{List, [], _∷_}
 use mathlib.Core.Option.{Option, none, some}
-use lib.Dec.{eqb}
 use lib.ListN.{length, getD, take, drop}
 use Rattle.rules.specs.Refusals.{catalog}
 use Rattle.rules.specs.Lists.{Bytes, same}
@@ -19,7 +18,8 @@ use Rattle.text.specs.Lines.{Fields, field}
 use Rattle.text.specs.Words.{find, wordsOf, push, keys, nth, named-by, nth-none}
 use Rattle.text.specs.Numbers.{isName}
 use Rattle.text.specs.Reading.{fieldOf, at-is, rest-three, rest-other, name-yes, name-no}
-use Rattle.schema.specs.Layout.{typeOf}
+use Rattle.numbers.specs.Codes.{coded}
+use Rattle.numbers.specs.Values.{isOne, typeAt}
 use Rattle.schema.specs.Records.{Position, here, columnHere, columnSaid, ColumnEnds, ColumnLine, field-here, field-most}
 use Rattle.schema.specs.declared.record.ColumnRecord.the-variants as C
 
@@ -50,16 +50,16 @@ module _ (n t u : Word) where
   column-yes d b e f g = rw (e, f, g)
 
 -- the words for types and for nullable columns, by their numbers
-type-nth : (k : ℕ) → k < 4 → nth datatypes k ≡ some (typeOf (k + 1))
-unfolding nth datatypes typeOf
+type-nth : (k : ℕ) → k < 4 → nth datatypes k ≡ some (typeAt (k + 1))
+unfolding nth datatypes typeAt coded
 type-nth zero h = refl
 type-nth (suc zero) h = refl
 type-nth (suc (suc zero)) h = refl
 type-nth (suc (suc (suc zero))) h = refl
 type-nth (suc (suc (suc (suc k)))) h = absurd (omega arith)
 
-null-nth : (u : ℕ) → u < 2 → nth nullables u ≡ some (eqb (1 - u) 1)
-unfolding nth nullables
+null-nth : (u : ℕ) → u < 2 → nth nullables u ≡ some (isOne (1 - u))
+unfolding nth nullables isOne
 null-nth zero h = refl
 null-nth (suc zero) h = refl
 null-nth (suc (suc u)) h = absurd (omega arith)
@@ -115,7 +115,7 @@ module _ (t : Bytes) (p : ℕ) (f : Line) (g : Fields t p f) {b : Bool} (key : b
         column-type m = column-wrong (λ l. column-fields l none (column-type-no _ _ _ (named l) (type-number t f 2 k ek ∙ nth-none datatypes k m)))
 
         module _ (m : k < 4) {u : ℕ} (eu : u ≡ find (wordsOf (bytes "null notnull ")) (take (getD (f .lens) 3 0) (drop (getD (f .starts) 3 0) t))) where
-          typed : word datatypes (fieldOf catalog t f 2) ≡ some (typeOf (k + 1))
+          typed : word datatypes (fieldOf catalog t f 2) ≡ some (typeAt (k + 1))
           typed = type-number t f 2 k ek ∙ type-nth k m
 
           pub column-null : 2 ≤ u → ColumnLine t p C.Wrong
@@ -126,7 +126,7 @@ module _ (t : Bytes) (p : ℕ) (f : Line) (g : Fields t p f) {b : Bool} (key : b
           unfolding columnSaid ColumnEnds fieldOf
           column-right w v = record {
             says = λ q l. sym (column-here l ∙ ap some (column-fields l _ (column-yes _ _ _ _ _ (named l) typed (null-number t f 3 u eu ∙ null-nth u v)
-                ∙ ap (λ x. some (x, typeOf (k + 1), eqb (1 - u) 1)) (first q l))));
+                ∙ ap (λ x. some (x, typeAt (k + 1), isOne (1 - u))) (first q l))));
             next = g .next;
           }
             where

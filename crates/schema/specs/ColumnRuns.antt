@@ -1,5 +1,5 @@
 -- All columns of a table, by a loop over them.
-use Prim.Native.Nat.{ℕ, suc, _+_, _-_, _≤_, _<_}
+use Prim.Native.Nat.{ℕ, suc, _+_, _*_, _-_, _≤_, _<_}
 use native.Mathlib.Omega.{arith}
 use native.Mathlib.Numerals.{add-one}
 use mathlib.Core.Path.{_≡_, sym, ap, _∙_}
@@ -14,6 +14,7 @@ use Rattle.schema.specs.Layout.{columnStart, columnsAt}
 use Rattle.schema.specs.Records.{here}
 use Rattle.text.specs.Answers.{wrongAt, limitAt, prefixed, prefixed-none, prefixed-twice}
 use Rattle.numbers.specs.Kept.{Kept, kept-all, kept-part, kept-on}
+use Rattle.schema.specs.Room.{leastColumn}
 use Rattle.schema.specs.Store.{columns-kept, columns-more}
 use Rattle.schema.specs.Columns.{columns, columnsFrom, ColumnReady, ColumnMoves, ColumnRead}
 use Rattle.schema.specs.declared.read.ColumnStep.{ColumnStep}
@@ -28,7 +29,7 @@ columnsOf t q s f (R.Wrong k) = wrongAt catalog k
 columnsOf t q s f (R.Limit k) = limitAt catalog k
 
 unfoldable pub ColumnsMove : Bytes → ℕ → Run → Type 0
-ColumnsMove t p (R.Done e l n) = (p ≤ e) × (e ≤ length t) × (l ≤ e + 1) × (n ≤ mostTableColumns)
+ColumnsMove t p (R.Done e l n) = (p + leastColumn * n ≤ e) × (e ≤ length t) × (l ≤ e + 1) × (n ≤ mostTableColumns)
 ColumnsMove t p (R.Wrong k) = Unit
 ColumnsMove t p (R.Limit k) = Unit
 
@@ -44,7 +45,7 @@ pub record ColumnsRead (t : Bytes) (p l f : ℕ) (s s′ : List ℕ) (r : Run) :
 -- n columns are read from p₀ on, and the next may stand at p
 pub record ColumnLoop (t : Bytes) (p₀ l₀ f : ℕ) (s₀ : List ℕ) (p l n : ℕ) (s : List ℕ) : Type 0 where
   pub is : (q : Bytes) → prefixed (columnsAt t q s f n) (columns (turnsAt t p₀ - n) n (here t p l)) ≡ columns (turnsAt t p₀) 0 (here t p₀ l₀)
-  pub passed : p₀ + n ≤ p
+  pub passed : p₀ + leastColumn * n ≤ p
   pub kept : Kept 0 (columnStart f) s₀ s
   pub ready : ColumnReady t s p l f n
 
@@ -89,7 +90,7 @@ module _ {t : Bytes} {p₀ l₀ f : ℕ} {s₀ : List ℕ} {p l n : ℕ} {s s′
   columns-limit e = record { says = rest-as _ e; kept = all-kept; moves = tt }
 
   module _ {e : ℕ} (z : r ≡ S.Column e) where
-    pub column-moved : (n < mostTableColumns) × (p + 2 ≤ e) × (e ≤ length t)
+    pub column-moved : (n < mostTableColumns) × (p + leastColumn ≤ e) × (e ≤ length t)
     unfolding ColumnMoves
     column-moved = rw z at (g .moves)
 
@@ -102,7 +103,8 @@ module _ {t : Bytes} {p₀ l₀ f : ℕ} {s₀ : List ℕ} {p l n : ℕ} {s s′
       ready = record {
         place = record { short = h .ready .place .short; within = column-moved .2 };
         line = omega (arith, h .ready .line, column-moved .1);
-        room = k ∙ h .ready .room;
+        room = rw k (h .ready .room);
+        behind = omega (arith, h .ready .behind, column-moved .1);
         first = h .ready .first;
         most = omega (arith, column-moved .0);
       };

@@ -1,30 +1,33 @@
 -- A table's columns: what the rules make of the one that stands here and of the rest, and what stands in the numbers.
-use Prim.Native.Nat.{ℕ, suc, _+_, _*_, _-_, _≤_, _<_}
+--
+-- Here and in ColumnRuns, Tables, TableRuns: t is the text, s the numbers, p a position in the text and l its line, f the number
+-- of a table's first column among all, n how many columns of the table, or how many tables, stand before p.
+use Prim.Native.Nat.{ℕ, suc, _+_, _*_, _≤_, _<_}
 use native.Mathlib.Omega.{arith}
-use native.Mathlib.Decide.{decLt}
 use mathlib.Core.Path.{_≡_, refl, sym, ap, _∙_}
 use mathlib.Core.Bool.{Bool, true, false}
 use mathlib.Core.Option.{Option, none, some}
 use mathlib.Core.List.{List, [], _∷_}
-use lib.Dec.{eqb}
-use lib.ListN.{length, drop-of-length-le}
+use lib.ListN.{length}
 use lib.Seq.{sets}
 use Rattle.rules.specs.Refusals.{catalog, wrongRecord, limitPassed, Refusal, Answer, ok, refused}
 use Rattle.rules.specs.Limits.{mostTableColumns}
-use Rattle.rules.specs.Lists.{Bytes, same, named}
-use Rattle.rules.specs.Lines.{Word, bytes, fields, empty}
+use Rattle.rules.specs.Lists.{Bytes}
+use Rattle.rules.specs.Lines.{Word, bytes}
 use Rattle.rules.specs.Schema.{Value, Datatype, Column}
-use Rattle.rules.specs.Reader.{Place, Read, baseAddress, at, key, keyOf, rest, restOf, lineHere, next, stop, give, fit, many, oneOf, apply, literals}
+use Rattle.rules.specs.Reader.{Place, Read, at, rest, lineHere, next, stop, give, fit, many, oneOf, literals}
 use Rattle.rules.specs.ReadColumn.{columnFields}
 use Rattle.rules.specs.ReadCatalog.{defaultRecords, defaultHere, columnBody}
 use Rattle.rules.specs.Places.{wordAt}
-use Rattle.text.specs.Lines.{lineEnd, line-moves, line-most}
+use Rattle.text.specs.Lines.{lineEnd, line-most}
 use Rattle.text.specs.Reading.{place, place-next}
-use Rattle.schema.specs.Layout.{numbers, columnStart, typeOf, defaultOf, columnOf}
+use Rattle.schema.specs.Layout.{columnStart, columnOf}
 use Rattle.schema.specs.Records.{Position, here, defaultSaid, columnHere, columnSaid, ColumnEnds, ColumnLine}
 use Rattle.text.specs.Answers.{wrongAt, limitAt, bind-ok, bind-no, within-wrong, within-limit, within-ok, prefixed, give-first}
-use Rattle.numbers.specs.Kept.{Kept, kept-all, kept-on}
-use Rattle.schema.specs.Store.{Four, four, four-before}
+use Rattle.numbers.specs.Kept.{Kept, kept-all, kept-sets-behind}
+use Rattle.numbers.specs.Stores.{Stored, stored-first, stored-sets, sets-append}
+use Rattle.numbers.specs.Values.{isOne, typeAt, defaultOf}
+use Rattle.schema.specs.Room.{leastLine, leastColumn, numbersFor, column-fits, column-bytes, default-bytes}
 use Rattle.schema.specs.declared.record.DefaultRecord.{DefaultRecord}
 use Rattle.schema.specs.declared.record.DefaultRecord.the-variants as D
 use Rattle.schema.specs.declared.record.ColumnRecord.{ColumnRecord}
@@ -88,38 +91,13 @@ module _ (l : ℕ) (h : Word × Datatype × Bool) (p : Place) where
   unfolding columnBody defaultHere fit give
   body-ok d e = bind-ok _ _ p d (next p) (rw e)
 
--- behind the end of the text no record stands
-module _ (t : Bytes) (p l : ℕ) (h : length t ≤ p) where
-  line-past : lineHere (here t p l) ≡ empty (baseAddress catalog + p) ∷ empty (baseAddress catalog + p) ∷ empty (baseAddress catalog + p) ∷ []
-  unfolding lineHere place fields
-  line-past = rw (drop-of-length-le t h)
-
-  column-past : columnHere (here t p l) ≡ none
-  unfolding columnHere at key keyOf bytes same empty
-  column-past = rw (columnHere, line-past)
-
-  default-past : oneOf (defaultRecords literals) (lineHere (here t p l)) ≡ none
-  unfolding oneOf apply named keyOf restOf bytes same empty defaultRecords literals
-  default-past = rw line-past
-
-column-inside : (t : Bytes) (p l : ℕ) (o : Option (Word × Datatype × Bool)) → columnHere (here t p l) ≡ some o → p < length t
-column-inside t p l o e = elim (decLt p (length t)) [
-  | yes y ↦ y
-  | no y ↦ absurd (let x : some o ≡ none = sym e ∙ column-past t p l (omega (arith, y)) in let z : _≡_ {A = ℕ} 0 1 = cc in omega arith)
-]
-
-default-inside : (t : Bytes) (p l : ℕ) (d : Option Value) → oneOf (defaultRecords literals) (lineHere (here t p l)) ≡ some d → p < length t
-default-inside t p l d e = elim (decLt p (length t)) [
-  | yes y ↦ y
-  | no y ↦ absurd (let x : some d ≡ none = sym e ∙ default-past t p l (omega (arith, y)) in let z : _≡_ {A = ℕ} 0 1 = cc in omega arith)
-]
-
 -- ONE COLUMN
--- The n-th column of a table may stand at p, on line l, and its numbers have room. The table's first is the f-th of all.
+-- A table's n-th column may stand at p; all columns before it, each of so many bytes at least, lie before p.
 pub record ColumnReady (t : Bytes) (s : List ℕ) (p l f n : ℕ) : Type 0 where
   pub place : Position t p
   pub line : l ≤ p + 1
-  pub room : length s ≡ numbers
+  pub room : numbersFor (length t) ≤ length s
+  pub behind : leastColumn * (f + n) ≤ p
   pub first : f ≤ 31 * mostTableColumns
   pub most : n ≤ mostTableColumns
 
@@ -131,7 +109,7 @@ columnsFrom t q s p l f n fuel (S.Limit k) = limitAt catalog k
 columnsFrom t q s p l f n fuel S.End = ok ([], here t p l)
 
 unfoldable pub ColumnMoves : Bytes → ℕ → ℕ → ColumnStep → Type 0
-ColumnMoves t p n (S.Column e) = (n < mostTableColumns) × (p + 2 ≤ e) × (e ≤ length t)
+ColumnMoves t p n (S.Column e) = (n < mostTableColumns) × (p + leastColumn ≤ e) × (e ≤ length t)
 ColumnMoves t p n (S.Wrong k) = Unit
 ColumnMoves t p n (S.Limit k) = Unit
 ColumnMoves t p n S.End = Unit
@@ -157,7 +135,7 @@ module _ {t : Bytes} {s : List ℕ} {p l f n : ℕ} (w : ColumnReady t s p l f n
   column-wrong z = record { says = λ q fuel. sym (columns-wrong _ fuel n none (says-as q _ z) refl); kept = kept-all _ _ s; moves = tt }
 
   module _ {a m k u e : ℕ} (z : c ≡ C.Column a m k u e) where
-    said : (q : Bytes) → columnHere (here t p l) ≡ some (some (wordAt t q a m, typeOf k, eqb u 1))
+    said : (q : Bytes) → columnHere (here t p l) ≡ some (some (wordAt t q a m, typeAt k, isOne u))
     unfolding columnSaid
     said q = says-as q _ z
 
@@ -168,8 +146,8 @@ module _ {t : Bytes} {s : List ℕ} {p l f n : ℕ} (w : ColumnReady t s p l f n
     pub column-next : Position t e
     column-next = line-position t p e (w .place) ends
 
-    moved : p < e
-    moved = omega (arith, line-moves t p (column-inside t p l _ (said [])), ends)
+    moved : p + leastLine ≤ e
+    moved = omega (arith, column-bytes t p l _ (said []), ends)
 
     at-next : next (here t p l) ≡ here t e (l + 1)
     at-next = place-next catalog t p l 0 0 ∙ ap (λ x. here t x (l + 1)) (sym ends)
@@ -192,36 +170,43 @@ module _ {t : Bytes} {s : List ℕ} {p l f n : ℕ} (w : ColumnReady t s p l f n
         unfolding defaultSaid
         given-as q = sym (given q (l + 1)) ∙ ap (defaultSaid t q) o
 
+        ended : (p + leastColumn ≤ lineEnd t e) × (lineEnd t e ≤ length t)
+        ended = (omega (arith, moved, default-bytes t e (l + 1) _ (given-as [])), omega (arith, line-most t e, column-next .within))
+
+        pub column-room : columnStart (suc (f + n)) ≤ length s
+        column-room = column-fits (f + n) (w .room) (omega (arith, w .first)) (omega (arith, w .behind, ended .0, ended .1))
+
         module _ {s₁ s₂ : List ℕ} {i : ℕ} (ei : i ≡ columnStart (f + n)) (e₁ : s₁ ≡ sets s i (a ∷ m ∷ k ∷ u ∷ [])) (n₁ : length s₁ ≡ length s) (e₂ : s₂ ≡ sets s₁ (i + 4) (x ∷ y ∷ v ∷ 0 ∷ [])) where
-          four₁ : Four s s₁ i a m k u
-          four₁ = four s s₁ i a m k u (omega (arith, w .room, w .first)) e₁
+          eight : s₂ ≡ sets s i (a ∷ m ∷ k ∷ u ∷ x ∷ y ∷ v ∷ 0 ∷ [])
+          eight = e₂ ∙ rw e₁ (sym (sets-append (a ∷ m ∷ k ∷ u ∷ []) (x ∷ y ∷ v ∷ 0 ∷ []) s i))
 
-          four₂ : Four s₁ s₂ (i + 4) x y v 0
-          four₂ = four s₁ s₂ (i + 4) x y v 0 (omega (arith, w .room, w .first)) e₂
+          stands : Stored s₂ i (a ∷ m ∷ k ∷ u ∷ x ∷ y ∷ v ∷ 0 ∷ [])
+          stands = rw eight (stored-sets s i (a ∷ m ∷ k ∷ u ∷ x ∷ y ∷ v ∷ 0 ∷ []) (omega (arith, column-room)))
 
-          stored : (q : Bytes) → columnOf t q s₂ i ≡ record { name = wordAt t q a m; type = typeOf k; nullable = eqb u 1; default = defaultOf t q x y v }
+          stored : (q : Bytes) → columnOf t q s₂ i ≡ record { name = wordAt t q a m; type = typeAt k; nullable = isOne u; default = defaultOf t q x y v }
           unfolding columnOf
           stored q =
-              let b : Kept i (i + 4) s₁ s₂ = four-before i (i + 4) four₂ (omega arith) in
-              let d₀ = b .same i (omega arith) (omega arith) ∙ four₁ .first in
-              let d₁ = b .same (i + 1) (omega arith) (omega arith) ∙ four₁ .second in
-              let d₂ = b .same (i + 2) (omega arith) (omega arith) ∙ four₁ .third in
-              let d₃ = b .same (i + 3) (omega arith) (omega arith) ∙ four₁ .fourth in
-              let p₅ : i + 5 ≡ i + 4 + 1 = omega arith in
-              let p₆ : i + 6 ≡ i + 4 + 2 = omega arith in
-              rw (d₀, d₁, d₂, d₃, four₂ .first, p₅, four₂ .second, p₆, four₂ .third)
+              rw (
+                stored-first stands,
+                stands .at 1 (omega arith),
+                stands .at 2 (omega arith),
+                stands .at 3 (omega arith),
+                stands .at 4 (omega arith),
+                stands .at 5 (omega arith),
+                stands .at 6 (omega arith),
+              )
 
           pub column-read : {e₃ : ℕ} → e₃ ≡ lineEnd t e → ColumnRead t p l f n s s₂ (S.Column e₃)
           unfolding columnsFrom ColumnMoves place
           column-read {e₃} z₃ = record {
             says = λ q fuel. sym (columns-on _ fuel n _ (said q) _ refl g _ _ (ap (columnBody l _) at-next ∙ body-ok l _ (here t e (l + 1)) _ (given-as q)) ∙ goes-on q fuel);
-            kept = kept-on (four-before 0 (columnStart (f + n)) four₁ (omega arith)) (four-before 0 (columnStart (f + n)) four₂ (omega arith));
-            moves = (g, omega (arith, moved, line-moves t e (default-inside t e (l + 1) _ (given-as []))), omega (arith, line-most t e, column-next .within));
+            kept = rw eight (kept-sets-behind s i (a ∷ m ∷ k ∷ u ∷ x ∷ y ∷ v ∷ 0 ∷ []) 0 (columnStart (f + n)) (omega arith));
+            moves = (g, omega (arith, ended .0), omega (arith, ended .1));
           }
             where
               after : next (here t e (l + 1)) ≡ here t e₃ (l + 2)
               after = place-next catalog t e (l + 1) 0 0 ∙ (let b : l + 1 + 1 ≡ l + 2 = omega arith in rw (b, z₃))
 
-              goes-on : (q : Bytes) (fuel : ℕ) → prefixed (record { name = wordAt t q a m; type = typeOf k; nullable = eqb u 1; default = defaultOf t q x y v } ∷ []) (columns fuel (suc n) (next (here t e (l + 1))))
+              goes-on : (q : Bytes) (fuel : ℕ) → prefixed (record { name = wordAt t q a m; type = typeAt k; nullable = isOne u; default = defaultOf t q x y v } ∷ []) (columns fuel (suc n) (next (here t e (l + 1))))
                   ≡ prefixed (columnOf t q s₂ (columnStart (f + n)) ∷ []) (columns fuel (suc n) (here t e₃ (l + 2)))
               goes-on q fuel = rw (← ei, stored q, after)

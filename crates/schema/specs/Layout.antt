@@ -5,15 +5,13 @@
 -- Column j is the eight numbers from 161 + 8 * j on: the name's address and length, the type (1 bool, 2 int, 3 float, 4 text),
 -- 1 if it is nullable, the default's kind (0 none, 1 null, 2 bool, 3 int, 4 float, 5 text) and its two numbers, and 0. The two
 -- numbers are a flag, 64 bits (low half first), or an address and a length.
-use Prim.Native.Nat.{ℕ, zero, suc, _+_, _*_, _^_}
+use Prim.Native.Nat.{ℕ, zero, suc, _+_, _*_}
 use mathlib.Core.List.{List, [], _∷_}
-use mathlib.Core.Option.{Option, none, some}
-use lib.Dec.{eqb}
 use lib.ListN.{getD}
 use Rattle.rules.specs.Lists.{Bytes}
-use Rattle.rules.specs.Schema.{Value, null, bool, int, float, text, Datatype, boolean, integer, floating, string, Column, Table, Catalog}
+use Rattle.rules.specs.Schema.{Column, Table, Catalog}
 use Rattle.rules.specs.Places.{wordAt}
-use Rattle.literal.specs.Bits.{signed}
+use Rattle.numbers.specs.Values.{isOne, typeAt, defaultOf}
 
 -- how many numbers there are
 abbrev pub numbers : ℕ
@@ -26,27 +24,12 @@ tableStart i = 1 + 5 * i
 abbrev pub columnStart : ℕ → ℕ
 columnStart j = 161 + 8 * j
 
--- 64 bits from their halves
-unfoldable pub joined : ℕ → ℕ → ℕ
-joined low high = low + high * 2 ^ 32
-
-unfoldable pub typeOf : ℕ → Datatype
-typeOf k = getD (boolean ∷ boolean ∷ integer ∷ floating ∷ []) k string
-
--- the default of a kind and two numbers, of the catalog c and the statement q
-unfoldable pub defaultOf : Bytes → Bytes → ℕ → ℕ → ℕ → Option Value
-defaultOf c q k a b =
-    getD
-    (none ∷ some null ∷ some (bool (eqb a 1)) ∷ some (int (signed (joined a b))) ∷ some (float (joined a b)) ∷ [])
-    k
-    (some (text (wordAt c q a b)))
-
 -- the column whose numbers start at i
 unfoldable pub columnOf : Bytes → Bytes → List ℕ → ℕ → Column
 columnOf c q s i = record {
   name = wordAt c q (getD s i 0) (getD s (i + 1) 0);
-  type = typeOf (getD s (i + 2) 0);
-  nullable = eqb (getD s (i + 3) 0) 1;
+  type = typeAt (getD s (i + 2) 0);
+  nullable = isOne (getD s (i + 3) 0);
   default = defaultOf c q (getD s (i + 4) 0) (getD s (i + 5) 0) (getD s (i + 6) 0);
 }
 

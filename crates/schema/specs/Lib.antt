@@ -5,6 +5,7 @@ pub mod ColumnRecords
 pub mod TableRecords
 pub mod DefaultRecords
 pub mod Store
+pub mod Room
 pub mod Columns
 pub mod ColumnRuns
 pub mod Tables

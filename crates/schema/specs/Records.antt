@@ -6,7 +6,6 @@ use mathlib.Core.Path.{_≡_, _∙_}
 use mathlib.Core.Bool.{Bool, true, false}
 use mathlib.Core.List.{List, [], _∷_}
 use mathlib.Core.Option.{Option, none, some}
-use lib.Dec.{eqb}
 use lib.ListN.{length, getD}
 use Rattle.rules.specs.Limits.{mostBytes}
 use Rattle.rules.specs.Refusals.{catalog}
@@ -20,7 +19,8 @@ use Rattle.rules.specs.Places.{bytesAt, wordAt}
 use Rattle.text.specs.declared.Line.{Line}
 use Rattle.text.specs.Lines.{Fields, lineEnd, field}
 use Rattle.text.specs.Reading.{place, textOf, field-word, field-inside}
-use Rattle.schema.specs.Layout.{tableStart, typeOf, defaultOf}
+use Rattle.numbers.specs.Values.{isOne, typeAt, defaultOf}
+use Rattle.schema.specs.Layout.{tableStart}
 use Rattle.schema.specs.declared.record.ColumnRecord.{ColumnRecord}
 use Rattle.schema.specs.declared.record.ColumnRecord.the-variants as C
 use Rattle.schema.specs.declared.record.TableRecord.{TableRecord}
@@ -43,7 +43,7 @@ unfoldable pub columnHere : Place → Option (Option (Word × Datatype × Bool))
 columnHere p = elim (at (bytes "column") p) [ true ↦ some (columnFields (rest p)) | false ↦ none ]
 
 unfoldable pub columnSaid : Bytes → Bytes → ColumnRecord → Option (Option (Word × Datatype × Bool))
-columnSaid c q (C.Column a n k u e) = some (some (wordAt c q a n, typeOf k, eqb u 1))
+columnSaid c q (C.Column a n k u e) = some (some (wordAt c q a n, typeAt k, isOne u))
 columnSaid c q C.Wrong = some none
 columnSaid c q C.Missing = none
 

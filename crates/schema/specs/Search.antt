@@ -13,7 +13,8 @@ use Rattle.rules.specs.Lists.{Bytes, same, entryAfter, mapOption}
 use Rattle.rules.specs.Lines.{Word}
 use Rattle.rules.specs.Schema.{Column, Table, Catalog, getTable, columnAt, defaultAt}
 use Rattle.rules.specs.Places.{bytesAt, wordAt}
-use Rattle.schema.specs.Layout.{tableStart, columnStart, defaultOf, columnOf, columnsAt, tableAt, tablesAt, catalogAt}
+use Rattle.numbers.specs.Values.{defaultOf}
+use Rattle.schema.specs.Layout.{tableStart, columnStart, columnOf, columnsAt, tableAt, tablesAt, catalogAt}
 use Rattle.schema.specs.declared.Found.{Found}
 use Rattle.schema.specs.declared.Found.the-variants.{At, Nothing}
 

@@ -1,55 +1,13 @@
--- Numbers that are stored, and what keeps its meaning where others are stored.
+-- Columns and tables keep their meaning where other numbers are stored.
 use Prim.Native.Nat.{ℕ, zero, suc, _+_, _≤_, _<_}
 use native.Mathlib.Omega.{arith}
-use mathlib.Core.Path.{_≡_, refl, ap, _∙_}
+use mathlib.Core.Path.{_≡_, refl, ap}
 use mathlib.Core.List.{List, [], _∷_, _++_}
-use lib.ListN.{length, getD, set, length-set}
-use lib.Seq.{sets, getD-set-same, getD-set-other}
+use lib.ListN.{getD}
 use Rattle.rules.specs.Lists.{Bytes}
-use Rattle.numbers.specs.Kept.{Kept, kept-part, four-sets}
+use Rattle.numbers.specs.Kept.{Kept, kept-part}
 use Rattle.schema.specs.Layout.{tableStart, columnStart, columnOf, columnsAt, tableAt, tablesAt}
 use Rattle.schema.specs.Records.{names}
-
--- STORES
--- four numbers stored at i
-pub record Four (s s′ : List ℕ) (i a b c d : ℕ) : Type 0 where
-  pub first : getD s′ i 0 ≡ a
-  pub second : getD s′ (i + 1) 0 ≡ b
-  pub third : getD s′ (i + 2) 0 ≡ c
-  pub fourth : getD s′ (i + 3) 0 ≡ d
-  pub other : (k : ℕ) → (k ≡ i → ⊥) → (k ≡ i + 1 → ⊥) → (k ≡ i + 2 → ⊥) → (k ≡ i + 3 → ⊥) → getD s′ k 0 ≡ getD s k 0
-
-pub four : (s s′ : List ℕ) (i a b c d : ℕ) → i + 4 ≤ length s → s′ ≡ sets s i (a ∷ b ∷ c ∷ d ∷ []) → Four s s′ i a b c d
-four s s′ i a b c d h e =
-    let s₁ = set s i a in
-    let s₂ = set s₁ (i + 1) b in
-    let s₃ = set s₂ (i + 2) c in
-    let n₁ : length s₁ ≡ length s = length-set s i a in
-    let n₂ : length s₂ ≡ length s = length-set s₁ (i + 1) b ∙ n₁ in
-    let n₃ : length s₃ ≡ length s = length-set s₂ (i + 2) c ∙ n₂ in
-    let w : s′ ≡ set s₃ (i + 3) d = e ∙ four-sets s i a b c d in
-    record {
-      first = rw w (getD-set-other s₃ (i + 3) i d 0 (λ x. omega (arith, x)) ∙ getD-set-other s₂ (i + 2) i c 0 (λ x. omega (arith, x)) ∙ getD-set-other s₁ (i + 1) i b 0 (λ x. omega (arith, x)) ∙ getD-set-same s i a 0 (omega arith));
-      second = rw w (getD-set-other s₃ (i + 3) (i + 1) d 0 (λ x. omega (arith, x)) ∙ getD-set-other s₂ (i + 2) (i + 1) c 0 (λ x. omega (arith, x)) ∙ getD-set-same s₁ (i + 1) b 0 (omega arith));
-      third = rw w (getD-set-other s₃ (i + 3) (i + 2) d 0 (λ x. omega (arith, x)) ∙ getD-set-same s₂ (i + 2) c 0 (omega arith));
-      fourth = rw w (getD-set-same s₃ (i + 3) d 0 (omega arith));
-      other = λ k x₀ x₁ x₂ x₃. rw w (getD-set-other s₃ (i + 3) k d 0 x₃ ∙ getD-set-other s₂ (i + 2) k c 0 x₂ ∙ getD-set-other s₁ (i + 1) k b 0 x₁ ∙ getD-set-other s i k a 0 x₀);
-    }
-
--- numbers that lie before what is stored, or behind it
-pub four-before : {s s′ : List ℕ} {i a b c d : ℕ} (x y : ℕ) → Four s s′ i a b c d → y ≤ i → Kept x y s s′
-four-before x y f h = record { same = λ k l m. f .other k (λ e. omega (arith, e)) (λ e. omega (arith, e)) (λ e. omega (arith, e)) (λ e. omega (arith, e)) }
-
-pub four-behind : {s s′ : List ℕ} {i a b c d : ℕ} (x y : ℕ) → Four s s′ i a b c d → i + 4 ≤ x → Kept x y s s′
-four-behind x y f h = record { same = λ k l m. f .other k (λ e. omega (arith, e)) (λ e. omega (arith, e)) (λ e. omega (arith, e)) (λ e. omega (arith, e)) }
-
--- one number stored at i
-module _ (s : List ℕ) (i v x y : ℕ) where
-  pub set-before : y ≤ i → Kept x y s (set s i v)
-  set-before h = record { same = λ k l m. getD-set-other s i k v 0 (λ e. omega (arith, e)) }
-
-  pub set-behind : i < x → Kept x y s (set s i v)
-  set-behind h = record { same = λ k l m. getD-set-other s i k v 0 (λ e. omega (arith, e)) }
 
 -- COLUMNS
 module _ (c q : Bytes) {s s′ : List ℕ} where

@@ -16,10 +16,12 @@ use Rattle.rules.specs.Schema.{Catalog}
 use Rattle.rules.specs.Reader.{Place, start, turns, valueOf}
 use Rattle.rules.specs.ReadCatalog.{tables, readCatalog}
 use Rattle.text.specs.Reading.{place-start, place-end}
-use Rattle.schema.specs.Layout.{numbers, tableStart, columnStart, tableAt, tablesAt, catalogAt}
+use Rattle.schema.specs.Layout.{tableStart, columnStart, tableAt, tablesAt, catalogAt}
 use Rattle.schema.specs.Records.{Position, here, names}
 use Rattle.text.specs.Answers.{wrongAt, limitAt, prefixed, prefixed-none, prefixed-twice}
-use Rattle.schema.specs.Store.{Ranges, set-behind, tables-kept, tables-more}
+use Rattle.numbers.specs.Kept.{kept-set}
+use Rattle.schema.specs.Room.{leastColumn, numbersFor}
+use Rattle.schema.specs.Store.{Ranges, tables-kept, tables-more}
 use Rattle.schema.specs.Tables.{TableReady, TableDone, TableMoves, TableRead, tablesFrom}
 use Rattle.schema.specs.declared.read.Run.{Run}
 use Rattle.schema.specs.declared.read.Run.the-variants as R
@@ -50,12 +52,13 @@ pub record TableLoop (t : Bytes) (p l n f : ℕ) (s : List ℕ) : Type 0 where
   pub passed : n ≤ p
   pub place : Position t p
   pub line : l ≤ p + 1
-  pub room : length s ≡ numbers
+  pub room : numbersFor (length t) ≤ length s
+  pub behind : leastColumn * f ≤ p
   pub most : n ≤ mostTables
   pub first : f ≤ mostTableColumns * n
   pub ranges : Ranges s n f
 
-pub tables-begin : (t : Bytes) (s : List ℕ) → length t ≤ mostBytes → length s ≡ numbers → TableLoop t 0 1 0 0 s
+pub tables-begin : (t : Bytes) (s : List ℕ) → length t ≤ mostBytes → numbersFor (length t) ≤ length s → TableLoop t 0 1 0 0 s
 unfolding tablesAt names
 tables-begin t s h g =
     let z : suc (length t) - 0 ≡ suc (length t) = omega arith in
@@ -65,6 +68,7 @@ tables-begin t s h g =
       place = record { short = h; within = omega arith };
       line = omega arith;
       room = g;
+      behind = omega arith;
       most = omega arith;
       first = omega arith;
       ranges = record { end = λ i l. absurd (omega arith) };
@@ -85,7 +89,7 @@ module _ {t : Bytes} {p l n f : ℕ} {s : List ℕ} (h : TableLoop t p l n f s) 
   turn = omega (arith, h .passed, h .place .within)
 
   pub table-ready : p < length t → TableReady t s p l n f
-  table-ready m = record { place = h .place; more = m; line = h .line; room = h .room; most = h .most; first = h .first; ranges = h .ranges }
+  table-ready m = record { place = h .place; more = m; line = h .line; room = h .room; behind = h .behind; most = h .most; first = h .first; ranges = h .ranges }
 
   tables-past : length t ≤ p → (fuel : ℕ) → tables (suc fuel) n (names t s n) (here t p l) ≡ ok ([], here t p l)
   tables-past m fuel = nothing-left (here t p l) fuel n _ (place-end catalog t p l 0 0 m)
@@ -94,7 +98,7 @@ module _ {t : Bytes} {p l n f : ℕ} {s : List ℕ} (h : TableLoop t p l n f s) 
   unfolding catalogOf catalogAt valueOf prefixed
   tables-end m q =
       let e : getD (set s 0 n) 0 0 ≡ n = getD-set-same s 0 n 0 (omega (arith, h .room)) in
-      let k : tablesAt t q (set s 0 n) 0 n ≡ tablesAt t q s 0 n = tables-kept (h .ranges) (set-behind s 0 n 1 (tableStart n) (omega arith)) t q (set-behind s 0 n 161 (columnStart f) (omega arith)) 0 n (omega arith) in
+      let k : tablesAt t q (set s 0 n) 0 n ≡ tablesAt t q s 0 n = tables-kept (h .ranges) (kept-set s 0 n 1 (tableStart n) (omega arith)) t q (kept-set s 0 n 161 (columnStart f) (omega arith)) 0 n (omega arith) in
       let x : ok (tablesAt t q s 0 n ++ [], here t p l) ≡ tables (suc (length t)) 0 [] (here t 0 1) = (rw (turn, tables-past m) at (h .is q)) in
       rw (e, k) (ap ok (sym (append-nil (tablesAt t q s 0 n))) ∙ ap valueOf x ∙ sym (whole t))
 
@@ -123,7 +127,8 @@ module _ {t : Bytes} {p l n f : ℕ} {s : List ℕ} (h : TableLoop t p l n f s) 
         passed = omega (arith, h .passed, table-done .moved);
         place = record { short = h .place .short; within = table-done .within };
         line = table-done .line;
-        room = k ∙ h .room;
+        room = rw k (h .room);
+        behind = omega (arith, h .behind, table-done .moved);
         most = omega (arith, table-done .tables);
         first = omega (arith, h .first, table-done .columns);
         ranges = rw (add-one n) (table-done .ranges);

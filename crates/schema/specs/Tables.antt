@@ -7,7 +7,7 @@ use mathlib.Core.Bool.{Bool, true, false}
 use mathlib.Core.Option.{Option, none, some}
 use mathlib.Core.List.{List, [], _∷_}
 use lib.ListN.{length, getD, set, drop}
-use lib.Seq.{sets, getD-set-same}
+use lib.Seq.{sets}
 use borrow.Author.Tests.{lt-ltb, le-ltb}
 use Rattle.rules.specs.Refusals.{catalog, wrongRecord, limitPassed, Refusal, Answer, ok, refused}
 use Rattle.rules.specs.Limits.{mostTables, mostTableColumns}
@@ -19,12 +19,14 @@ use Rattle.rules.specs.ReadCatalog.{tableFields, keyFits, tables}
 use Rattle.rules.specs.Places.{bytesAt, wordAt}
 use Rattle.text.specs.Lines.{lineEnd, line-moves}
 use Rattle.text.specs.Reading.{place, place-next, place-more, place-length}
-use Rattle.schema.specs.Layout.{numbers, tableStart, columnStart, columnsAt, tableAt, tablesAt}
+use Rattle.schema.specs.Layout.{tableStart, columnStart, columnsAt, tableAt, tablesAt}
 use Rattle.schema.specs.Records.{Position, here, names, tableHere, tableSaid, TableEnds, TableLine}
 use Rattle.text.specs.Answers.{wrongAt, limitAt, bind-ok, bind-no, then-ok, then-no, within-wrong, within-limit, within-ok, prefixed, give-first}
 use Rattle.schema.specs.Search.{columns-length}
-use Rattle.numbers.specs.Kept.{Kept, kept-part, kept-on}
-use Rattle.schema.specs.Store.{Four, four, four-before, four-behind, set-before, set-behind, columns-kept, Ranges, names-kept, ranges-kept, tables-kept}
+use Rattle.numbers.specs.Kept.{Kept, kept-part, kept-on, kept-sets, kept-sets-behind}
+use Rattle.numbers.specs.Stores.{Stored, stored-first, stored-sets, sets-append}
+use Rattle.schema.specs.Room.{leastColumn, numbersFor}
+use Rattle.schema.specs.Store.{columns-kept, Ranges, names-kept, ranges-kept, tables-kept}
 use Rattle.schema.specs.Columns.{columns, ColumnReady, line-position}
 use Rattle.schema.specs.ColumnRuns.{columnsOf, ColumnsMove, turnsAt, ColumnsRead}
 use Rattle.schema.specs.declared.record.TableRecord.{TableRecord}
@@ -88,7 +90,8 @@ pub record TableReady (t : Bytes) (s : List ℕ) (p l n f : ℕ) : Type 0 where
   pub place : Position t p
   pub more : p < length t
   pub line : l ≤ p + 1
-  pub room : length s ≡ numbers
+  pub room : numbersFor (length t) ≤ length s
+  pub behind : leastColumn * f ≤ p
   pub most : n ≤ mostTables
   pub first : f ≤ mostTableColumns * n
   pub ranges : Ranges s n f
@@ -100,7 +103,7 @@ tablesFrom t q s n fuel (R.Wrong k) = wrongAt catalog k
 tablesFrom t q s n fuel (R.Limit k) = limitAt catalog k
 
 pub record TableDone (t : Bytes) (p n f : ℕ) (s s′ : List ℕ) (e l m : ℕ) : Type 0 where
-  pub moved : p < e
+  pub moved : p + leastColumn * m < e
   pub within : e ≤ length t
   pub line : l ≤ e + 1
   pub columns : m ≤ mostTableColumns
@@ -155,6 +158,7 @@ module _ {t : Bytes} {s : List ℕ} {p l n f : ℕ} (w : TableReady t s p l n f)
         place = line-position t p e (w .place) ends;
         line = omega (arith, moved, w .line);
         room = w .room;
+        behind = omega (arith, w .behind, moved);
         first = omega (arith, w .first);
         most = omega arith;
       }
@@ -177,7 +181,7 @@ module _ {t : Bytes} {s : List ℕ} {p l n f : ℕ} (w : TableReady t s p l n f)
           unfolding columnsOf
           columns-done q = columns-said q _ y
 
-          columns-moved : (e ≤ p′) × (p′ ≤ length t) × (l′ ≤ p′ + 1) × (m ≤ mostTableColumns)
+          columns-moved : (e + leastColumn * m ≤ p′) × (p′ ≤ length t) × (l′ ≤ p′ + 1) × (m ≤ mostTableColumns)
           unfolding ColumnsMove
           columns-moved = rw y at (j .moves)
 
@@ -189,36 +193,33 @@ module _ {t : Bytes} {s : List ℕ} {p l n f : ℕ} (w : TableReady t s p l n f)
             abbrev s₃ : List ℕ
             s₃ = set s₂ (i + 4) m
 
-            four₂ : Four s₁ s₂ i a b k f
-            four₂ = four s₁ s₂ i a b k f (omega (arith, w .room)) e₂
+            five : s₃ ≡ sets s₁ i (a ∷ b ∷ k ∷ f ∷ m ∷ [])
+            five = rw e₂ (sym (sets-append (a ∷ b ∷ k ∷ f ∷ []) (m ∷ []) s₁ i))
 
-            last : getD s₃ (i + 4) 0 ≡ m
-            last = getD-set-same s₂ (i + 4) m 0 (omega (arith, w .room))
-
-            four-kept : Kept i (i + 4) s₂ s₃
-            four-kept = set-before s₂ (i + 4) m i (i + 4) (omega arith)
+            stands : Stored s₃ i (a ∷ b ∷ k ∷ f ∷ m ∷ [])
+            stands = rw five (stored-sets s₁ i (a ∷ b ∷ k ∷ f ∷ m ∷ []) (omega (arith, w .room)))
 
             -- the tables before this one, and all columns
             before : Kept 1 (tableStart n) s s₃
-            before = kept-on (kept-part 1 (tableStart n) (j .kept) (omega arith) (omega arith)) (kept-on (four-before 1 (tableStart n) four₂ (omega arith)) (set-before s₂ (i + 4) m 1 (tableStart n) (omega arith)))
+            before = kept-on (kept-part 1 (tableStart n) (j .kept) (omega arith) (omega arith)) (rw five (kept-sets-behind s₁ i (a ∷ b ∷ k ∷ f ∷ m ∷ []) 1 (tableStart n) (omega arith)))
 
             behind : (x : ℕ) → Kept 161 x s₁ s₃
-            behind x = kept-on (four-behind 161 x four₂ (omega arith)) (set-behind s₂ (i + 4) m 161 x (omega arith))
+            behind x = rw five (kept-sets s₁ i (a ∷ b ∷ k ∷ f ∷ m ∷ []) 161 x (omega arith))
 
             stored : (q : Bytes) → tableAt t q s₃ n ≡ record { name = wordAt t q a b; key = k; columns = columnsAt t q s₁ f m }
             unfolding tableAt
             stored q =
-                let d₀ = four-kept .same i (omega arith) (omega arith) ∙ four₂ .first in
-                let d₁ = four-kept .same (i + 1) (omega arith) (omega arith) ∙ four₂ .second in
-                let d₂ = four-kept .same (i + 2) (omega arith) (omega arith) ∙ four₂ .third in
-                let d₃ = four-kept .same (i + 3) (omega arith) (omega arith) ∙ four₂ .fourth in
-                rw (← ei, d₀, d₁, d₂, d₃, last, columns-kept t q (f + m) f m (behind (columnStart (f + m))) (omega arith))
+                let d₀ = stored-first stands in
+                let d₁ = stands .at 1 (omega arith) in
+                let d₂ = stands .at 2 (omega arith) in
+                let d₃ = stands .at 3 (omega arith) in
+                rw (← ei, d₀, d₁, d₂, d₃, stands .at 4 (omega arith), columns-kept t q (f + m) f m (behind (columnStart (f + m))) (omega arith))
 
             all-names : (q : Bytes) → wordAt t q a b .bytes ∷ names t s n ≡ names t s₃ (suc n)
             unfolding names
             all-names q =
-                let d₀ = four-kept .same i (omega arith) (omega arith) ∙ four₂ .first in
-                let d₁ = four-kept .same (i + 1) (omega arith) (omega arith) ∙ four₂ .second in
+                let d₀ = stored-first stands in
+                let d₁ = stands .at 1 (omega arith) in
                 rw (← ei, d₀, d₁, names-kept (w .ranges) before t n (omega arith), name-bytes q)
 
             all-ranges : Ranges s₃ (suc n) (f + m)
@@ -226,8 +227,8 @@ module _ {t : Bytes} {s : List ℕ} {p l n f : ℕ} (w : TableReady t s p l n f)
               where
                 this : (x : ℕ) → x ≡ n → getD s₃ (tableStart x + 3) 0 + getD s₃ (tableStart x + 4) 0 ≤ f + m
                 this x o =
-                    let d₃ = four-kept .same (i + 3) (omega arith) (omega arith) ∙ four₂ .fourth in
-                    rw (o, ← ei, d₃, last) (omega arith)
+                    let d₃ = stands .at 3 (omega arith) in
+                    rw (o, ← ei, d₃, stands .at 4 (omega arith)) (omega arith)
 
             pub table-read : TableRead t p l n f s s₃ (R.Done p′ l′ m)
             unfolding tablesFrom TableMoves

@@ -1,18 +1,20 @@
 // The catalog (schema.rs; engine.rs, Catalog): its text into numbers, and lookups in them.
 pub mod read;
 mod record;
+pub mod tables;
 
 ghost use mathlib.Core.Path.{_≡_};
 ghost use Prim.Native.Nat.{_<_, _^_};
-ghost use lib.ListN.{length, getD};
+ghost use lib.ListN.{length};
 ghost use Rattle.rules.specs.Lists.{Bytes};
 ghost use Rattle.rules.specs.Places.{bytesAt, wordAt};
 ghost use Rattle.rules.specs.Schema.{columnAt, defaultAt};
-ghost use Rattle.schema.specs.Layout.{defaultOf, tableAt, catalogAt};
+ghost use Rattle.numbers.specs.Values.{defaultOf};
+ghost use Rattle.schema.specs.Layout.{tableAt, catalogAt};
 ghost use Rattle.schema.specs.Search.{tableFrom, foundOf, foundTable, startOf, nameAt};
 use numbers::number;
 
-// How many numbers a catalog takes: how many tables, 32 tables of five numbers, 2,048 columns of eight.
+// The most numbers that a catalog takes: how many tables, 32 tables of five numbers, 2,048 columns of eight.
 pub const NUMBERS: usize = 16545;
 
 // Where the tables' numbers start, and how many each table has.

@@ -1,13 +1,11 @@
 // The catalog's text into numbers: a loop over the tables, and in each a loop over its columns.
 ghost use mathlib.Core.Path.{_≡_};
-ghost use mathlib.Core.List.{[], _∷_};
-ghost use Prim.Native.Nat.{_+_, _≤_};
+ghost use Prim.Native.Nat.{_≤_};
 ghost use lib.ListN.{length};
-ghost use lib.Seq.{sets};
 ghost use Rattle.rules.specs.Lists.{Bytes};
 ghost use Rattle.rules.specs.Limits.{mostBytes};
 ghost use Rattle.rules.specs.ReadCatalog.{readCatalog};
-ghost use Rattle.schema.specs.Layout.{numbers};
+ghost use Rattle.schema.specs.Room.{numbersFor};
 ghost use Rattle.schema.specs.Columns.{ColumnReady, ColumnRead};
 ghost use Rattle.schema.specs.ColumnRuns.{ColumnsRead};
 ghost use Rattle.schema.specs.Tables.{TableReady, TableRead};
@@ -31,6 +29,9 @@ const MOST_TABLES: u32 = 32;
 // Most columns a table.
 const MOST_TABLE_COLUMNS: u32 = 64;
 
+// The fewest bytes of a column with its default: `column x int null`, `null` and their LFs.
+const LEAST_COLUMN: usize = 23;
+
 // A catalog: read, or 2 or 3 at a line.
 pub enum Read {
     Done,
@@ -53,34 +54,34 @@ enum Run {
     Limit(u32),
 }
 
-// The column that stands at a position, the n-th of its table; the table's first is `first` of all.
+// The column that stands at a position, by its index in its table, whose first column is `first` of all.
 fn read_column(
     catalog: &[u8],
     tables: &mut [u32],
     at: usize,
     line: u32,
     first: usize,
-    n: u32,
+    index: u32,
 ) -> ColumnStep
-    requires { ⌜ ColumnReady (now catalog) (now tables) at line first n ⌝ }
-    ensures { λ r. ⌜ ColumnRead (now (catalog .entry)) at line first n (now (tables .entry)) (now (tables .exit)) r ⌝ }
+    requires { ⌜ ColumnReady (now catalog) (now tables) at line first index ⌝ }
+    ensures { λ r. ⌜ ColumnRead (now (catalog .entry)) at line first index (now (tables .entry)) (now (tables .exit)) r ⌝ }
 {
     let c = column_record(catalog, at);
     match c {
         ColumnRecord::Missing => ColumnStep::End,
         ColumnRecord::Wrong => ColumnStep::Wrong(line),
-        ColumnRecord::Column(a, m, k, u, e) => {
-            if MOST_TABLE_COLUMNS <= n {
+        ColumnRecord::Column(address, length, kind, nullable, end) => {
+            if MOST_TABLE_COLUMNS <= index {
                 return ColumnStep::Limit(line);
             }
-            let f = text::fields(catalog, e);
+            let f = text::fields(catalog, end);
             let next = f.next;
-            let d = default_record(catalog, e, f);
+            let d = default_record(catalog, end, f);
             let DefaultRecord::Default(x, y, z) = d else {
                 return ColumnStep::Wrong(line + 1);
             };
-            let i = COLUMNS + COLUMN_SIZE * (first + n as usize);
-            put_four(tables, i, a, m, k, u);
+            let i = COLUMNS + COLUMN_SIZE * (first + index as usize);
+            put_four(tables, i, address, length, kind, nullable);
             put_four(tables, i + 4, x, y, z, 0);
             ColumnStep::Column(next)
         }
@@ -116,28 +117,35 @@ fn read_columns(catalog: &[u8], tables: &mut [u32], at: usize, line: u32, first:
     }
 }
 
-// The table that stands at a position, behind n tables; its first column is `first` of all.
-fn read_table(catalog: &[u8], tables: &mut [u32], at: usize, line: u32, n: u32, first: usize) -> Run
-    requires { ⌜ TableReady (now catalog) (now tables) at line n first ⌝ }
-    ensures { λ r. ⌜ TableRead (now (catalog .entry)) at line n first (now (tables .entry)) (now (tables .exit)) r ⌝ }
+// The table that stands at a position, by its index; its first column is `first` of all.
+fn read_table(
+    catalog: &[u8],
+    tables: &mut [u32],
+    at: usize,
+    line: u32,
+    index: u32,
+    first: usize,
+) -> Run
+    requires { ⌜ TableReady (now catalog) (now tables) at line index first ⌝ }
+    ensures { λ r. ⌜ TableRead (now (catalog .entry)) at line index first (now (tables .entry)) (now (tables .exit)) r ⌝ }
 {
-    let h = table_record(catalog, tables, n, at);
-    let TableRecord::Table(a, m, k, e) = h else {
+    let h = table_record(catalog, tables, index, at);
+    let TableRecord::Table(address, length, key, end) = h else {
         return Run::Wrong(line);
     };
-    if MOST_TABLES <= n {
+    if MOST_TABLES <= index {
         return Run::Limit(line);
     }
-    let r = read_columns(catalog, tables, e, line + 1, first);
+    let r = read_columns(catalog, tables, end, line + 1, first);
     match r {
         Run::Wrong(x) => Run::Wrong(x),
         Run::Limit(x) => Run::Limit(x),
         Run::Done(p, l, count) => {
-            if count <= k {
+            if count <= key {
                 return Run::Wrong(line);
             }
-            let i = TABLES + TABLE_SIZE * (n as usize);
-            put_four(tables, i, a, m, k, first as u32);
+            let i = TABLES + TABLE_SIZE * (index as usize);
+            put_four(tables, i, address, length, key, first as u32);
             tables[i + 4] = count;
             Run::Done(p, l, count)
         }
@@ -146,7 +154,7 @@ fn read_table(catalog: &[u8], tables: &mut [u32], at: usize, line: u32, n: u32, 
 
 // All tables of a text that is not too long.
 fn read_tables(catalog: &[u8], tables: &mut [u32]) -> Read
-    requires { ⌜ (length (now catalog) ≤ mostBytes) × (length (now tables) ≡ numbers) ⌝ }
+    requires { ⌜ (length (now catalog) ≤ mostBytes) × (numbersFor (length (now catalog)) ≤ length (now tables)) ⌝ }
     ensures { λ r. ⌜ ((q : Bytes) → catalogOf (now (catalog .entry)) q (now (tables .exit)) r ≡ readCatalog (now (catalog .entry))) ⌝ }
 {
     let mut p: usize = 0;
@@ -174,8 +182,23 @@ fn read_tables(catalog: &[u8], tables: &mut [u32]) -> Read
     Read::Done
 }
 
-// The catalog from its text, whatever that is. Where it is refused the numbers mean nothing.
-pub fn read_catalog(catalog: &[u8], tables: &mut [u32; NUMBERS]) -> Read
+// Enough numbers for a catalog of 2,048 bytes.
+pub const SMALL_NUMBERS: usize = 873;
+
+// How many numbers are enough for the catalog of a text that has so many bytes.
+pub fn numbers_for(bytes: usize) -> usize
+    ensures { λ r. ⌜ r ≡ numbersFor bytes ⌝ }
+{
+    let enough = COLUMNS + COLUMN_SIZE * (bytes / LEAST_COLUMN);
+    if NUMBERS < enough {
+        return NUMBERS;
+    }
+    enough
+}
+
+// The catalog from its text, whatever that is, into enough numbers. Where it is refused the numbers mean nothing.
+pub fn read_catalog(catalog: &[u8], tables: &mut [u32]) -> Read
+    requires { ⌜ numbersFor (length (now catalog)) ≤ length (now tables) ⌝ }
     ensures { λ r. ⌜ ((q : Bytes) → catalogOf (now (catalog .entry)) q (now (tables .exit)) r ≡ catalogAnswer (now (catalog .entry))) ⌝ }
 {
     if (text::MOST_BYTES as usize) < catalog.len() {

@@ -1,20 +1,16 @@
 // One line of the catalog each: a table's record, a column's, a default's.
 ghost use mathlib.Core.Path.{_≡_};
-ghost use mathlib.Core.List.{[], _∷_};
-ghost use Prim.Native.Nat.{ℕ, _+_, _≤_, _%_, _/_};
-ghost use lib.ListN.{length};
+ghost use Prim.Native.Nat.{ℕ, _+_};
 ghost use Rattle.rules.specs.Lists.{Bytes, same, any};
 ghost use Rattle.rules.specs.Places.{bytesAt};
 ghost use Rattle.rules.specs.Refusals as refusals;
-ghost use Rattle.rules.specs.Limits.{mostBytes};
-ghost use Rattle.rules.specs.Reader.{baseAddress, lineHere, oneOf, apply, literals};
+ghost use Rattle.rules.specs.Reader.{lineHere, oneOf, literals};
 ghost use Rattle.rules.specs.ReadCatalog.{defaultRecords};
-ghost use Rattle.text.specs.Lines.{field, Fields};
-ghost use Rattle.text.specs.Words.{nth};
+ghost use Rattle.text.specs.Lines.{Fields};
 ghost use Rattle.schema.specs.Records.{Position, here, names, defaultSaid, ColumnLine, TableLine};
 use crate::TABLE_SIZE;
 use crate::TABLES;
-use literal::Bits;
+use literal::record::literal_at;
 use numbers::number;
 use text::Line;
 use text::Number;
@@ -119,70 +115,20 @@ pub fn table_record(catalog: &[u8], tables: &[u32], n: u32, at: usize) -> TableR
     TableRecord::Table(a, m, k as u32, f.next)
 }
 
-// 64 bits as two numbers, the low half first.
-fn halves(kind: u32, b: u64) -> DefaultRecord
-    ensures { λ r. ⌜ r ≡ DefaultRecord.Default kind (b % 4294967296) (b / 4294967296) ⌝ }
-{
-    DefaultRecord::Default(kind, (b % 4294967296) as u32, (b / 4294967296) as u32)
-}
-
-// A default of one field, which is the n bytes at a, by the number of its keyword.
-fn default_value(catalog: &[u8], k: usize, a: usize, n: usize) -> DefaultRecord
-    requires { ⌜ a + n ≤ mostBytes ⌝ }
-    ensures { λ r. ⌜ ((q : Bytes) → defaultSaid (now (catalog .entry)) q r ≡ apply (nth (defaultRecords literals) k) (field (baseAddress refusals.catalog) (now (catalog .entry)) a n ∷ [])) ⌝ }
-{
-    if k == 1 {
-        let b = text::which(b"t f ", catalog, a, n);
-        if b == 0 {
-            return DefaultRecord::Default(2, 1, 0);
-        }
-        if b == 1 {
-            return DefaultRecord::Default(2, 0, 0);
-        }
-        return DefaultRecord::Wrong;
-    }
-    if k == 2 {
-        let i = literal::int(catalog, a, n);
-        let Bits::Value(b) = i else {
-            return DefaultRecord::Wrong;
-        };
-        return halves(3, b);
-    }
-    if k == 3 {
-        let f = literal::float(catalog, a, n);
-        let Bits::Value(b) = f else {
-            return DefaultRecord::Wrong;
-        };
-        return halves(4, b);
-    }
-    if k == 4 {
-        return DefaultRecord::Default(5, a as u32, n as u32);
-    }
-    DefaultRecord::Wrong
-}
-
 // The default's record at a position, by its fields: a literal or `nodefault`.
 pub fn default_record(catalog: &[u8], at: usize, f: Line) -> DefaultRecord
     requires { ⌜ Position (now catalog) at ⌝ ∗ ⌜ Fields (now catalog) at f ⌝ }
     ensures { λ r. ⌜ ((q : Bytes) (l : ℕ) → defaultSaid (now (catalog .entry)) q r ≡ oneOf (defaultRecords literals) (lineHere (here (now (catalog .entry)) at l))) ⌝ }
 {
-    let k = text::which(
-        b"null bool int float text nodefault ",
-        catalog,
-        f.starts[0],
-        f.lens[0],
-    );
-    if f.count == 1 {
-        if k == 0 {
-            return DefaultRecord::Default(1, 0, 0);
+    if text::holds(catalog, f.starts[0], f.lens[0], b"nodefault") {
+        if f.count != 1 {
+            return DefaultRecord::Wrong;
         }
-        if k == 5 {
-            return DefaultRecord::Default(0, 0, 0);
-        }
+        return DefaultRecord::Default(0, 0, 0);
+    }
+    let v = literal_at(catalog, 0, at, f);
+    if v.kind == 0 {
         return DefaultRecord::Wrong;
     }
-    if f.count == 2 {
-        return default_value(catalog, k, f.starts[1], f.lens[1]);
-    }
-    DefaultRecord::Wrong
+    DefaultRecord::Default(v.kind, v.a, v.b)
 }

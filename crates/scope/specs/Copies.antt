@@ -1,12 +1,12 @@
 -- Labels stored one after another.
-use Prim.Native.Nat.{ℕ, suc, _+_, _<_}
+use Prim.Native.Nat.{ℕ, zero, suc, _+_, _≤_, _<_}
 use native.Mathlib.Omega.{arith}
 use native.Mathlib.Numerals.{add-one}
 use native.Mathlib.Nat.{add-zero}
-use mathlib.Core.Path.{_≡_, _∙_}
-use mathlib.Core.List.{List, [], _∷_, _++_, append-assoc, append-nil}
-use lib.ListN.{length, getD, take, set, length-set}
-use lib.Seq.{take-suc-set, take-suc}
+use mathlib.Core.Path.{_≡_, refl, ap, sym, _∙_}
+use mathlib.Core.List.{List, [], _∷_, _++_, map, append-assoc, append-nil}
+use lib.ListN.{length, getD, take, set, length-set, length-map}
+use lib.Seq.{take-suc-set, take-suc, take-all}
 use Rattle.rules.specs.Limits.{mostColumns}
 
 -- i of the labels xs are stored in ls behind the n of p
@@ -33,3 +33,21 @@ copying-more {p} {n} {xs} {i} {ls} k v t y h g e =
 pub copying-first : {xs : List ℕ} {j : ℕ} {ls : List ℕ} (v : ℕ) → Copying [] 0 xs j ls → j < mostColumns → j < length xs
     → v ≡ getD xs j 0 → Copying [] 0 xs (j + 1) (set ls j v)
 copying-first {xs} {j} {ls} v t h g e = copying-more j v t (omega arith) (omega arith) g e
+
+-- what f makes of each of the numbers xs
+getD-map : (f : ℕ → ℕ) (xs : List ℕ) (j : ℕ) → j < length xs → getD (map f xs) j 0 ≡ f (getD xs j 0)
+getD-map f [] j h = absurd (omega arith)
+getD-map f (x ∷ xs) zero h = refl
+getD-map f (x ∷ xs) (suc j) h = getD-map f xs j (omega arith)
+
+pub copying-map : (f : ℕ → ℕ) (xs : List ℕ) {j : ℕ} {ls : List ℕ} (v : ℕ) → Copying [] 0 (map f xs) j ls
+    → j < mostColumns → j < length xs → v ≡ f (getD xs j 0) → Copying [] 0 (map f xs) (j + 1) (set ls j v)
+copying-map f xs {j} {ls} v t h g e =
+    copying-first v t h (omega (arith, length-map xs f)) (e ∙ sym (getD-map f xs j g))
+
+-- all are stored
+pub stored : {xs : List ℕ} {j n w : ℕ} {ls : List ℕ} → Copying [] 0 xs j ls → w ≡ n → length xs ≡ n → j ≤ n → n ≤ j
+    → take w ls ≡ xs
+stored {xs} {j} {n} {w} {ls} k e l h g =
+    let z : w ≡ 0 + j = omega arith in
+    ap (λ i. take i ls) z ∙ k .labels ∙ take-all j xs (omega arith)

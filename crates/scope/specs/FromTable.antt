@@ -4,10 +4,10 @@ use native.Mathlib.Omega.{arith}
 use native.Mathlib.Numerals.{add-one}
 use mathlib.Core.Path.{_≡_, refl, ap, sym, _∙_}
 use mathlib.Core.List.{List, [], _∷_, _++_, map}
-use mathlib.Core.Option.{Option, none, some}
+use mathlib.Core.Option.{none, some}
 use lib.ListN.{length, getD, take, set, replicate, length-set}
 use lib.Seq.{take-suc-set, take-all}
-use Rattle.rules.specs.Limits.{mostColumns}
+use Rattle.rules.specs.Limits.{mostColumns, mostFromTables}
 use Rattle.rules.specs.Lists.{Bytes, entryAfter}
 use Rattle.rules.specs.Lines.{Word}
 use Rattle.rules.specs.Ast.{Expr}
@@ -17,11 +17,11 @@ use Rattle.rules.specs.Places.{wordAt}
 use Rattle.rules.specs.Scope as rules
 use Rattle.schema.specs.Layout.{tableAt}
 use Rattle.schema.specs.Search as schema
-use Rattle.scope.specs.Labels.{packed, Fits, slot-packed, label-packed}
+use Rattle.scope.specs.Labels.{packed, Fits, label-packed}
 use Rattle.scope.specs.Labels.{name-packed, nameAt, tablesOf, columnsOf, labelAt}
 use Rattle.scope.specs.Labels.{map-append, columns-append}
 use Rattle.scope.specs.Slots.{Below, none, below-append, below-one}
-use Rattle.scope.specs.Scopes.{scopeOf, Valid, Plain, plainScope, plain-scope}
+use Rattle.scope.specs.Scopes.{scopeOf, Valid, Plain, plain-scope}
 use Rattle.scope.specs.declared.Scope.{Scope}
 
 -- a table as catalogs have them: a scope has room for its columns, a label for each of their names
@@ -96,22 +96,22 @@ storing-more {s} {i} {j} {xs} {k} a n v t h ek g en ev =
         (sym (map-append (λ (x : Column). qualified (nameAt c q w) (x .name)) (take j (tableAt c q s i .columns))
         (x .column ∷ [])))
 
-zeros : (n k : ℕ) → _≡_ {A = ℕ} (getD (replicate n 0) k 0) 0
+pub zeros : (n k : ℕ) → _≡_ {A = ℕ} (getD (replicate n 0) k 0) 0
 zeros zero k = refl
 zeros (suc n) zero = refl
 zeros (suc n) (suc k) = zeros n k
 
 -- all labels are stored
-pub storing-end : {s : List ℕ} {i j k w a n v : ℕ} {xs : List ℕ} (ts : List ℕ) → length (v ∷ ts) ≡ 16
-    → Storing s i j xs → ((c q : Bytes) → k ≡ length (tableAt c q s i .columns)) → w ≡ min k 256 → j ≤ w → w ≤ j
+pub storing-end : {s : List ℕ} {i j k w a n v : ℕ} {xs : List ℕ} (ts : List ℕ) → length (v ∷ ts) ≡ mostFromTables
+    → Storing s i j xs → ((c q : Bytes) → k ≡ length (tableAt c q s i .columns)) → w ≡ min k mostColumns → j ≤ w → w ≤ j
     → v ≡ packed 0 a n
     → FromTable s i a n
-    (record { labels = xs; matches = replicate 256 0; tables = v ∷ ts; width = w; count = 1; hidden = 0 })
+    (record { labels = xs; matches = replicate mostColumns 0; tables = v ∷ ts; width = w; count = 1; hidden = 0 })
 unfolding rules.fromTable tablesOf labelled
 storing-end {s} {i} {j} {k} {w} {a} {n} {v} {xs} ts z t ek ew l m ev =
     let r : Scope =
-    record { labels = xs; matches = replicate 256 0; tables = v ∷ ts; width = w; count = 1; hidden = 0 } in
-    let p : Plain r = record { unmatched = zeros 256; shown = refl } in
+    record { labels = xs; matches = replicate mostColumns 0; tables = v ∷ ts; width = w; count = 1; hidden = 0 } in
+    let p : Plain r = record { unmatched = zeros mostColumns; shown = refl } in
     let ej : j ≡ w = omega arith in
     record {
       valid = record {

@@ -1,193 +1,194 @@
--- Hidden columns: one passed on behind the others, and the remap that drops them.
-use Prim.Native.Nat.{ℕ, zero, suc, _+_, _-_, _≤_, _<_}
+-- Hidden columns: one passed on behind the others.
+use Prim.Native.Nat.{ℕ, zero, suc, _+_, _-_, _≤_, _<_, min}
 use native.Mathlib.Omega.{arith}
 use native.Mathlib.Numerals.{add-one}
 use mathlib.Core.Path.{_≡_, refl, ap, sym, _∙_}
-use mathlib.Core.Bool.{Bool, true, false, _||_}
+use mathlib.Core.Bool.{true}
 use mathlib.Core.List.{List, [], _∷_, _++_}
-use mathlib.Core.Option.{Option, none, some}
-use lib.Dec.{eqb}
 use lib.ListN.{length, getD, take, set, length-set}
-use lib.Seq.{take-suc-set, length-take-le}
-use borrow.Author.Tests.{ne-eqb, eqb-false}
+use lib.Seq.{take-suc-set, length-take-le, getD-take}
+use borrow.Author.Tests.{eq-eqb, ne-eqb}
 use Rattle.rules.specs.Limits.{mostColumns}
-use Rattle.rules.specs.Lists.{Bytes, any, isEmpty}
+use Rattle.rules.specs.Lines.{Word}
 use Rattle.rules.specs.Ast.{Expr}
 use Rattle.rules.specs.Plan.{Label, nameless}
 use Rattle.rules.specs.Scope as rules
-use Rattle.rules.specs.Scope.{addPassthrough, addMatches, addColumn, hide, targetsFrom, remapHidden}
-use Rattle.rules.specs.BuildFrom.{rising}
-use Rattle.scope.specs.Labels.{slotOf, labelAt, columnsOf, columns-append, columns-length}
-use Rattle.scope.specs.Slots.{below-append, below-one}
+use Rattle.rules.specs.Scope.{addPassthrough, addMatches, addMatch, addColumn, hide, foundLabel}
+use Rattle.ast.specs.Table.{treeAt}
+use Rattle.scope.specs.Labels.{slotOf, labelAt, columnsOf, tablesOf, columns-append, columns-length}
+use Rattle.scope.specs.Slots.{below-append, below-one, below-at}
 use Rattle.scope.specs.Scopes.{matchesOf, upTo, scopeFrom, scopeOf, Valid, labelsOf, tableNumbers}
 use Rattle.scope.specs.AddColumn.{no-match}
+use Rattle.scope.specs.Project.{label-found}
+use Rattle.scope.specs.NewMatch.{mostRow, passMatch, row-kept, add-new}
 use Rattle.scope.specs.declared.Scope.{Scope}
 
 -- there is room for the label x, of one of the scope's tables or of none
-pub record HiddenFits (s : Scope) (x : ℕ) : Type 0 where
+pub record HiddenFits (s : Scope) (t : List ℕ) (x : ℕ) : Type 0 where
   pub valid : Valid s
   pub room : s .width < mostColumns
   pub slot : slotOf x ≤ s .count
   pub hidden : s .hidden ≤ s .width
+  pub table : length t ≤ mostRow
 
--- the parent's i-th column, whose label x is, passed on hidden, where nothing is matched in the parent
-pub record HiddenAdded (s : Scope) (x : ℕ) (r : Scope) : Type 0 where
+-- the parent's i-th column, whose label x is and to which m is matched, passed on hidden
+pub record HiddenAdded (c q t : List ℕ) (s : Scope) (x m : ℕ) (r : Scope) : Type 0 where
   pub valid : Valid r
-  pub hidden : r .hidden ≤ r .width
-  pub is : (e : ℕ → Expr) (c q : Bytes) (parent : rules.Scope) (i : ℕ) → parent .aggregates ≡ []
-      → getD (parent .columns) i nameless ≡ labelAt c q (tableNumbers s) x
-      → scopeOf e c q r ≡ addPassthrough parent i true (scopeOf e c q s)
+  pub width : r .width ≡ s .width + 1
+  pub count : r .count ≡ s .count
+  pub tables : r .tables ≡ s .tables
+  pub hidden : r .hidden ≡ s .hidden + 1
+  pub is : (parent : rules.Scope) (ms : List ℕ) (i : ℕ) → parent .aggregates ≡ matchesOf (treeAt c q t) 0 ms
+      → getD ms i 0 ≡ m → getD (parent .columns) i nameless ≡ labelAt c q (tableNumbers s) x
+      → scopeOf (treeAt c q t) c q r ≡ addPassthrough parent i true (scopeOf (treeAt c q t) c q s)
+
+-- THE RULES
+-- the matches of a column passed on are its own
+passOne : (ℕ → Expr) → ℕ → ℕ → rules.Scope → rules.Scope
+passOne e zero w s = s
+passOne e (suc r) w s = addMatch (e r) w s
+
+pass-past : (e : ℕ → Expr) (i w : ℕ) (s : rules.Scope) (k : ℕ) (ms : List ℕ) → i < k
+    → addMatches (matchesOf e k ms) i w s ≡ s
+unfolding addMatches matchesOf
+pass-past e i w s k [] h = refl
+pass-past e i w s k (zero ∷ ms) h = pass-past e i w s (suc k) ms (omega arith)
+pass-past e i w s k (suc r ∷ ms) h =
+    rw (addMatches, ne-eqb k i (λ z. omega (arith, z))) (pass-past e i w s (suc k) ms (omega arith))
+
+pass-own : (e : ℕ → Expr) (i w : ℕ) (s : rules.Scope) (k : ℕ) (ms : List ℕ)
+    → addMatches (matchesOf e k ms) (k + i) w s ≡ passOne e (getD ms i 0) w s
+unfolding addMatches matchesOf passOne
+pass-own e i w s k [] = refl
+pass-own e zero w s k (zero ∷ ms) = pass-past e (k + 0) w s (suc k) ms (omega arith)
+pass-own e zero w s k (suc r ∷ ms) =
+    let z : k ≡ k + 0 = omega arith in
+    rw (addMatches, eq-eqb k (k + 0) z) (pass-past e (k + 0) w (addMatch (e r) w s) (suc k) ms (omega arith))
+pass-own e (suc i) w s k (zero ∷ ms) =
+    let z : k + suc i ≡ suc k + i = omega arith in
+    rw z (pass-own e i w s (suc k) ms)
+pass-own e (suc i) w s k (suc r ∷ ms) =
+    let z : k + suc i ≡ suc k + i = omega arith in
+    let y : addMatches (matchesOf e k (suc r ∷ ms)) (k + suc i) w s ≡ addMatches (matchesOf e (suc k) ms) (k + suc i) w s =
+    rw (addMatches, ne-eqb k (k + suc i) (λ x. omega (arith, x))) in
+    y ∙ ap (λ j. addMatches (matchesOf e (suc k) ms) j w s) z ∙ pass-own e i w s (suc k) ms
+
+pass-new : (e : ℕ → Expr) (ms : List ℕ) (m : ℕ) (cs : List Label) (ts : List Word) (hs : List ℕ)
+    → ((r : ℕ) → e (min r mostRow) ≡ e r)
+    → passOne e m (length ms) (record { columns = cs; tables = ts; aggregates = matchesOf e 0 ms; hidden = hs })
+    ≡ record { columns = cs; tables = ts; aggregates = matchesOf e 0 (ms ++ (passMatch e ms m ∷ [])); hidden = hs }
+unfolding passOne passMatch
+pass-new e ms zero cs ts hs h = rw (no-match e 0 ms)
+pass-new e ms (suc r) cs ts hs h = add-new e ms r cs ts hs (h r)
+
+passed-hidden : (e : ℕ → Expr) (parent : rules.Scope) (ns : List ℕ) (i : ℕ) (l : Label) (ms : List ℕ) (cs : List Label)
+    (ts : List Word) (hs : List ℕ) → ((r : ℕ) → e (min r mostRow) ≡ e r) → parent .aggregates ≡ matchesOf e 0 ns
+    → getD (parent .columns) i nameless ≡ l → length cs ≡ length ms
+    → addPassthrough parent i true (record { columns = cs; tables = ts; aggregates = matchesOf e 0 ms; hidden = hs })
+    ≡ record {
+      columns = cs ++ (l ∷ []);
+      tables = ts;
+      aggregates = matchesOf e 0 (ms ++ (passMatch e ms (getD ns i 0) ∷ []));
+      hidden = hs ++ (length ms ∷ []);
+    }
+unfolding addPassthrough addColumn hide rules.width
+passed-hidden e parent ns i l ms cs ts hs k a d n =
+    let s : rules.Scope =
+    record { columns = cs ++ (l ∷ []); tables = ts; aggregates = matchesOf e 0 ms; hidden = hs } in
+    let z : 0 + i ≡ i = omega arith in
+    let y : addMatches (matchesOf e 0 ns) i (length ms) s ≡ passOne e (getD ns i 0) (length ms) s =
+    rw z at (pass-own e i (length ms) s 0 ns) in
+    rw (addPassthrough, a, d, n)
+    (ap (hide true (length ms)) (y ∙ pass-new e ms (getD ns i 0) (cs ++ (l ∷ [])) ts hs k))
 
 up-more : (i n : ℕ) → upTo i (suc n) ≡ upTo i n ++ ((i + n) ∷ [])
 unfolding upTo
 up-more i zero = let e : i + 0 ≡ i = omega arith in rw e
 up-more i (suc n) = let e : i + suc n ≡ suc i + n = omega arith in rw e (ap (λ l. i ∷ l) (up-more (suc i) n))
 
-passed-hidden : (parent s : rules.Scope) (i : ℕ) (l : Label) → parent .aggregates ≡ []
-    → getD (parent .columns) i nameless ≡ l → addPassthrough parent i true s ≡ record {
-      columns = s .columns ++ (l ∷ []);
-      tables = s .tables;
-      aggregates = s .aggregates;
-      hidden = s .hidden ++ (rules.width s ∷ []);
-    }
-unfolding addPassthrough addMatches addColumn hide any
-passed-hidden parent s i l a e = rw (addPassthrough, a, e)
-
-pub hidden-added : {s : Scope} {x : ℕ} (r : Scope) → HiddenFits s x → r .labels ≡ set (s .labels) (s .width) x
-    → r .matches ≡ set (s .matches) (s .width) 0 → r .tables ≡ s .tables → r .width ≡ s .width + 1 → r .count ≡ s .count
-    → r .hidden ≡ s .hidden + 1 → HiddenAdded s x r
+pub hidden-added : (c q t : List ℕ) {s : Scope} {x m : ℕ} (r : Scope) → HiddenFits s t x
+    → r .labels ≡ set (s .labels) (s .width) x
+    → r .matches ≡ set (s .matches) (s .width) (passMatch (treeAt c q t) (take (s .width) (s .matches)) m)
+    → r .tables ≡ s .tables → r .width ≡ s .width + 1 → r .count ≡ s .count → r .hidden ≡ s .hidden + 1
+    → HiddenAdded c q t s x m r
 unfolding scopeOf scopeFrom rules.width columnsOf
-hidden-added {s} {x} r f el em et ew ec eh =
+hidden-added c q t {s} {x} {m} r f el em et ew ec eh =
+    let e : ℕ → Expr = treeAt c q t in
+    let ns : List ℕ = take (s .width) (s .matches) in
+    let v : ℕ = passMatch e ns m in
     let w : r .width ≡ suc (s .width) = ew ∙ add-one (s .width) in
     let h : r .hidden ≡ suc (s .hidden) = eh ∙ add-one (s .hidden) in
     let ll : s .width < length (s .labels) = omega (arith, f .valid .labels-room, f .room) in
     let lm : s .width < length (s .matches) = omega (arith, f .valid .matches-room, f .room) in
     let xs : labelsOf r ≡ labelsOf s ++ (x ∷ []) = rw (w, el) (take-suc-set (s .labels) (s .width) x ll) in
-    let ms : take (r .width) (r .matches) ≡ take (s .width) (s .matches) ++ (0 ∷ []) =
-    rw (w, em) (take-suc-set (s .matches) (s .width) 0 lm) in
+    let ms : take (r .width) (r .matches) ≡ ns ++ (v ∷ []) = rw (w, em) (take-suc-set (s .matches) (s .width) v lm) in
     let ts : tableNumbers r ≡ tableNumbers s = rw (ec, et) in
     let n : length (labelsOf s) ≡ s .width = length-take-le (s .width) (s .labels) (omega arith) in
+    let nm : length ns ≡ s .width = length-take-le (s .width) (s .matches) (omega arith) in
     let n′ : length (labelsOf r) ≡ r .width = length-take-le (r .width) (r .labels)
     (rw (el, length-set (s .labels) (s .width) x) (omega arith)) in
     let k : length (labelsOf r) - suc (s .hidden) ≡ s .width - s .hidden = omega (arith, n′, w) in
     let hs : upTo (length (labelsOf r) - r .hidden) (r .hidden)
-    ≡ upTo (length (labelsOf s) - s .hidden) (s .hidden) ++ (s .width ∷ []) =
-    let z : s .width - s .hidden + s .hidden ≡ s .width = omega (arith, f .hidden) in
+    ≡ upTo (length (labelsOf s) - s .hidden) (s .hidden) ++ (length ns ∷ []) =
+    let z : s .width - s .hidden + s .hidden ≡ length ns = omega (arith, f .hidden, nm) in
     rw (h, k, n) (up-more (s .width - s .hidden) (s .hidden) ∙ rw z) in
+    let cs : columnsOf c q (tableNumbers s) (labelsOf s ++ (x ∷ []))
+    ≡ columnsOf c q (tableNumbers s) (labelsOf s) ++ (labelAt c q (tableNumbers s) x ∷ []) =
+    columns-append c q (tableNumbers s) (labelsOf s) (x ∷ []) in
+    let nc : length (columnsOf c q (tableNumbers s) (labelsOf s)) ≡ length ns =
+    columns-length c q (tableNumbers s) (labelsOf s) ∙ n ∙ sym nm in
     record {
       valid = record {
         width = omega (arith, f .room);
         tables = rw ec (f .valid .tables);
         slots = rw (xs, ec) (below-append (f .valid .slots) (below-one (f .slot)));
         labels-room = ap length el ∙ length-set (s .labels) (s .width) x ∙ f .valid .labels-room;
-        matches-room = ap length em ∙ length-set (s .matches) (s .width) 0 ∙ f .valid .matches-room;
+        matches-room = ap length em ∙ length-set (s .matches) (s .width) v ∙ f .valid .matches-room;
         tables-room = ap length et ∙ f .valid .tables-room;
       };
-      hidden = omega (arith, f .hidden, ew, eh);
-      is = λ e c q parent i a d.
-          whole e c q hs xs ms ts n
-          ∙ sym (passed-hidden parent (scopeOf e c q s) i (labelAt c q (tableNumbers s) x) a d);
+      width = ew;
+      count = ec;
+      tables = et;
+      hidden = eh;
+      is = λ parent ps i a b d.
+          whole hs xs ms ts cs
+          ∙ sym (passed-hidden e parent ps i (labelAt c q (tableNumbers s) x) ns
+          (columnsOf c q (tableNumbers s) (labelsOf s)) (tablesOf c q (tableNumbers s))
+          (upTo (length (labelsOf s) - s .hidden) (s .hidden)) (λ j. row-kept c q t j (f .table)) a d nc
+          ∙ rw b);
     }
   where
-    whole : (e : ℕ → Expr) (c q : Bytes)
-        → upTo (length (labelsOf r) - r .hidden) (r .hidden)
-        ≡ upTo (length (labelsOf s) - s .hidden) (s .hidden) ++ (s .width ∷ [])
+    whole : {hs : List ℕ} → upTo (length (labelsOf r) - r .hidden) (r .hidden) ≡ hs
         → labelsOf r ≡ labelsOf s ++ (x ∷ [])
-        → take (r .width) (r .matches) ≡ take (s .width) (s .matches) ++ (0 ∷ []) → tableNumbers r ≡ tableNumbers s
-        → length (labelsOf s) ≡ s .width
-        → scopeOf e c q r ≡ record {
-          columns = scopeOf e c q s .columns ++ (labelAt c q (tableNumbers s) x ∷ []);
-          tables = scopeOf e c q s .tables;
-          aggregates = scopeOf e c q s .aggregates;
-          hidden = scopeOf e c q s .hidden ++ (rules.width (scopeOf e c q s) ∷ []);
+        → take (r .width) (r .matches)
+        ≡ take (s .width) (s .matches) ++ (passMatch (treeAt c q t) (take (s .width) (s .matches)) m ∷ [])
+        → tableNumbers r ≡ tableNumbers s
+        → columnsOf c q (tableNumbers s) (labelsOf s ++ (x ∷ []))
+        ≡ columnsOf c q (tableNumbers s) (labelsOf s) ++ (labelAt c q (tableNumbers s) x ∷ [])
+        → scopeOf (treeAt c q t) c q r ≡ record {
+          columns = columnsOf c q (tableNumbers s) (labelsOf s) ++ (labelAt c q (tableNumbers s) x ∷ []);
+          tables = tablesOf c q (tableNumbers s);
+          aggregates = matchesOf (treeAt c q t) 0
+              (take (s .width) (s .matches)
+              ++ (passMatch (treeAt c q t) (take (s .width) (s .matches)) m ∷ []));
+          hidden = hs;
         }
-    whole e c q hs xs ms ts n =
-        let cs : columnsOf c q (tableNumbers s) (labelsOf s ++ (x ∷ []))
-        ≡ columnsOf c q (tableNumbers s) (labelsOf s) ++ (labelAt c q (tableNumbers s) x ∷ []) =
-        columns-append c q (tableNumbers s) (labelsOf s) (x ∷ []) in
-        let v : length (columnsOf c q (tableNumbers s) (labelsOf s)) ≡ s .width =
-        columns-length c q (tableNumbers s) (labelsOf s) ∙ n in
-        rw (hs, xs, ms, ts, no-match e 0 (take (s .width) (s .matches)), cs, v)
+    whole hs xs ms ts cs = rw (hs, xs, ms, ts, cs)
 
--- THE REMAP THAT DROPS THEM
-unfoldable pub nones : ℕ → List (Option ℕ)
-nones zero = []
-nones (suc n) = none ∷ nones n
+-- A COLUMN OF A SCOPE
+-- its label is of one of the scope's tables, or of none
+pub own-slot : (p : Scope) (i : ℕ) → Valid p → i < p .width → slotOf (getD (p .labels) i 0) ≤ p .count
+own-slot p i v h = rw (getD-take (p .width) (p .labels) i 0 h) at (below-at i (v .slots))
 
--- the targets for a width w, h of it hidden; none where nothing is
-unfoldable pub hiddenTargets : ℕ → ℕ → Option (List (Option ℕ))
-hiddenTargets w zero = none
-hiddenTargets w (suc h) = some (rising 0 (w - suc h) ++ nones (suc h))
-
-among-below : (i k h : ℕ) → i < k → any (eqb i) (upTo k h) ≡ false
-unfolding any upTo
-among-below i k zero l = refl
-among-below i k (suc h) l = rw (any, ne-eqb i k (λ e. omega (arith, e))) (among-below i (suc k) h (omega arith))
-
-among-in : (i k h : ℕ) → k ≤ i → i < k + h → any (eqb i) (upTo k h) ≡ true
-unfolding any upTo
-among-in i k zero l m = absurd (omega arith)
-among-in i k (suc h) l m = go (eqb i k) refl (λ z. among-in i (suc k) h (omega arith) (omega arith))
-  where
-    go : (b : Bool) → eqb i k ≡ b → ((i ≡ k → ⊥) → any (eqb i) (upTo (suc k) h) ≡ true)
-        → any (eqb i) (k ∷ upTo (suc k) h) ≡ true
-    go true e f = rw (any, e)
-    go false e f = rw (any, e) (f (eqb-false i k e))
-
-targets-hidden : (hs : List ℕ) (n i t : ℕ) → ((j : ℕ) → i ≤ j → j < i + n → any (eqb j) hs ≡ true)
-    → targetsFrom hs n i t ≡ nones n
-unfolding targetsFrom nones
-targets-hidden hs zero i t f = refl
-targets-hidden hs (suc n) i t f =
-    rw (targetsFrom, f i (omega arith) (omega arith))
-    (ap (λ l. none ∷ l) (targets-hidden hs n (suc i) t (λ j l m. f j (omega arith) (omega arith))))
-
-targets-shown : (hs : List ℕ) (m n i t : ℕ) → ((j : ℕ) → i ≤ j → j < i + m → any (eqb j) hs ≡ false)
-    → targetsFrom hs (m + n) i t ≡ rising t m ++ targetsFrom hs n (i + m) (t + m)
-unfolding targetsFrom rising
-targets-shown hs zero n i t f =
-    let a : i + 0 ≡ i = omega arith in
-    let b : t + 0 ≡ t = omega arith in
-    let z : 0 + n ≡ n = omega arith in
-    rw (a, b, z)
-targets-shown hs (suc m) n i t f =
-    let a : i + suc m ≡ suc i + m = omega arith in
-    let b : t + suc m ≡ suc t + m = omega arith in
-    let z : suc m + n ≡ suc (m + n) = omega arith in
-    let g : any (eqb i) hs ≡ false = f i (omega arith) (omega arith) in
-    rw (a, b, z, targetsFrom, g, add-one t)
-    (ap (λ l. some t ∷ l) (targets-shown hs m n (suc i) (suc t) (λ j l k. f j (omega arith) (omega arith))))
-
-targets-both : (k h : ℕ) → targetsFrom (upTo k h) (k + h) 0 0 ≡ rising 0 k ++ nones h
-targets-both k h =
-    targets-shown (upTo k h) k h 0 0 (λ j l m. among-below j k h (omega arith))
-    ∙ ap (λ l. rising 0 k ++ l)
-    (targets-hidden (upTo k h) h (0 + k) (0 + k) (λ j l m. among-in j k h (omega arith) (omega arith)))
-
--- the targets for n columns of which hs are hidden
-targetsFor : List ℕ → ℕ → Option (List (Option ℕ))
-targetsFor hs n = elim (isEmpty hs) [ true ↦ none | false ↦ some (targetsFrom hs n 0 0) ]
-
-targets-for : (w h : ℕ) → h ≤ w → targetsFor (upTo (w - h) h) w ≡ hiddenTargets w h
-unfolding targetsFor hiddenTargets upTo isEmpty
-targets-for w zero l = refl
-targets-for w (suc h) l =
-    let z : w ≡ w - suc h + suc h = omega arith in
-    let t : targetsFrom (upTo (w - suc h) (suc h)) w 0 0 ≡ rising 0 (w - suc h) ++ nones (suc h) =
-    rw (← z) at (targets-both (w - suc h) (suc h)) in
-    ap some t
-
-hidden-targets : (s : rules.Scope) (w h : ℕ) → h ≤ w → rules.width s ≡ w → s .hidden ≡ upTo (w - h) h
-    → remapHidden s ≡ hiddenTargets w h
-unfolding remapHidden targetsFor
-hidden-targets s w h l ew e =
-    ap (λ hs. targetsFor hs (rules.width s)) e ∙ ap (targetsFor (upTo (w - h) h)) ew ∙ targets-for w h l
-
-pub remap-hidden : (e : ℕ → Expr) (c q : Bytes) (s : Scope) → Valid s → s .hidden ≤ s .width
-    → remapHidden (scopeOf e c q s) ≡ hiddenTargets (s .width) (s .hidden)
-unfolding scopeOf scopeFrom rules.width
-remap-hidden e c q s v h =
-    let n : length (labelsOf s) ≡ s .width =
-    length-take-le (s .width) (s .labels) (omega (arith, v .width, v .labels-room)) in
-    let w : rules.width (scopeOf e c q s) ≡ s .width = columns-length c q (tableNumbers s) (labelsOf s) ∙ n in
-    hidden-targets (scopeOf e c q s) (s .width) (s .hidden) h w (rw n)
+-- the i-th column of the scope p, over the same tables
+pub hidden-passed : {c q t : List ℕ} {s : Scope} {x m : ℕ} {r : Scope} (p : Scope) (i : ℕ) → HiddenAdded c q t s x m r
+    → tableNumbers s ≡ tableNumbers p → i < p .width → x ≡ getD (p .labels) i 0 → m ≡ getD (p .matches) i 0
+    → scopeOf (treeAt c q t) c q r
+    ≡ addPassthrough (scopeOf (treeAt c q t) c q p) i true (scopeOf (treeAt c q t) c q s)
+unfolding scopeOf scopeFrom foundLabel
+hidden-passed {c} {q} {t} {s} {x} {m} p i a ts h ex em =
+    let ms : List ℕ = take (p .width) (p .matches) in
+    let l : getD (columnsOf c q (tableNumbers p) (labelsOf p)) i nameless ≡ labelAt c q (tableNumbers s) x =
+    label-found (treeAt c q t) c q (labelsOf p) ms (tableNumbers p) (p .hidden) i
+    ∙ rw (getD-take (p .width) (p .labels) i 0 h, ← ex, ← ts) in
+    a .is (scopeOf (treeAt c q t) c q p) ms i refl (getD-take (p .width) (p .matches) i 0 h ∙ sym em) l

@@ -2,7 +2,7 @@
 -- times 2^7, its name's length. A column without a name is 0. A table's name is such a number with no table.
 use Prim.Native.Nat.{ℕ, zero, suc, _+_, _-_, _*_, _/_, _%_, _≤_, _<_, min}
 use native.Mathlib.Omega.{arith}
-use mathlib.Core.Path.{_≡_, refl, ap, sym, _∙_}
+use mathlib.Core.Path.{_≡_, refl, ap, _∙_}
 use mathlib.Core.Bool.{Bool, true, false}
 use mathlib.Core.List.{List, [], _∷_, _++_, map}
 use lib.Dec.{eqb, ltb}
@@ -27,6 +27,16 @@ addressUnit = 128
 abbrev pub addresses : ℕ
 addresses = 131072
 
+-- the last address, the most bytes of a name, and how many slots a number has room for
+abbrev pub lastAddress : ℕ
+lastAddress = addresses - 1
+
+abbrev pub mostLength : ℕ
+mostLength = addressUnit - 1
+
+abbrev pub slotCount : ℕ
+slotCount = 256
+
 abbrev pub slotOf : ℕ → ℕ
 slotOf x = x / slotUnit
 
@@ -38,10 +48,14 @@ lengthOf x = x % addressUnit
 
 -- an address and a length, each at most what there is room for
 abbrev pub packed : ℕ → ℕ → ℕ → ℕ
-packed s a n = s * slotUnit + min a 131071 * addressUnit + min n 127
+packed s a n = s * slotUnit + min a lastAddress * addressUnit + min n mostLength
 
 pub slot-packed : (s a n : ℕ) → slotOf (packed s a n) ≡ s
 slot-packed s a n = omega arith
+
+-- how many labels a slice may have for their positions to be numbers of 32 bits
+abbrev pub positionCount : ℕ
+positionCount = 4294967296
 
 -- LABELS
 -- the name of a number
@@ -69,32 +83,32 @@ pub record Fits (w : Word) : Type 0 where
   pub start : w .start < addresses
   pub size : length (w .bytes) < addressUnit
 
-cut-bytes : (l : Bytes) (n : ℕ) → length (take n l) < addressUnit → take (min n 127) l ≡ take n l
+cut-bytes : (l : Bytes) (n : ℕ) → length (take n l) < addressUnit → take (min n mostLength) l ≡ take n l
 cut-bytes l n h = go (ltb n addressUnit) refl
   where
-    go : (b : Bool) → ltb n addressUnit ≡ b → take (min n 127) l ≡ take n l
+    go : (b : Bool) → ltb n addressUnit ≡ b → take (min n mostLength) l ≡ take n l
     go true e =
         let k : n < addressUnit = ltb-true _ _ e in
-        let z : min n 127 ≡ n = omega arith in
+        let z : min n mostLength ≡ n = omega arith in
         rw z
     go false e =
         let k : addressUnit ≤ n = ltb-false _ _ e in
-        let z : min n 127 ≡ 127 = omega arith in
+        let z : min n mostLength ≡ mostLength = omega arith in
         let y : length l < addressUnit = omega (arith, length-take n l) in
-        rw (z, take-all n l (omega arith)) (take-all 127 l (omega arith))
+        rw (z, take-all n l (omega arith)) (take-all mostLength l (omega arith))
 
 cut-bytes-at : (c q : Bytes) (a n : ℕ) → length (bytesAt c q a n) < addressUnit
-    → bytesAt c q a (min n 127) ≡ bytesAt c q a n
+    → bytesAt c q a (min n mostLength) ≡ bytesAt c q a n
 cut-bytes-at c q a n h = go (ltb a mostBytes) refl
   where
-    go : (b : Bool) → ltb a mostBytes ≡ b → bytesAt c q a (min n 127) ≡ bytesAt c q a n
+    go : (b : Bool) → ltb a mostBytes ≡ b → bytesAt c q a (min n mostLength) ≡ bytesAt c q a n
     go true e =
         let l : a < mostBytes = ltb-true _ _ e in
-        rw (bytes-catalog c q a n l, bytes-catalog c q a (min n 127) l)
+        rw (bytes-catalog c q a n l, bytes-catalog c q a (min n mostLength) l)
         (cut-bytes (drop a c) n (rw (bytes-catalog c q a n l) at h))
     go false e =
         let l : mostBytes ≤ a = ltb-false _ _ e in
-        rw (bytes-statement c q a n l, bytes-statement c q a (min n 127) l)
+        rw (bytes-statement c q a n l, bytes-statement c q a (min n mostLength) l)
         (cut-bytes (drop (a - mostBytes) q) n (rw (bytes-statement c q a n l) at h))
 
 -- packing loses nothing of a word that fits
@@ -102,7 +116,7 @@ pub name-packed : (c q : Bytes) (s a n : ℕ) → Fits (wordAt c q a n) → name
 unfolding nameAt wordAt
 name-packed c q s a n h =
     let ea : addressOf (packed s a n) ≡ a = omega (arith, h .start) in
-    let en : lengthOf (packed s a n) ≡ min n 127 = omega arith in
+    let en : lengthOf (packed s a n) ≡ min n mostLength = omega arith in
     rw (ea, en, cut-bytes-at c q a n (h .size))
 
 -- LABELS BY THEIR SLOT

@@ -1,17 +1,17 @@
 -- Two scopes merged: the other's labels and tables behind one's own.
-use Prim.Native.Nat.{ℕ, zero, suc, _+_, _-_, _≤_, _<_}
+use Prim.Native.Nat.{ℕ, suc, _+_, _-_, _≤_, _<_}
 use native.Mathlib.Omega.{arith}
 use native.Mathlib.Numerals.{add-one}
 use native.Mathlib.Nat.{add-zero}
-use mathlib.Core.Path.{_≡_, refl, ap, sym, _∙_}
+use mathlib.Core.Path.{_≡_, refl, ap, _∙_}
 use mathlib.Core.List.{List, [], _∷_, _++_, map, append-assoc, append-nil}
-use lib.ListN.{length, getD, take, drop, set, length-set}
+use lib.ListN.{length, getD, take, set, length-set}
 use lib.Seq.{take-suc-set, take-suc, length-take-le, getD-take}
 use Rattle.rules.specs.Limits.{mostColumns, mostFromTables}
 use Rattle.rules.specs.Lists.{Bytes}
 use Rattle.rules.specs.Ast.{Expr}
 use Rattle.rules.specs.Scope as rules
-use Rattle.scope.specs.Labels.{slotOf, tablesOf, columnsOf, map-append, columns-append, tables-append}
+use Rattle.scope.specs.Labels.{slotCount, slotOf, tablesOf, columnsOf, map-append, columns-append, tables-append}
 use Rattle.scope.specs.Slots.{shifted, below-append, below-wider, below-shifted, below-at}
 use Rattle.scope.specs.Slots.{shifted-columns, kept-columns}
 use Rattle.scope.specs.Scopes.{scopeOf, Valid, Plain, plainScope, plain-scope, labelsOf, tableNumbers}
@@ -55,7 +55,7 @@ appending-more {f} {m} {l} {n} {xs} {j} {ls} {v} a h g e =
     }
 
 -- the slot of the j-th of the other's labels
-pub slot-at : {s o : Scope} → Mergeable s o → (j : ℕ) → j < o .width → slotOf (getD (o .labels) j 0) + s .count < 256
+pub slot-at : {s o : Scope} → Mergeable s o → (j : ℕ) → j < o .width → slotOf (getD (o .labels) j 0) + s .count < slotCount
 slot-at {s} {o} m j h =
     let g : getD (labelsOf o) j 0 ≡ getD (o .labels) j 0 = getD-take (o .width) (o .labels) j 0 h in
     let b : slotOf (getD (o .labels) j 0) ≤ o .count = rw g at (below-at j (m .other .slots)) in

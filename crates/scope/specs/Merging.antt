@@ -1,9 +1,8 @@
 -- Whether two scopes may be merged: 6 a table name held by both, then 3 too many columns.
 use Prim.Native.Nat.{ℕ, _+_, _≤_, _<_}
-use mathlib.Core.Path.{_≡_, refl, sym, _∙_}
+use mathlib.Core.Path.{_≡_, sym, _∙_}
 use mathlib.Core.Bool.{Bool, true, false}
 use mathlib.Core.List.{List}
-use lib.Dec.{ltb}
 use borrow.Author.Tests.{lt-ltb, le-ltb}
 use Rattle.rules.specs.Refusals.{Answer, ok, refuse, _>>=_, _>>_, refuseIf, limitPassed, duplicateTable}
 use Rattle.rules.specs.Limits.{mostColumns}

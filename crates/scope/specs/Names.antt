@@ -4,7 +4,7 @@ use native.Mathlib.Omega.{arith}
 use native.Mathlib.Numerals.{add-one}
 use mathlib.Core.Path.{_≡_, refl, ap, sym, _∙_}
 use mathlib.Core.Bool.{Bool, true, false, _&&_}
-use mathlib.Core.List.{List, [], _∷_, _++_, map}
+use mathlib.Core.List.{List}
 use lib.Dec.{eqb, ltb}
 use lib.ListN.{length, getD, take, drop, length-drop, drop-of-length-le}
 use lib.Seq.{getD-take, getD-drop, length-take-le, drop-cons}
@@ -13,7 +13,6 @@ use Rattle.rules.specs.Limits.{mostBytes}
 use Rattle.rules.specs.Lists.{Bytes, same, any}
 use Rattle.rules.specs.Lines.{Word}
 use Rattle.rules.specs.Places.{bytesAt, wordAt}
-use Rattle.rules.specs.Plan.{Label, nameless, unqualified, qualified}
 use Rattle.rules.specs.Equality.{sameName}
 use Rattle.rules.specs.Scope.{isNamed, isQualified, shares}
 use Rattle.text.specs.Places.{inside, bytes-catalog, bytes-statement, inside-catalog, inside-statement}

@@ -1,16 +1,16 @@
 -- A projection: its items' labels over the same tables, where nothing is matched.
-use Prim.Native.Nat.{ℕ, zero, suc, _+_, _-_, _≤_, _<_}
+use Prim.Native.Nat.{ℕ, _+_, _-_, _≤_}
 use native.Mathlib.Omega.{arith}
 use mathlib.Core.Path.{_≡_, refl, ap, sym, _∙_}
-use mathlib.Core.Bool.{Bool, true, false}
+use mathlib.Core.Bool.{true}
 use mathlib.Core.List.{List, [], _∷_, _++_, map, append-assoc, append-nil}
-use lib.ListN.{length, getD, take, List·getD-map}
+use lib.ListN.{length, getD, List·getD-map}
 use lib.Seq.{take-all}
 use Rattle.rules.specs.Limits.{mostColumns}
 use Rattle.rules.specs.Lists.{Bytes, isEmpty}
 use Rattle.rules.specs.Lines.{Word}
 use Rattle.rules.specs.Ast.{Expr, Item}
-use Rattle.rules.specs.Plan.{Label, nameless}
+use Rattle.rules.specs.Plan.{Label}
 use Rattle.rules.specs.Scope as rules
 use Rattle.rules.specs.Scope.{itemLabel, projectOne, projectAll, addColumn, foundLabel, at}
 use Rattle.scope.specs.Labels.{labelAt, columnsOf, label-nameless}
@@ -30,6 +30,7 @@ pub record Projected (s : Scope) (xs : List ℕ) (r : Scope) : Type 0 where
   pub valid : Valid r
   pub plain : Plain r
   pub count : r .count ≡ s .count
+  pub tables : r .tables ≡ s .tables
   pub is : (e : ℕ → Expr) (c q : Bytes) (is′ : List Item)
       → map (λ (i : Item). itemLabel (scopeOf e c q s) (i .expr) (i .alias)) is′ ≡ columnsOf c q (tableNumbers s) xs
       → scopeOf e c q r ≡ rules.project (scopeOf e c q s) is′
@@ -85,6 +86,7 @@ projected {s} {xs} {j} r f k h g em et ew ec eh =
       };
       plain = p;
       count = ec;
+      tables = et;
       is = λ e c q is′ m.
           let a : scopeOf e c q s .aggregates ≡ [] =
           ap (λ (x : rules.Scope). x .aggregates) (plain-scope e c q s (f .plain)) in

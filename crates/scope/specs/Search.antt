@@ -2,11 +2,11 @@
 use Prim.Native.Nat.{ℕ, zero, suc, _+_, _-_, _≤_, _<_}
 use native.Mathlib.Omega.{arith}
 use native.Mathlib.Numerals.{add-one}
-use mathlib.Core.Path.{_≡_, refl, ap, sym, _∙_}
+use mathlib.Core.Path.{_≡_, refl, sym, _∙_}
 use mathlib.Core.Bool.{Bool, true, false}
 use mathlib.Core.List.{List, [], _∷_, _++_, map}
 use mathlib.Core.Option.{Option, none, some}
-use lib.ListN.{length, getD, take, drop, drop-of-length-le}
+use lib.ListN.{length, getD, drop, drop-of-length-le}
 use lib.Seq.{drop-cons}
 use Rattle.rules.specs.Lists.{Bytes, any, positions, isEmpty}
 use Rattle.rules.specs.Lines.{Word}
@@ -16,7 +16,7 @@ use Rattle.rules.specs.Places.{wordAt}
 use Rattle.rules.specs.Plan.{Label}
 use Rattle.rules.specs.Scope as rules
 use Rattle.rules.specs.Scope.{theOnly, theLast, notFound, lookupNamed, isNamed, isQualified}
-use Rattle.scope.specs.Labels.{tablesOf, columnsOf, labelAt}
+use Rattle.scope.specs.Labels.{tablesOf, columnsOf}
 use Rattle.scope.specs.Scopes.{matchesOf, scopeFrom}
 use Rattle.scope.specs.Lookup.{foundOf, qualifierOf, Looked, Sought}
 use Rattle.scope.specs.declared.lookup.Found.{Found}

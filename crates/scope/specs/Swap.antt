@@ -1,8 +1,8 @@
 -- A right join's columns swapped back: the first a behind the b that follow them.
-use Prim.Native.Nat.{ℕ, zero, suc, _+_, _-_, _≤_, _<_}
+use Prim.Native.Nat.{ℕ, _+_, _-_, _≤_, _<_}
 use native.Mathlib.Omega.{arith}
-use mathlib.Core.Path.{_≡_, refl, ap, sym, _∙_}
-use mathlib.Core.List.{List, [], _∷_, _++_}
+use mathlib.Core.Path.{_≡_, ap, sym, _∙_}
+use mathlib.Core.List.{List, [], _++_}
 use lib.ListN.{length, getD, take, drop, set, length-drop}
 use lib.Seq.{take-add, take-take, take-at, drop-at, length-take-le, getD-drop}
 use Rattle.rules.specs.Lists.{Bytes}
@@ -11,7 +11,7 @@ use Rattle.rules.specs.Scope as rules
 use Rattle.rules.specs.BuildFrom.{swapped}
 use Rattle.scope.specs.Labels.{tablesOf, columnsOf, columns-length}
 use Rattle.scope.specs.Slots.{below-append, below-take, below-drop}
-use Rattle.scope.specs.Scopes.{scopeOf, Valid, Plain, plainScope, plain-scope, labelsOf, tableNumbers}
+use Rattle.scope.specs.Scopes.{scopeOf, Valid, Plain, plain-scope, labelsOf, tableNumbers}
 use Rattle.scope.specs.Copies.{Copying, copying-first}
 use Rattle.scope.specs.Remap.{remap-swapped, columns-swapped}
 use Rattle.scope.specs.declared.Scope.{Scope}

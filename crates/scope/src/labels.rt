@@ -6,7 +6,7 @@ ghost use Rattle.rules.specs.Equality.{sameName};
 ghost use Rattle.rules.specs.Lists.{same};
 ghost use Rattle.rules.specs.Places.{bytesAt, wordAt};
 ghost use lib.ListN.{getD};
-ghost use Rattle.scope.specs.Labels.{packed, slotOf, addressOf, lengthOf, nameAt};
+ghost use Rattle.scope.specs.Labels.{packed, slotCount, slotOf, addressOf, lengthOf, nameAt};
 ghost use Rattle.scope.specs.Slots.{shifted};
 use text::MOST_BYTES;
 use text::byte;
@@ -59,7 +59,7 @@ pub fn size(x: u32) -> u32
 
 // A label behind t tables more.
 pub fn behind(x: u32, t: u32) -> u32
-    requires { ⌜ slotOf x + t < 256 ⌝ }
+    requires { ⌜ slotOf x + t < slotCount ⌝ }
     ensures { λ r. ⌜ r ≡ shifted t x ⌝ }
 {
     if x < SLOT {

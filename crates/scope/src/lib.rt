@@ -1,18 +1,30 @@
 // The scope (planner.rs, Scope): which columns are visible, under which names.
+pub mod expressions;
+pub mod hidden;
 pub mod labels;
 pub mod lookup;
+pub mod matches;
 pub mod merging;
+pub mod retain;
 
 ghost use mathlib.Core.Path.{_≡_};
 ghost use Prim.Native.Nat.{min};
+ghost use Rattle.rules.specs.Limits.{mostColumns};
+ghost use Rattle.scope.specs.AddAggregates.{Aggregable, AggregatesAdded};
 ghost use Rattle.scope.specs.AddColumn.{ColumnFits, ColumnAdded};
 ghost use Rattle.scope.specs.FromTable.{FromTable};
 ghost use Rattle.scope.specs.Hide.{HiddenFits, HiddenAdded};
+ghost use Rattle.scope.specs.Items.{ItemsFit, ItemsProjected};
 ghost use Rattle.scope.specs.Merge.{Mergeable, Merged};
+ghost use Rattle.scope.specs.New.{New};
 ghost use Rattle.scope.specs.Project.{Projectable, Projected};
 ghost use Rattle.scope.specs.Swap.{Swappable, Swapped};
+use expressions::label_of;
 use labels::behind;
 use labels::label;
+use matches::match_number;
+use matches::new_match;
+use matches::pass_match;
 use schema::column_count;
 use schema::column_name;
 
@@ -34,7 +46,7 @@ pub struct Scope {
 
 // How many columns of n a scope has.
 fn most_columns(n: u32) -> u32
-    ensures { λ r. ⌜ r ≡ min n 256 ⌝ }
+    ensures { λ r. ⌜ r ≡ min n mostColumns ⌝ }
 {
     if n < COLUMNS as u32 {
         return n;
@@ -43,6 +55,20 @@ fn most_columns(n: u32) -> u32
 }
 
 impl Scope {
+    // No columns and no tables.
+    pub fn new() -> Scope
+        ensures { λ r. ⌜ New r ⌝ }
+    {
+        Scope {
+            labels: [0u32; COLUMNS],
+            matches: [0u16; COLUMNS],
+            tables: [0u32; TABLES],
+            width: 0,
+            count: 0,
+            hidden: 0,
+        }
+    }
+
     // The columns of the catalog's i-th table, under a name.
     pub fn from_table(catalog: &[u32], i: u32, a: u32, n: u32) -> Scope
         ensures { λ r. ⌜ FromTable (now (catalog .entry)) i a n r ⌝ }
@@ -64,6 +90,49 @@ impl Scope {
             tables: tables,
             width: width,
             count: 1,
+            hidden: 0,
+        }
+    }
+
+    // A child scope of at most 256 groups and aggregates, by the rows of their expressions: each is matched to its row,
+    // and has the label that it passes on.
+    pub fn add_aggregates(
+        self,
+        catalog: &[u8],
+        statement: &[u8],
+        table: &[u32],
+        rows: &[usize],
+    ) -> Scope
+        requires { ⌜ Aggregable self (now table) (now rows) ⌝ }
+        ensures { λ r. ⌜ AggregatesAdded (now (catalog .entry)) (now (statement .entry)) (now (table .entry)) self
+            (now (rows .entry)) r ⌝ }
+    {
+        let mut labels = [0u32; COLUMNS];
+        let mut matches = [0u16; COLUMNS];
+        let mut j: usize = 0;
+        while j < rows.len() {
+            let r = rows[j];
+            let x = label_of(
+                catalog,
+                statement,
+                table,
+                &self.labels,
+                &self.matches,
+                self.width,
+                &self.tables,
+                self.count,
+                r,
+            );
+            labels[j] = x;
+            matches[j] = match_number(r);
+            j += 1;
+        }
+        Scope {
+            labels: labels,
+            matches: matches,
+            tables: self.tables,
+            width: rows.len() as u32,
+            count: self.count,
             hidden: 0,
         }
     }
@@ -139,14 +208,47 @@ impl Scope {
         self
     }
 
-    // A column of the scope that was projected, passed on behind the others and hidden.
-    pub fn add_hidden(mut self, x: u32) -> Scope
-        requires { ⌜ HiddenFits self x ⌝ }
-        ensures { λ r. ⌜ HiddenAdded self x r ⌝ }
+    // A projection over groups and aggregates: its columns by their labels, the first of equal items matched to its row.
+    pub fn project_items(
+        mut self,
+        catalog: &[u8],
+        statement: &[u8],
+        table: &[u32],
+        labels: &[u32],
+        rows: &[usize],
+    ) -> Scope
+        requires { ⌜ ItemsFit (now catalog) (now statement) (now table) self (now labels) (now rows) ⌝ }
+        ensures { λ r. ⌜ ItemsProjected (now (catalog .entry)) (now (statement .entry)) (now (table .entry)) self
+            (now (labels .entry)) (now (rows .entry)) r ⌝ }
+    {
+        let mut j: usize = 0;
+        while j < rows.len() {
+            let m = new_match(catalog, statement, table, &self.matches, j as u32, rows[j]);
+            self.labels[j] = labels[j];
+            self.matches[j] = m;
+            j += 1;
+        }
+        self.width = rows.len() as u32;
+        self.hidden = 0;
+        self
+    }
+
+    // A column of the scope that was projected, with its label x and its match m, passed on behind the others and hidden.
+    pub fn add_hidden(
+        mut self,
+        catalog: &[u8],
+        statement: &[u8],
+        table: &[u32],
+        x: u32,
+        m: u16,
+    ) -> Scope
+        requires { ⌜ HiddenFits self (now table) x ⌝ }
+        ensures { λ r. ⌜ HiddenAdded (now (catalog .entry)) (now (statement .entry)) (now (table .entry)) self x m r ⌝ }
     {
         let w = self.width as usize;
+        let passed = pass_match(catalog, statement, table, &self.matches, self.width, m);
         self.labels[w] = x;
-        self.matches[w] = 0;
+        self.matches[w] = passed;
         self.width = self.width + 1;
         self.hidden = self.hidden + 1;
         self

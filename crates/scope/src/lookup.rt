@@ -7,7 +7,7 @@ ghost use Rattle.rules.specs.Lists.{any, positions};
 ghost use Rattle.rules.specs.Equality.{sameName};
 ghost use Rattle.rules.specs.Places.{wordAt};
 ghost use Rattle.rules.specs.Scope.{isNamed, isQualified, theOnly, theLast};
-ghost use Rattle.scope.specs.Labels.{labelAt, tablesOf, columnsOf};
+ghost use Rattle.scope.specs.Labels.{positionCount, labelAt, tablesOf, columnsOf};
 ghost use Rattle.scope.specs.Lookup.{qualifierOf, Sought, Looked};
 ghost use Rattle.scope.specs.Search.{Missing};
 use super::labels::has_name;
@@ -107,7 +107,7 @@ fn only_named<'a>(
     a: u32,
     n: u32,
 ) -> Found
-    requires { ⌜ length (now labels) < 4294967296 ⌝ }
+    requires { ⌜ length (now labels) < positionCount ⌝ }
     ensures { λ r. ⌜ ((ts : List ℕ) → Sought theOnly
         (positions (isNamed (wordAt (now (catalog .entry)) (now (statement .entry)) a n)) 0
         (columnsOf (now (catalog .entry)) (now (statement .entry)) ts (now (labels .entry))))
@@ -142,7 +142,7 @@ fn last_qualified<'a>(
     a: u32,
     n: u32,
 ) -> Found
-    requires { ⌜ length (now labels) < 4294967296 ⌝ }
+    requires { ⌜ length (now labels) < positionCount ⌝ }
     ensures { λ r. ⌜ Sought theLast
         (positions
         (isQualified
@@ -177,7 +177,7 @@ pub fn first(s: &[u32], n: usize) -> &[u32]
 }
 
 // The first n matches, or as many of them as there are.
-fn first_matches(s: &[u16], n: usize) -> &[u16]
+pub fn first_matches(s: &[u16], n: usize) -> &[u16]
     ensures { λ r. ⌜ now r ≡ take n (now (s .entry)) ⌝ }
 {
     if n <= s.len() {

@@ -13,16 +13,16 @@ use Rattle.claims.specs.Answers.{anything, ensured}
 use Rattle.claims.specs.Reading.Rules.{Reaches, reads-then, reads-give}
 use Rattle.text.specs.Answers.{wrongAt, limitAt}
 use Rattle.text.specs.Reading.{place}
-use Rattle.ast.specs.Reading.{here, Took, Given}
+use Rattle.numbers.specs.Kept.{kept-all}
+use Rattle.read_expression.specs.Reading.{here, Took, Given}
 use Rattle.entries.specs.Entries.{Entry, keywordOf, entries, turnsOf, section, someSection}
 use Rattle.sections.specs.Layout.{startOf, sectionAt}
 use Rattle.sections.specs.Contracts.{SectionRead}
 use Rattle.sections.specs.Kinds.{turns-some}
-use Rattle.ast.specs.Rows.{below-refl}
 use Rattle.sections.specs.Store.{entries-length}
 use Rattle.sections.specs.OneEntry.{entries-end}
-use Rattle.ast.specs.declared.reading.Read as Rd
-use Rattle.ast.specs.declared.reading.Read.the-variants as R
+use Rattle.read_expression.specs.declared.reading.Read as Rd
+use Rattle.read_expression.specs.declared.reading.Read.the-variants as R
 
 -- a step of whose value nothing is wanted
 reads-past : {A B : Type 0} (m : Read A) (f : A → Read B) (p : Place) (Q : B → Place → Type 0) → ((a : A) (q : Place) → Reaches (f a q) Q) → Reaches (_>>=_ m f p) Q
@@ -97,7 +97,7 @@ module _ (t : Bytes) (p l c kind : ℕ) (cells cells′ parts parts′ : List �
 
     count : (k : ℕ) → length (took k .value) ≡ getD parts′ s 0
     unfolding sectionAt
-    count k = ap length (sym (took k .holds .is cells′ parts′ (below-refl _ cells′) (below-refl _ parts′) [])) ∙ entries-length [] t cells′ parts′ _ _ ∙ ap (λ i. getD parts′ i 0) (sym z)
+    count k = ap length (sym (took k .holds .is cells′ parts′ (kept-all 0 _ cells′) (kept-all 0 _ parts′) [])) ∙ entries-length [] t cells′ parts′ _ _ ∙ ap (λ i. getD parts′ i 0) (sym z)
 
     pub some-none : getD parts′ s 0 ≡ 0 → (k : ℕ) → Given (someSection kind) (SectionRead t kind c cells cells′ parts parts′) t p l c k (R.Wrong l)
     unfolding Given wrongAt stop place

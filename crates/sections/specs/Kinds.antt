@@ -12,7 +12,7 @@ use Rattle.rules.specs.Lists.{Bytes, same}
 use Rattle.rules.specs.Lines.{bytes, fields, empty}
 use Rattle.rules.specs.Reader.{at, key, keyOf, lineHere}
 use Rattle.text.specs.Reading.{place}
-use Rattle.ast.specs.Reading.{here}
+use Rattle.read_expression.specs.Reading.{here}
 use Rattle.entries.specs.Entries.{keywordOf, mostOf, isOnce, turnsOf}
 use Rattle.sections.specs.Layout.{startOf, numbers}
 use Rattle.sections.specs.Contracts.{endOf}

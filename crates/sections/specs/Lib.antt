@@ -5,3 +5,5 @@ pub mod Kinds
 pub mod OneEntry
 pub mod Runs
 pub mod AtLeastOne
+pub mod Access
+pub mod Expressions

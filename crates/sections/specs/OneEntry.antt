@@ -16,18 +16,19 @@ use Rattle.ast.specs.Table.{rowSize, tableSize, argumentsAt, treeAt}
 use Rattle.text.specs.Answers.{wrongAt, limitAt, bind-ok, bind-no, within-wrong, within-limit, within-ok, prefixed, give-first}
 use Rattle.text.specs.Lines.{lineEnd, line-moves, line-most}
 use Rattle.text.specs.Reading.{place, place-next}
-use Rattle.ast.specs.Reading.{here, Position, Took, Given, Rows, Below}
+use Rattle.read_expression.specs.Reading.{here, Position, Took, Given, Rows}
 use Rattle.entries.specs.Entries.{EntryHead, Entry, keywordOf, mostOf, fieldsOf, nameOf, entries}
 use Rattle.sections.specs.Layout.{startOf, numbers, entryAt}
-use Rattle.entries.specs.Heads.{lastName, numbersOf, Entered, Says}
-use Rattle.numbers.specs.Kept.{Kept}
-use Rattle.ast.specs.Rows.{below-sets, rows-kept, rows-back}
-use Rattle.ast.specs.Times.{times-count}
+use Rattle.entries.specs.Heads.{lastName, numbersOf, Entered, IsHead}
+use Rattle.numbers.specs.Kept.{Kept, kept-sets-behind}
+use Rattle.numbers.specs.Stores.{Stored, stored-sets, stored-kept}
+use Rattle.read_expression.specs.Rows.{rows-kept, rows-back}
+use Rattle.read_expression.specs.Times.{times-count}
 use Rattle.sections.specs.Kinds.{entry-within, keyword-inside}
-use Rattle.sections.specs.Store.{Stored, stored-sets, stored-kept, entryNumbers, entry-twelve, entry-back}
+use Rattle.sections.specs.Store.{entryNumbers, entry-twelve, entry-back}
 use Rattle.entries.specs.declared.Head.{Head}
-use Rattle.ast.specs.declared.reading.Read as Rd
-use Rattle.ast.specs.declared.reading.Read.the-variants as R
+use Rattle.read_expression.specs.declared.reading.Read as Rd
+use Rattle.read_expression.specs.declared.reading.Read.the-variants as R
 use Rattle.sections.specs.declared.Step.{Step}
 use Rattle.sections.specs.declared.Step.the-variants as S
 
@@ -84,11 +85,11 @@ pub record EntryTook (t : Bytes) (p l c kind n : ℕ) (b : Option Bytes) (cells 
   pub moved : p < p′
   pub more : c ≤ c′
   pub few : n < mostOf kind
-  pub stands : (cells″ parts″ : List ℕ) → Below (rowSize * c′) cells′ cells″
+  pub stands : (cells″ parts″ : List ℕ) → Kept 0 (rowSize * c′) cells′ cells″
       → Kept (entryStart kind n) (entryStart kind (suc n)) parts′ parts″ → (b : Bytes)
       → entryAt b t cells″ parts″ (entryStart kind n) ≡ value
-  pub cells-kept : Below (rowSize * c) cells cells′
-  pub parts-kept : Below (entryStart kind n) parts parts′
+  pub cells-kept : Kept 0 (rowSize * c) cells cells′
+  pub parts-kept : Kept 0 (entryStart kind n) parts parts′
 
 -- no entry: nothing was written
 pub record EntryEnds (t : Bytes) (p l c kind n : ℕ) (b : Option Bytes) (cells cells′ parts parts′ : List ℕ) (k : ℕ) : Type 0 where
@@ -110,7 +111,7 @@ unfolding entryNumbers
 numbers-as {t} {kind} {b} {p} {r} v l c = ap (λ xs. l ∷ v .head .expressions ∷ c ∷ xs) (v .numbers) ∙ ap (λ n. l ∷ n ∷ c ∷ numbersOf r) (sym (v .expressions))
 
 module _ {t : Bytes} {p l c kind n : ℕ} {cells parts : List ℕ} (w : EntryReady t p l c kind n cells parts) (last len : ℕ) {r : Head}
-    (h : (l c k : ℕ) → Says t kind (lastName t last len) (here t p l c k) r) where
+    (h : (l c k : ℕ) → IsHead t kind (lastName t last len) (here t p l c k) r) where
   pub entry-end : r .state ≡ 0 → (k : ℕ) → EntryRead t p l c kind n last len cells cells parts parts k S.End
   unfolding EntryRead
   entry-end e k = record { is = λ fuel. entries-end kind fuel n _ _ (h l c k .missing e); cells-same = refl; parts-same = refl }
@@ -195,8 +196,8 @@ module _ {t : Bytes} {p l c kind n : ℕ} {cells parts : List ℕ} (w : EntryRea
                       let q = rows-back (x .holds) (w .cells-room) (x .position .rows) cells″ α b in
                       let z = times-count (d .head .expressions) expression _ _ es (x .is) in
                       entry-back b t cells″ parts″ (entryStart kind n) l c (d .head) (d .named b) (d .refers b)
-                      (stored-kept f (stored k)) es (ap (λ z. argumentsAt (treeAt b t cells″) cells″ z c) (sym z)
+                      (stored-kept _ _ f (omega arith) (omega arith) (stored k)) es (ap (λ z. argumentsAt (treeAt b t cells″) cells″ z c) (sym z)
                       ∙ q);
                   cells-kept = rows-kept (x .holds);
-                  parts-kept = rw u (below-sets (entryStart kind n) parts (entryStart kind n) (l ∷ r .expressions ∷ c ∷ numbersOf r) (omega arith));
+                  parts-kept = rw u (kept-sets-behind parts (entryStart kind n) (l ∷ r .expressions ∷ c ∷ numbersOf r) 0 (entryStart kind n) (omega arith));
                 }

@@ -13,18 +13,17 @@ use Rattle.rules.specs.Lists.{Bytes}
 use Rattle.rules.specs.Reader.{give}
 use Rattle.text.specs.Answers.{wrongAt, limitAt, prefixed, prefixed-none, prefixed-twice}
 use Rattle.text.specs.Reading.{place-length}
-use Rattle.ast.specs.Reading.{here, Position, Took, Given, Below}
+use Rattle.read_expression.specs.Reading.{here, Position, Took, Given}
 use Rattle.entries.specs.Entries.{Entry, mostOf, isOnce, entries, turnsOf, section}
 use Rattle.sections.specs.Layout.{startOf, numbers, entriesAt, sectionAt}
 use Rattle.entries.specs.Heads.{lastName}
 use Rattle.sections.specs.Contracts.{endOf, SectionRead}
 use Rattle.sections.specs.Kinds.{end-within, turns-once, turns-more, turns-some}
-use Rattle.numbers.specs.Kept.{Kept, kept-part, kept-on, kept-set}
+use Rattle.numbers.specs.Kept.{Kept, kept-part, kept-on, kept-set, kept-all, kept-first, kept-set-behind}
 use Rattle.ast.specs.Table.{rowSize, tableSize}
-use Rattle.ast.specs.Rows.{below-refl, below-trans, below-less, below-set}
-use Rattle.sections.specs.Store.{kept-below, entries-more}
+use Rattle.sections.specs.Store.{entries-more}
 use Rattle.sections.specs.OneEntry.{entryStart, EntryReady, EntryTook, EntryRead}
-use Rattle.ast.specs.declared.reading.Read.the-variants as R
+use Rattle.read_expression.specs.declared.reading.Read.the-variants as R
 use Rattle.sections.specs.declared.Step.{Step}
 use Rattle.sections.specs.declared.Step.the-variants as S
 
@@ -44,11 +43,11 @@ pub record EntriesRead (t : Bytes) (p₀ c₀ kind : ℕ) (cells₀ parts₀ : L
   pub position : Position t p l c
   pub moved : p₀ + n ≤ p
   pub more : c₀ ≤ c
-  pub stands : (cells″ parts″ : List ℕ) → Below (rowSize * c) cells cells″
+  pub stands : (cells″ parts″ : List ℕ) → Kept 0 (rowSize * c) cells cells″
       → Kept (startOf kind + 1) (entryStart kind n) parts parts″ → (b : Bytes)
       → entriesAt b t cells″ parts″ (startOf kind + 1) n ≡ xs
-  pub cells-kept : Below (rowSize * c₀) cells₀ cells
-  pub parts-kept : Below (startOf kind) parts₀ parts
+  pub cells-kept : Kept 0 (rowSize * c₀) cells₀ cells
+  pub parts-kept : Kept 0 (startOf kind) parts₀ parts
 
 none-read : (t : Bytes) (p l c kind : ℕ) (cells parts : List ℕ) → Position t p l c → EntriesRead t p c kind cells parts p l c 0 cells parts []
 unfolding entriesAt
@@ -59,8 +58,8 @@ none-read t p l c kind cells parts w = record {
   moved = omega arith;
   more = omega arith;
   stands = λ cells″ parts″ α β b. refl;
-  cells-kept = below-refl _ cells;
-  parts-kept = below-refl _ parts;
+  cells-kept = kept-all 0 _ cells;
+  parts-kept = kept-all 0 _ parts;
 }
 
 module _ {t : Bytes} {p₀ c₀ kind : ℕ} {cells₀ parts₀ : List ℕ} {p l c n : ℕ} {cells parts : List ℕ} {xs : List Entry}
@@ -78,21 +77,21 @@ module _ {t : Bytes} {p₀ c₀ kind : ℕ} {cells₀ parts₀ : List ℕ} {p l 
         moved = omega (arith, h .moved, g .moved);
         more = omega (arith, h .more, g .more);
         stands = λ cells″ parts″ α β b.
-            let α′ = below-trans (rowSize * c) cells cells′ cells″ (g .cells-kept)
-            (below-less (rowSize * c′) (rowSize * c) cells′ cells″ (omega (arith, g .more)) α) in
-            let β′ = kept-on (kept-below (s + 1) (entryStart kind n) (g .parts-kept) (omega arith)) (kept-part (s + 1) (entryStart kind n) β (omega arith) (omega arith)) in
+            let α′ = kept-on (g .cells-kept)
+            (kept-first (rowSize * c) α (omega (arith, g .more))) in
+            let β′ = kept-on (kept-part (s + 1) (entryStart kind n) (g .parts-kept) (omega arith) (omega arith)) (kept-part (s + 1) (entryStart kind n) β (omega arith) (omega arith)) in
             let first = h .stands cells″ parts″ α′ β′ b in
             let second = g .stands cells″ parts″ α (kept-part (entryStart kind n) (entryStart kind (suc n)) β (omega arith) (omega arith)) b in
             rw (add-one n, entries-more b t cells″ parts″ (s + 1) n, first, second);
-        cells-kept = below-trans (rowSize * c₀) cells₀ cells cells′ (h .cells-kept)
-            (below-less (rowSize * c) (rowSize * c₀) cells cells′ (omega (arith, h .more)) (g .cells-kept));
-        parts-kept = below-trans s parts₀ parts parts′ (h .parts-kept) (below-less (entryStart kind n) s parts parts′ (omega arith) (g .parts-kept));
+        cells-kept = kept-on (h .cells-kept)
+            (kept-first (rowSize * c₀) (g .cells-kept) (omega (arith, h .more)));
+        parts-kept = kept-on (h .parts-kept) (kept-first s (g .parts-kept) (omega arith));
       }
 
   -- all are read, and their number is stored
   all-read : {l₀ k s : ℕ} → section kind (here t p₀ l₀ c₀ k) ≡ ok (xs, here t p l c k) → kind ≤ 11 → length parts ≡ numbers → s ≡ startOf kind
       → Took (section kind) (SectionRead t kind c₀ cells₀ cells parts₀ (set parts s n) c) t p₀ l₀ c₀ k p l c
-  unfolding Below sectionAt entryStart endOf
+  unfolding sectionAt entryStart endOf
   all-read {l₀} {k} {s} e g m z =
       let inside : startOf kind < endOf kind = omega arith in
       let fits : startOf kind < length parts = omega (arith, end-within kind g) in
@@ -105,12 +104,12 @@ module _ {t : Bytes} {p₀ c₀ kind : ℕ} {cells₀ parts₀ : List ℕ} {p l 
         more = h .more;
         holds = record {
           is = λ cells″ parts″ α β b.
-              let d : getD parts″ (startOf kind) 0 ≡ n = β (startOf kind) inside ∙ getD-set-same parts (startOf kind) n 0 fits in
-              let f = kept-on (kept-set parts (startOf kind) n (startOf kind + 1) (entryStart kind n) (omega arith)) (kept-below (startOf kind + 1) (entryStart kind n) β behind) in
+              let d : getD parts″ (startOf kind) 0 ≡ n = β .same (startOf kind) (omega arith) inside ∙ getD-set-same parts (startOf kind) n 0 fits in
+              let f = kept-on (kept-set parts (startOf kind) n (startOf kind + 1) (entryStart kind n) (omega arith)) (kept-part (startOf kind + 1) (entryStart kind n) β (omega arith) behind) in
               rw d (h .stands cells″ parts″ α f b);
           most = omega (arith, h .count, h .most);
           cells-kept = h .cells-kept;
-          parts-kept = below-trans (startOf kind) parts₀ parts (set parts (startOf kind) n) (h .parts-kept) (below-set (startOf kind) parts (startOf kind) n (omega arith));
+          parts-kept = kept-on (h .parts-kept) (kept-set-behind parts (startOf kind) n 0 (startOf kind) (omega arith));
         };
       })
 

@@ -1,28 +1,22 @@
 -- Numbers that are stored, and the entry that twelve of them stand for.
-use Prim.Native.Nat.{ℕ, zero, suc, _+_, _*_, _≤_, _<_}
+use Prim.Native.Nat.{ℕ, zero, suc, _+_, _*_, _<_}
 use native.Mathlib.Omega.{arith}
 use native.Mathlib.Nat.{add-zero}
 use mathlib.Core.Path.{_≡_, refl, sym, ap, _∙_}
 use mathlib.Core.List.{List, [], _∷_, _++_}
 use mathlib.Core.Option.{Option, none, some}
-use lib.ListN.{length, getD, set, length-set}
-use lib.Seq.{sets, getD-set-same, getD-set-other}
+use lib.ListN.{length, getD}
+use lib.Seq.{sets}
 use Rattle.rules.specs.Lists.{Bytes}
 use Rattle.rules.specs.Lines.{Word}
 use Rattle.rules.specs.Ast.{Exprs}
-use Rattle.numbers.specs.Kept.{Kept, sets-at}
+use Rattle.rules.specs.Area.{span, optionSpan}
+use Rattle.numbers.specs.Stores.{Stored, sets-append}
 use Rattle.ast.specs.Table.{argumentsAt, treeAt}
-use Rattle.ast.specs.Names.{nameAt, nameNumbers, NameFits, names-back}
-use Rattle.ast.specs.Reading.{Below}
-use Rattle.ast.specs.Stores.{sets-append}
+use Rattle.ast.specs.Names.{NameFits, names-back}
 use Rattle.entries.specs.Entries.{EntryHead}
 use Rattle.entries.specs.Heads.{headNumbers}
 use Rattle.sections.specs.Layout.{headAt, entryAt, entriesAt}
-
--- NUMBERS THAT ARE AS THEY WERE
-pub kept-below : {n : ℕ} {s s′ : List ℕ} (a b : ℕ) → Below n s s′ → b ≤ n → Kept a b s s′
-unfolding Below
-kept-below a b h l = record { same = λ k x y. h k (omega arith) }
 
 -- STORES
 -- three stores of four numbers each
@@ -34,16 +28,6 @@ sets-three s s₁ s₂ s₃ i xs ys zs m n e₁ e₂ e₃ =
     let y : sets (sets s i xs) (i + 4) (ys ++ zs) ≡ sets s i (xs ++ (ys ++ zs)) = (rw m at (sym (sets-append xs (ys ++ zs) s i))) in
     e₃ ∙ rw (e₂, e₁, a) (x ∙ y)
 
--- these numbers stand from i on
-pub record Stored (s : List ℕ) (i : ℕ) (vs : List ℕ) : Type 0 where
-  pub at : (j : ℕ) → j < length vs → getD s (i + j) 0 ≡ getD vs j 0
-
-pub stored-sets : (s : List ℕ) (i : ℕ) (vs : List ℕ) → i + length vs ≤ length s → Stored (sets s i vs) i vs
-stored-sets s i vs h = record { at = λ j l. sets-at vs s i j h l }
-
-pub stored-kept : {s s′ : List ℕ} {i : ℕ} {vs : List ℕ} → Kept i (i + length vs) s s′ → Stored s i vs → Stored s′ i vs
-stored-kept k h = record { at = λ j l. k .same _ (omega arith) (omega arith) ∙ h .at j l }
-
 -- ENTRIES
 -- the twelve numbers of an entry
 unfoldable pub entryNumbers : ℕ → ℕ → EntryHead → List ℕ
@@ -51,9 +35,9 @@ entryNumbers l r h = l ∷ h .expressions ∷ r ∷ headNumbers h
 
 -- a name has two numbers
 names-two : (w v : Option Word) (a b d e f : ℕ)
-    → nameNumbers w ++ (a ∷ b ∷ d ∷ e ∷ f ∷ nameNumbers v)
-    ≡ getD (nameNumbers w) 0 0 ∷ getD (nameNumbers w) 1 0 ∷ a ∷ b ∷ d ∷ e ∷ f ∷ getD (nameNumbers v) 0 0 ∷ getD (nameNumbers v) 1 0 ∷ []
-unfolding nameNumbers
+    → optionSpan w ++ (a ∷ b ∷ d ∷ e ∷ f ∷ optionSpan v)
+    ≡ getD (optionSpan w) 0 0 ∷ getD (optionSpan w) 1 0 ∷ a ∷ b ∷ d ∷ e ∷ f ∷ getD (optionSpan v) 0 0 ∷ getD (optionSpan v) 1 0 ∷ []
+unfolding optionSpan span
 names-two none none a b d e f = refl
 names-two none (some v) a b d e f = refl
 names-two (some w) none a b d e f = refl
@@ -65,15 +49,15 @@ twelve l r h =
     l
     ∷ h .expressions
     ∷ r
-    ∷ getD (nameNumbers (h .name)) 0 0
-    ∷ getD (nameNumbers (h .name)) 1 0
+    ∷ getD (optionSpan (h .name)) 0 0
+    ∷ getD (optionSpan (h .name)) 1 0
     ∷ h .code
     ∷ h .key
     ∷ h .nullable
     ∷ h .unique
     ∷ h .index
-    ∷ getD (nameNumbers (h .reference)) 0 0
-    ∷ getD (nameNumbers (h .reference)) 1 0
+    ∷ getD (optionSpan (h .reference)) 0 0
+    ∷ getD (optionSpan (h .reference)) 1 0
     ∷ []
 
 numbers-twelve : (l r : ℕ) (h : EntryHead) → entryNumbers l r h ≡ twelve l r h

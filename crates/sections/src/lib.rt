@@ -1,20 +1,22 @@
 // Sections of a statement: the records of one kind that stand in a row, each with its expressions.
+pub mod entry;
+
 ghost use mathlib.Core.Path.{_≡_};
 ghost use mathlib.Core.List.{[], _∷_};
 ghost use Prim.Native.Nat.{ℕ, _+_, _≤_, _<_};
 ghost use lib.ListN.{length};
 ghost use lib.Seq.{sets};
-ghost use Rattle.ast.specs.Reading.{Position, Given};
+ghost use Rattle.read_expression.specs.Reading.{Position, Given};
 ghost use Rattle.entries.specs.Entries.{mostOf, isOnce, section, someSection};
 ghost use Rattle.sections.specs.Layout.{startOf};
 ghost use Rattle.sections.specs.Contracts.{SectionRead};
 ghost use Rattle.entries.specs.Heads.{numbersOf};
 ghost use Rattle.sections.specs.OneEntry.{entryStart, EntryReady, EntryRead};
-use ast::reading::Read;
-use ast::reading::read_expressions;
 use entries::Head;
 use entries::entry_head;
 use numbers::put_four;
+use read_expression::reading::Read;
+use read_expression::reading::read_expressions;
 ghost use Rattle.ast.specs.Table.{tableSize};
 
 // Where the sections start in the parts.

@@ -5,9 +5,9 @@ use Rattle.rules.specs.Refusals.{statement}
 use Rattle.rules.specs.Lists.{Bytes}
 use Rattle.rules.specs.Reader.{Place, Read, _>>=_}
 use Rattle.text.specs.Answers.{wrongAt, limitAt, bind-no}
-use Rattle.ast.specs.Reading.{here, Took, Given}
-use Rattle.ast.specs.declared.reading.Read as Rd
-use Rattle.ast.specs.declared.reading.Read.the-variants as R
+use Rattle.read_expression.specs.Reading.{here, Took, Given}
+use Rattle.read_expression.specs.declared.reading.Read as Rd
+use Rattle.read_expression.specs.declared.reading.Read.the-variants as R
 
 module _ {A B : Type 0} (m : Read A) (f : A → Read B) (p : Place) (x : ℕ) where
   pub bind-wrong : m p ≡ wrongAt statement x → (m >>= f) p ≡ wrongAt statement x

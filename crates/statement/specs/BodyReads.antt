@@ -1,12 +1,11 @@
 -- What stands behind a statement's first record, read into the slices.
-use Prim.Native.Nat.{ℕ, suc, _≤_}
+use Prim.Native.Nat.{ℕ, _≤_}
 use native.Mathlib.Omega.{arith}
 use native.Mathlib.Decide.{ℕ-discrete}
-use mathlib.Core.Path.{_≡_, refl, sym, ap, _∙_}
+use mathlib.Core.Path.{_≡_, refl, ap, _∙_}
 use mathlib.Core.Bool.{Bool}
-use mathlib.Core.List.{List, [], _∷_}
+use mathlib.Core.List.{List}
 use lib.ListN.{length, getD}
-use borrow.Author.Tests.{ne-eqb}
 use Rattle.rules.specs.Refusals.{statement, ok}
 use Rattle.rules.specs.Lists.{Bytes}
 use Rattle.rules.specs.Lines.{Word}
@@ -14,21 +13,22 @@ use Rattle.rules.specs.Ast.{Statement}
 use Rattle.rules.specs.Ast as Ast
 use Rattle.rules.specs.Reader.{Place, Read, give, _>>=_}
 use Rattle.rules.specs.ReadStatement.{StatementHead, selectHead, otherHead, deleteHead, insertHead, updateHead, createHead, dropHead}
-use Rattle.ast.specs.Table.{tableSize, coded}
+use Rattle.ast.specs.Table.{tableSize}
 use Rattle.text.specs.Answers.{wrongAt, limitAt, bind-ok}
-use Rattle.ast.specs.Reading.{here, Position, Given, Below}
+use Rattle.numbers.specs.Codes.{coded, coded-miss, coded-end}
+use Rattle.numbers.specs.Kept.{Kept, kept-all}
+use Rattle.read_expression.specs.Reading.{here, Position, Given}
 use Rattle.entries.specs.Entries.{Entry, mostOf, section, someSection}
 use Rattle.sections.specs.Layout.{startOf, sectionAt}
 use Rattle.from.specs.Layout.{fromsAt}
 use Rattle.statement.specs.Layout.{selectOf, insertOf, updateOf, deleteOf, createOf}
 use Rattle.sections.specs.Contracts.{endOf, SectionRead}
 use Rattle.statement.specs.Bodies.{updateSections, deleteSections, createSections, sectionsOf}
-use Rattle.ast.specs.Rows.{below-refl}
 use Rattle.statement.specs.Stays.{stays-begin, stays-on, stays-end}
 use Rattle.statement.specs.Answers.{bind-wrong, bind-limit, bind-same, given-done, given-wrong, given-limit}
 use Rattle.statement.specs.FirstRecord.{headOf}
-use Rattle.ast.specs.declared.reading.Read as Rd
-use Rattle.ast.specs.declared.reading.Read.the-variants as R
+use Rattle.read_expression.specs.declared.reading.Read as Rd
+use Rattle.read_expression.specs.declared.reading.Read.the-variants as R
 
 -- the slices' lengths
 pub record Room (cells froms parts : List ℕ) : Type 0 where
@@ -58,7 +58,7 @@ pub record BodyTook (m : Read Statement) (t : Bytes) (h : StatementHead) (p : �
   pub is : m (here t p 2 0 0) ≡ ok (value, here t p′ l′ c′ tables)
   pub position : Position t p′ l′ c′
   pub stand : (b : Bytes) → bodyAt b t cells′ froms′ parts′ h 1 ≡ value
-  pub kept : Below 8 parts parts′
+  pub kept : Kept 0 8 parts parts′
 
 -- what an answer says of such a reading
 unfoldable pub BodyBy : (m : Read Statement) (t : Bytes) (h : StatementHead) (p : ℕ) (cells′ froms′ parts parts′ : List ℕ) → Rd.Read → Type 0
@@ -85,7 +85,7 @@ module _ {A B C : Type 0} (m : Read A) (f : A → Read B) (g : B → Read C) (p 
 -- m is the last to be read: the statement is made of it
 module _ (t : Bytes) (h : StatementHead) (p : ℕ) (cells′ froms′ parts parts′ : List ℕ) {A B : Type 0} (m : Read A) (H : ℕ → A → Type 0) (a : A → B) (e : B → Statement) (q l c k : ℕ)
     (come : sectionsOf h 1 (here t p 2 0 0) ≡ ((m >>= λ v. give (a v)) >>= λ d. give (e d)) (here t q l c k))
-    (stands : (c′ : ℕ) (v : A) → c ≤ c′ → H c′ v → ((b : Bytes) → bodyAt b t cells′ froms′ parts′ h 1 ≡ e (a v)) × Below 8 parts parts′) where
+    (stands : (c′ : ℕ) (v : A) → c ≤ c′ → H c′ v → ((b : Bytes) → bodyAt b t cells′ froms′ parts′ h 1 ≡ e (a v)) × Kept 0 8 parts parts′) where
   last-ok : (v : A) (z : Place) → m (here t q l c k) ≡ ok (v, z) → sectionsOf h 1 (here t p 2 0 0) ≡ ok (e (a v), z)
   unfolding give
   last-ok v z x = come ∙ inner-ok m (λ v. give (a v)) (λ d. give (e d)) _ v z x ∙ bind-ok (give (a v)) (λ d. give (e d)) z (a v) z refl
@@ -161,22 +161,14 @@ drop-is n y p = refl
 module _ (t : Bytes) (p : ℕ) (cells froms parts : List ℕ) (h : Position t p 2 0) where
   other-read : BodyRead t otherHead p cells froms parts parts (R.Done p 2 0)
   unfolding BodyBy bodyAt
-  other-read = record { value = _; tables = 0; is = other-is _; position = h; stand = λ b. refl; kept = below-refl _ _ }
+  other-read = record { value = _; tables = 0; is = other-is _; position = h; stand = λ b. refl; kept = kept-all 0 _ _ }
 
   drop-read : (n : Word) (y : Bool) → BodyRead t (dropHead n y) p cells froms parts parts (R.Done p 2 0)
   unfolding BodyBy bodyAt
-  drop-read n y = record { value = _; tables = 0; is = drop-is n y _; position = h; stand = λ b. refl; kept = below-refl _ _ }
+  drop-read n y = record { value = _; tables = 0; is = drop-is n y _; position = h; stand = λ b. refl; kept = kept-all 0 _ _ }
 
 -- BY THE KIND
 -- what a code does not stand for
-coded-miss : {A : Type 0} (d a : A) (as′ : List A) (n k : ℕ) → (k ≡ n → ⊥) → coded d (a ∷ as′) n k ≡ coded d as′ (suc n) k
-unfolding coded
-coded-miss d a as′ n k h = rw (coded, ne-eqb n k (λ e. h (sym e)))
-
-coded-end : {A : Type 0} (d : A) (n k : ℕ) → coded d [] n k ≡ d
-unfolding coded
-coded-end d n k = refl
-
 -- no other kind has a body
 pub no-body : (t : Bytes) (p : ℕ) (cells froms parts : List ℕ) → Position t p 2 0 → (kind : ℕ) → (kind ≡ 1 → ⊥) → (kind ≡ 2 → ⊥) → (kind ≡ 4 → ⊥) → (kind ≡ 5 → ⊥) → (kind ≡ 6 → ⊥) → (n : Word) (y : Bool)
     → BodyRead t (headOf kind n y) p cells froms parts parts (R.Done p 2 0)

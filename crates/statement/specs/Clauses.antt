@@ -9,16 +9,16 @@ use Rattle.rules.specs.Refusals.{statement, Answer, ok, refused}
 use Rattle.rules.specs.Lists.{Bytes}
 use Rattle.rules.specs.Reader.{Place, Read, give, _>>=_}
 use Rattle.text.specs.Answers.{wrongAt, limitAt, bind-ok}
+use Rattle.numbers.specs.Kept.{Kept, kept-all, kept-on, kept-first}
 use Rattle.ast.specs.Table.{rowSize}
-use Rattle.ast.specs.Reading.{here, Position, Took, Given, Below}
+use Rattle.read_expression.specs.Reading.{here, Position, Took, Given}
 use Rattle.entries.specs.Entries.{Entry, mostOf, section}
 use Rattle.sections.specs.Layout.{startOf, sectionAt}
 use Rattle.sections.specs.Contracts.{endOf, SectionRead}
-use Rattle.ast.specs.Rows.{below-refl, below-trans, below-less}
 use Rattle.statement.specs.Stays.{Stays, stays-more}
 use Rattle.statement.specs.Answers.{bind-wrong, bind-limit, given-done, given-wrong, given-limit}
-use Rattle.ast.specs.declared.reading.Read as Rd
-use Rattle.ast.specs.declared.reading.Read.the-variants as R
+use Rattle.read_expression.specs.declared.reading.Read as Rd
+use Rattle.read_expression.specs.declared.reading.Read.the-variants as R
 
 -- the sections of n kinds from k on
 unfoldable pub run : ℕ → ℕ → Read (List (List Entry))
@@ -71,10 +71,10 @@ edges (suc (suc (suc (suc (suc (suc (suc k))))))) l = absurd (omega arith)
 
 -- sections that were read from row c on to row c′
 pub record RunRead (t : Bytes) (kind n c : ℕ) (cells cells′ parts parts′ : List ℕ) (c′ : ℕ) (xss : List (List Entry)) : Type 0 where
-  pub is : (x y : List ℕ) → Below (rowSize * c′) cells′ x → Below 2367 parts′ y → (b : Bytes)
+  pub is : (x y : List ℕ) → Kept 0 (rowSize * c′) cells′ x → Kept 0 2367 parts′ y → (b : Bytes)
       → runAt b t x y kind n ≡ xss
-  pub cells-kept : Below (rowSize * c) cells cells′
-  pub parts-kept : Below (edge kind) parts parts′
+  pub cells-kept : Kept 0 (rowSize * c) cells cells′
+  pub parts-kept : Kept 0 (edge kind) parts parts′
 
 -- READING THEM
 none-left : (k : ℕ) (p : Place) → run k 0 p ≡ ok ([], p)
@@ -112,7 +112,7 @@ run-none t kind n p l c k cells parts h e = rw e (record {
   position = h;
   moved = omega arith;
   more = omega arith;
-  holds = record { is = λ x y f g b. unfold runAt in refl; cells-kept = below-refl _ _; parts-kept = below-refl _ _ };
+  holds = record { is = λ x y f g b. unfold runAt in refl; cells-kept = kept-all 0 _ _; parts-kept = kept-all 0 _ _ };
 })
 
 -- the first section, and those behind it
@@ -139,13 +139,13 @@ module _ (t : Bytes) (kind n p l c k : ℕ) (cells cells′ parts parts′ : Lis
         let first = took .holds in
         record {
           is = λ x y f g b.
-              let u = first .is x y (below-trans _ _ cells″ x (h .cells-kept)
-              (below-less (rowSize * c″) _ _ x (omega arith) f))
-              (rw (sides .1) (below-trans _ _ parts″ y (h .parts-kept) (below-less 2367 _ _ y (sides .2) g))) b in
+              let u = first .is x y (kept-on (h .cells-kept)
+              (kept-first _ f (omega arith)))
+              (rw (sides .1) (kept-on (h .parts-kept) (kept-first _ g (sides .2)))) b in
               rw (u, h .is x y f g b);
-          cells-kept = below-trans _ _ cells′ cells″ (first .cells-kept)
-              (below-less (rowSize * c′) _ _ cells″ (omega (arith, took .more)) (h .cells-kept));
-          parts-kept = below-trans _ _ parts′ parts″ (rw (sides .0) at (first .parts-kept)) (below-less (edge (suc kind)) _ _ parts″ (sides .3) (h .parts-kept));
+          cells-kept = kept-on (first .cells-kept)
+              (kept-first _ (h .cells-kept) (omega (arith, took .more)));
+          parts-kept = kept-on (rw (sides .0) at (first .parts-kept)) (kept-first _ (h .parts-kept) (sides .3));
         }
 
     pub run-more : (cells″ parts″ : List ℕ) (r′ : Rd.Read) → Given (run (kind + 1) (n - 1)) (RunRead t (kind + 1) (n - 1) c′ cells′ cells″ parts′ parts″) t p′ l′ c′ k r′
@@ -171,5 +171,5 @@ pub stays-run : {c n : ℕ} {cells parts : List ℕ} {P : List ℕ → List ℕ 
     → {t : Bytes} {kind m c′ : ℕ} {cells′ parts′ : List ℕ} {xss : List (List Entry)} → RunRead t kind m c cells cells′ parts parts′ c′ xss → c ≤ c′ → n ≤ edge kind → n ≤ 2367
     → Stays c′ 2367 cells′ parts′ λ x y. P x y × ((b : Bytes) → runAt b t x y kind m ≡ xss)
 stays-run h r l e m =
-    let s = stays-more h (r .cells-kept) (below-less _ _ _ _ e (r .parts-kept)) l m in
+    let s = stays-more h (r .cells-kept) (kept-first _ (r .parts-kept) e) l m in
     record { holds = λ x y f g. (s .holds x y f g, r .is x y f g) }

@@ -18,12 +18,12 @@ use Rattle.text.specs.Reading.{place, place-next, place-end, place-more, at-is,
 use Rattle.text.specs.Records.{no-field}
 use Rattle.text.specs.Answers.{wrongAt, bind-ok, then-ok, then-no}
 use Rattle.text.specs.declared.Line.{Line}
-use Rattle.ast.specs.Reading.{here, Position, Given}
+use Rattle.read_expression.specs.Reading.{here, Position, Given}
 use Rattle.statement.specs.Bodies.{sectionsOf}
 use Rattle.statement.specs.Answers.{bind-wrong, bind-limit}
 use Rattle.statement.specs.BodyReads.{BodyTook, BodyBy, BodyRead}
-use Rattle.ast.specs.declared.reading.Read as Rd
-use Rattle.ast.specs.declared.reading.Read.the-variants as R
+use Rattle.read_expression.specs.declared.reading.Read as Rd
+use Rattle.read_expression.specs.declared.reading.Read.the-variants as R
 
 -- `end`, and the statement s
 unfoldable pub ended : Statement → Read Statement

@@ -19,10 +19,10 @@ use Rattle.text.specs.Numbers.{isName, name-in, name-out}
 use Rattle.text.specs.Reading.{fieldOf, textOf, field-word, one-of, rest-none, rest-one, rest-two, rest-other, field-inside}
 use Rattle.text.specs.Records.{no-field, one-field, two-fields}
 use Rattle.text.specs.declared.Line.{Line}
-use Rattle.ast.specs.Table.{coded, isOne}
-use Rattle.ast.specs.Says.{Inside}
-use Rattle.ast.specs.Heads.{field-length}
-use Rattle.ast.specs.Reading.{here}
+use Rattle.text.specs.Fields.{Inside, field-length}
+use Rattle.numbers.specs.Codes.{coded}
+use Rattle.numbers.specs.Values.{isOne}
+use Rattle.read_expression.specs.Reading.{here}
 use Rattle.statement.specs.declared.first.First.{First}
 
 -- the first record of a kind, with this name and flag where it has them

@@ -9,26 +9,26 @@ use Rattle.rules.specs.Lines.{Word}
 use Rattle.rules.specs.Ast as Ast
 use Rattle.rules.specs.Reader.{Place, Read, give, _>>=_}
 use Rattle.rules.specs.ReadStatement.{insertHead}
+use Rattle.numbers.specs.Kept.{Kept, kept-all, kept-first}
 use Rattle.ast.specs.Table.{rowSize}
-use Rattle.ast.specs.Reading.{here, Position, Took, Given, Below}
+use Rattle.read_expression.specs.Reading.{here, Position, Took, Given}
 use Rattle.entries.specs.Entries.{Entry, mostOf, section, someSection}
 use Rattle.sections.specs.Layout.{startOf, entriesAt, sectionAt}
 use Rattle.statement.specs.Layout.{toNames, insertOf}
 use Rattle.sections.specs.Contracts.{endOf, SectionRead}
 use Rattle.statement.specs.Bodies.{namesBehind, insertSections, sectionsOf}
-use Rattle.ast.specs.Rows.{below-refl, below-less}
 use Rattle.statement.specs.Stays.{Stays, stays-begin, stays-on, stays-more, stays-end}
 use Rattle.statement.specs.Answers.{given-done, given-wrong, given-limit, given-map}
 use Rattle.statement.specs.BodyReads.{bodyAt, BodyBy, BodyRead, inner-ok, inner-wrong, inner-limit, body-last}
-use Rattle.ast.specs.declared.reading.Read as Rd
-use Rattle.ast.specs.declared.reading.Read.the-variants as R
+use Rattle.read_expression.specs.declared.reading.Read as Rd
+use Rattle.read_expression.specs.declared.reading.Read.the-variants as R
 
 -- names that were read behind the entries cs of `columns`, from row c on to row c′; where there is no `columns`, none
 pub record NamesRead (t : Bytes) (cs : List Entry) (c : ℕ) (cells cells′ parts parts′ : List ℕ) (c′ : ℕ) (ns : List Entry) : Type 0 where
-  pub is : (x y : List ℕ) → Below (rowSize * c′) cells′ x → Below 790 parts′ y → (b : Bytes)
+  pub is : (x y : List ℕ) → Kept 0 (rowSize * c′) cells′ x → Kept 0 790 parts′ y → (b : Bytes)
       → toNames cs (sectionAt b t x y 8) ≡ toNames cs ns
-  pub cells-kept : Below (rowSize * c) cells cells′
-  pub parts-kept : Below 21 parts parts′
+  pub cells-kept : Kept 0 (rowSize * c) cells cells′
+  pub parts-kept : Kept 0 21 parts parts′
 
 -- a section has as many entries as its first number says
 section-none : (b t : Bytes) (cells parts : List ℕ) → getD parts 8 0 ≡ 0 → sectionAt b t cells parts 7 ≡ []
@@ -54,7 +54,7 @@ module _ (t : Bytes) (cs : List Entry) (p l c k : ℕ) (cells parts : List ℕ) 
         position = h;
         moved = omega arith;
         more = omega arith;
-        holds = record { is = λ x y f g b. unfold toNames in refl; cells-kept = below-refl _ _; parts-kept = below-refl _ _ };
+        holds = record { is = λ x y f g b. unfold toNames in refl; cells-kept = kept-all 0 _ _; parts-kept = kept-all 0 _ _ };
       }
       go (c ∷ cs) z = absurd (let z : _≡_ {A = ℕ} 0 1 = cc in omega arith)
 
@@ -79,7 +79,7 @@ stays-names : {c m : ℕ} {cells parts : List ℕ} {P : List ℕ → List ℕ �
     → Stays c′ 790 cells′ parts′ λ x y. P x y × ((b : Bytes) → toNames cs (sectionAt b t x y 8) ≡ toNames cs ns)
 stays-names {m = m} h r l e =
     let o : m ≤ 790 = omega arith in
-    let s = stays-more h (r .cells-kept) (below-less _ _ _ _ e (r .parts-kept)) l o in
+    let s = stays-more h (r .cells-kept) (kept-first _ (r .parts-kept) e) l o in
     record { holds = λ x y f g. (s .holds x y f g, r .is x y f g) }
 
 module _ (t : Bytes) (n : Word) (p : ℕ) (cells cells₁ froms parts parts₁ : List ℕ) (r : Rd.Read) (s : Given (section 7) (SectionRead t 7 0 cells cells₁ parts parts₁) t p 2 0 0 r) where
@@ -97,7 +97,7 @@ module _ (t : Bytes) (n : Word) (p : ℕ) (cells cells₁ froms parts parts₁ :
     first = given-done _ _ _ _ _ _ _ _ s e
 
     names : Given (namesBehind (first .value)) (NamesRead t (first .value) c₁ cells₁ cells₂ parts₁ parts₂) t p₁ l₁ c₁ 0 r₁
-    names = g (first .value) 0 (first .holds .is cells₁ parts₁ (below-refl _ _) (below-refl _ _))
+    names = g (first .value) 0 (first .holds .is cells₁ parts₁ (kept-all 0 _ _) (kept-all 0 _ _))
 
     come : sectionsOf (insertHead n) 1 (here t p 2 0 0) ≡ ((namesBehind (first .value) >>= λ ns. someSection 9 >>= λ rs. give (insertOf 1 n (first .value) ns rs)) >>= λ d. give (Ast.insert d)) (here t p₁ l₁ c₁ 0)
     come = insert-is n _ ∙ inner-ok (section 7) _ _ _ _ _ (first .is)

@@ -12,10 +12,10 @@ use lib.ListN.{getD}
 use Rattle.rules.specs.Lists.{Bytes, orElse}
 use Rattle.rules.specs.Lines.{Word}
 use Rattle.rules.specs.Places.{wordAt}
-use Rattle.rules.specs.Schema.{Datatype, boolean, integer, floating, string}
-use Rattle.rules.specs.Ast.{Expr, star, Exprs, nil, cons, From, Item, Key, Clause, Select, Delete, Named, Insert, Set, Update, NewColumn, Create, Drop, Statement, listOf}
+use Rattle.rules.specs.Ast.{Expr, star, Exprs, nil, cons, From, Item, Key, Clause, Select, Delete, Named, Insert, Set, Update, NewColumn, Create, Statement, listOf}
 use Rattle.rules.specs.Ast as Ast
-use Rattle.ast.specs.Table.{coded, isOne}
+use Rattle.numbers.specs.Codes.{coded}
+use Rattle.numbers.specs.Values.{isOne, typeAt}
 use Rattle.entries.specs.Entries.{Entry}
 use Rattle.sections.specs.Layout.{sectionAt}
 use Rattle.from.specs.Layout.{fromsAt}
@@ -63,9 +63,6 @@ toRow e = listOf (e .exprs)
 unfoldable pub toSet : Entry → Set
 toSet e = record { line = e .line; name = wordOr (e .head .name); value = firstOf (e .exprs) }
 
-unfoldable pub toType : ℕ → Datatype
-toType k = coded string (boolean ∷ integer ∷ floating ∷ string ∷ []) 1 k
-
 unfoldable pub toNull : ℕ → Option Bool
 toNull k = coded none (some true ∷ some false ∷ []) 1 k
 
@@ -73,7 +70,7 @@ unfoldable pub toColumn : Entry → NewColumn
 toColumn e = record {
   line = e .line;
   name = wordOr (e .head .name);
-  type = toType (e .head .code);
+  type = typeAt (e .head .code);
   key = isOne (e .head .key);
   nullable = toNull (e .head .nullable);
   unique = isOne (e .head .unique);

@@ -13,3 +13,5 @@ pub mod InsertReads
 pub mod SelectReads
 pub mod EndRecord
 pub mod Whole
+pub mod Access
+pub mod EntryAccess

@@ -12,7 +12,7 @@ use Rattle.rules.specs.ReadStatement.{selectBody, deleteBody, insertBody, updat
 use Rattle.claims.specs.Answers.{ensured}
 use Rattle.claims.specs.Reading.Limits.{statement-counted}
 use Rattle.text.specs.Reading.{place}
-use Rattle.ast.specs.Reading.{here}
+use Rattle.read_expression.specs.Reading.{here}
 use Rattle.statement.specs.Layout.{selectOf, insertOf, updateOf, deleteOf, createOf}
 use Rattle.statement.specs.Bodies.{selectSections, insertSections, updateSections, deleteSections, createSections, sectionsOf}
 use Rattle.statement.specs.Mapped.{regroup, mapped-steps}

@@ -7,16 +7,16 @@ use mathlib.Core.Option.{Option, none, some}
 use Rattle.rules.specs.Limits.{mostEntries, mostRows, mostTableColumns}
 use Rattle.rules.specs.Lists.{Bytes, mapOption, orElse}
 use Rattle.rules.specs.Lines.{Word, bytes}
-use Rattle.rules.specs.Schema.{Datatype, boolean, integer, floating, string}
 use Rattle.rules.specs.Ast.{Exprs, nil, cons, Named}
 use Rattle.rules.specs.Reader.{Place, Read, give, stop, _>>=_, _>>_, at, rest, name, word, countField, noField, oneField, optionalName, optional, record′, fit, recordWithin, many, turns, atLeastOne}
 use Rattle.rules.specs.ReadExpression.{times, expression, clause}
 use Rattle.rules.specs.ReadColumn.{ColumnHead, newColumnFields}
 use Rattle.rules.specs.ReadStatement.{itemBody, groupBody, directions, orderBody, nameBody, rowBody, columnsHere, risingSet, newColumn, columnBody, sets}
-use Rattle.ast.specs.Table.{coded, isOne}
-use Rattle.ast.specs.Names.{flagNumber}
-use Rattle.entries.specs.Entries.{Entry, keywordOf, mostOf, isOnce, plainHead, namedHead, orderHead, setHead, typeNumber, nullNumber, columnHead, fieldsOf, nameOf, entries, turnsOf, section, someSection}
-use Rattle.statement.specs.Layout.{firstOr, firstOf, wordOr, mapEntries, toItem, toGroup, toKey, toClause, toNamed, toNames, toRow, toSet, toType, toNull, toColumn}
+use Rattle.rules.specs.Area.{flag}
+use Rattle.numbers.specs.Codes.{coded}
+use Rattle.numbers.specs.Values.{flag-back, type-back}
+use Rattle.entries.specs.Entries.{Entry, keywordOf, mostOf, isOnce, plainHead, namedHead, orderHead, setHead, nullNumber, columnHead, fieldsOf, nameOf, entries, turnsOf, section, someSection}
+use Rattle.statement.specs.Layout.{firstOr, firstOf, wordOr, mapEntries, toItem, toGroup, toKey, toClause, toNamed, toNames, toRow, toSet, toNull, toColumn}
 use Rattle.statement.specs.Bodies.{namesBehind}
 use Rattle.statement.specs.Mapped.{mapped, same-steps, regroup, mapped-steps, mapped-twice, mapped-same, ifAt, ifAt-steps, ifAt-mapped, within-mapped, steps-mapped}
 use Rattle.statement.specs.RulesRuns.{entryBody, turn, Run, run-section, run-some, many-run}
@@ -28,24 +28,12 @@ unfolding times mapped _>>=_ give
 one-expression f = mapped-twice expression (λ e. cons e nil) f
 
 -- one or none
-flag-expression : (b : Bool) → optional b expression ≡ mapped firstOf (times (flagNumber b) expression)
-unfolding times optional flagNumber firstOf mapped _>>=_ give
+flag-expression : (b : Bool) → optional b expression ≡ mapped firstOf (times (flag b) expression)
+unfolding times optional flag firstOf mapped _>>=_ give
 flag-expression true = sym (one-expression firstOf)
 flag-expression false = refl
 
 -- CODES READ BACK
-flag-back : (b : Bool) → isOne (flagNumber b) ≡ b
-unfolding isOne flagNumber
-flag-back true = refl
-flag-back false = refl
-
-type-back : (y : Datatype) → toType (typeNumber y) ≡ y
-unfolding toType typeNumber coded
-type-back boolean = refl
-type-back integer = refl
-type-back floating = refl
-type-back string = refl
-
 null-back : (u : Option Bool) → toNull (nullNumber u) ≡ u
 unfolding toNull nullNumber coded
 null-back none = refl
@@ -88,8 +76,8 @@ unfolding fieldsOf keywordOf mostOf isOnce
 columns-are = run-section (many-run 11 newColumnFields columnBody columnHead toColumn (λ b r. refl) column-body) refl
 
 -- UPDATE
-set-head : (w : Word) (d : Bool) → setHead (w, d) ≡ namedHead (flagNumber (not d)) (some w)
-unfolding setHead flagNumber
+set-head : (w : Word) (d : Bool) → setHead (w, d) ≡ namedHead (flag (not d)) (some w)
+unfolding setHead flag
 set-head w true = refl
 set-head w false = refl
 

@@ -10,7 +10,8 @@ use Rattle.rules.specs.Ast.{Select, From}
 use Rattle.rules.specs.Ast as Ast
 use Rattle.rules.specs.Reader.{Place, Read, give, _>>=_, turns}
 use Rattle.rules.specs.ReadStatement.{froms, selectHead}
-use Rattle.ast.specs.Reading.{here, Took, Given}
+use Rattle.numbers.specs.Kept.{kept-all}
+use Rattle.read_expression.specs.Reading.{here, Took, Given}
 use Rattle.entries.specs.Entries.{Entry, mostOf, someSection}
 use Rattle.sections.specs.Layout.{startOf, sectionAt}
 use Rattle.from.specs.Layout.{fromsAt}
@@ -18,13 +19,12 @@ use Rattle.statement.specs.Layout.{selectOf}
 use Rattle.sections.specs.Contracts.{endOf, SectionRead}
 use Rattle.from.specs.Contracts.{FromsTook, FromsRead}
 use Rattle.statement.specs.Bodies.{selectSections, sectionsOf}
-use Rattle.ast.specs.Rows.{below-refl}
 use Rattle.statement.specs.Stays.{Stays, stays-begin, stays-on, stays-more, stays-set}
 use Rattle.statement.specs.Answers.{bind-same, given-done, given-wrong, given-limit}
 use Rattle.statement.specs.Clauses.{run, runOn, run-on, runAt, edge, RunRead, stays-run}
 use Rattle.statement.specs.BodyReads.{bodyAt, BodyBy, BodyRead, inner-ok, inner-wrong, inner-limit, body-last}
-use Rattle.ast.specs.declared.reading.Read as Rd
-use Rattle.ast.specs.declared.reading.Read.the-variants as R
+use Rattle.read_expression.specs.declared.reading.Read as Rd
+use Rattle.read_expression.specs.declared.reading.Read.the-variants as R
 use Rattle.from.specs.declared.Froms as Fr
 use Rattle.from.specs.declared.Froms.the-variants as F
 
@@ -46,7 +46,7 @@ stays-froms : {c m : ℕ} {cells parts : List ℕ} {P : List ℕ → List ℕ �
     → Stays c′ m cells′ parts λ x y. P x y × ((b : Bytes) → fromsAt b t x rows′ n ≡ f .value)
 stays-froms {m = m} h f =
     let o : m ≤ m = omega arith in
-    let s = stays-more h (f .cells-kept) (below-refl _ _) (f .more) o in
+    let s = stays-more h (f .cells-kept) (kept-all 0 _ _) (f .more) o in
     record { holds = λ x y u v. (s .holds x y u v, f .stand x u) }
 
 module _ (t : Bytes) (p : ℕ) (cells cells₁ parts parts₁ : List ℕ) (r : Rd.Read) (s : Given (someSection 0) (SectionRead t 0 0 cells cells₁ parts parts₁) t p 2 0 0 r) where

@@ -1,12 +1,12 @@
 -- The whole statement: what the rules answer, and the numbers that stand for it.
-use Prim.Native.Nat.{ℕ, suc, _≤_, _<_}
+use Prim.Native.Nat.{ℕ, _≤_, _<_}
 use native.Mathlib.Omega.{arith}
 use native.Mathlib.Decide.{decLt}
 use mathlib.Core.Path.{_≡_, refl, sym, ap, _∙_}
 use mathlib.Core.Bool.{Bool, true, false}
-use mathlib.Core.List.{List, [], _∷_, map}
+use mathlib.Core.List.{List, [], _∷_}
 use mathlib.Core.Option.{none, some}
-use lib.Dec.{eqb, ltb}
+use lib.Dec.{ltb}
 use lib.ListN.{length, getD, drop, drop-of-length-le}
 use lib.Seq.{sets, sets-eq}
 use borrow.Author.Tests.{lt-ltb, le-ltb}
@@ -22,8 +22,10 @@ use Rattle.rules.specs.ReadStatement.{StatementHead, statementHeads, statementH
 use Rattle.text.specs.Lines.{lineEnd, line-moves, line-most}
 use Rattle.text.specs.Reading.{place, place-start, place-next}
 use Rattle.text.specs.Answers.{wrongAt, limitAt, bind-ok, bind-no}
-use Rattle.ast.specs.Table.{coded, isOne}
-use Rattle.ast.specs.Reading.{here, Position, Below}
+use Rattle.numbers.specs.Codes.{coded-map}
+use Rattle.numbers.specs.Values.{isOne}
+use Rattle.numbers.specs.Kept.{Kept}
+use Rattle.read_expression.specs.Reading.{here, Position}
 use Rattle.statement.specs.Layout.{statementAt}
 use Rattle.statement.specs.Bodies.{sectionsOf}
 use Rattle.statement.specs.RulesBodies.{records-are, statement-cells}
@@ -31,8 +33,8 @@ use Rattle.statement.specs.FirstRecord.{headOf, firstSaid, said-none, sa
 use Rattle.statement.specs.BodyReads.{bodyAt, BodyTook, BodyBy}
 use Rattle.statement.specs.EndRecord.{ended, WholeRead}
 use Rattle.statement.specs.declared.first.First.{First}
-use Rattle.ast.specs.declared.reading.Read as Rd
-use Rattle.ast.specs.declared.reading.Read.the-variants as R
+use Rattle.read_expression.specs.declared.reading.Read as Rd
+use Rattle.read_expression.specs.declared.reading.Read.the-variants as R
 use Rattle.statement.specs.declared.Outcome.{Outcome}
 use Rattle.statement.specs.declared.Outcome.the-variants as O
 
@@ -61,15 +63,6 @@ unfolding statementOf statementAnswer Counts
 too-long t cells froms parts h = (λ b. sym (rw (statementAnswer, lt-ltb mostBytes (length t) h)), λ b. tt)
 
 -- a statement by its kind, its line, its name and its flag
-coded-map : {A B : Type 0} (f : A → B) (d : A) (as′ : List A) (n k : ℕ) → f (coded d as′ n k) ≡ coded (f d) (map f as′) n k
-unfolding coded
-coded-map f d [] n k = refl
-coded-map f d (a ∷ as′) n k = go (eqb n k) refl (coded-map f d as′ (suc n) k)
-  where
-    go : (x : Bool) → eqb n k ≡ x → f (coded d as′ (suc n) k) ≡ coded (f d) (map f as′) (suc n) k → f (coded d (a ∷ as′) n k) ≡ coded (f d) (map f (a ∷ as′)) n k
-    go true e ih = rw (coded, e)
-    go false e ih = rw (coded, e) ih
-
 statement-body : (b t : Bytes) (cells froms parts : List ℕ) (kind line a n flag : ℕ) → getD parts 0 0 ≡ kind → getD parts 1 0 ≡ line → getD parts 2 0 ≡ a → getD parts 3 0 ≡ n → getD parts 4 0 ≡ flag
     → statementAt b t cells froms parts ≡ bodyAt b t cells froms parts (headOf kind (wordAt b t a n) (isOne flag)) line
 unfolding statementAt headOf
@@ -122,12 +115,11 @@ module _ (t : Bytes) (f : First) (g : (c : Bytes) → firstSaid c t f ≡ oneOf 
 
     -- THE NUMBERS
     module _ (cells′ froms′ parts parts₁ parts′ : List ℕ) (w : parts₁ ≡ sets parts 0 (f .kind ∷ 1 ∷ f .a ∷ f .b ∷ f .flag ∷ [])) (room : 5 ≤ length parts) where
-      header-is : Below 8 parts₁ parts′ → (b : Bytes) → statementAt b t cells′ froms′ parts′ ≡ bodyAt b t cells′ froms′ parts′ (head b) 1
-      unfolding Below
+      header-is : Kept 0 8 parts₁ parts′ → (b : Bytes) → statementAt b t cells′ froms′ parts′ ≡ bodyAt b t cells′ froms′ parts′ (head b) 1
       header-is k b = statement-body b t cells′ froms′ parts′ _ _ _ _ _ (first 0 (omega arith)) (first 1 (omega arith)) (first 2 (omega arith)) (first 3 (omega arith)) (first 4 (omega arith))
         where
           first : (i : ℕ) → i < 5 → getD parts′ i 0 ≡ getD (f .kind ∷ 1 ∷ f .a ∷ f .b ∷ f .flag ∷ drop 5 parts) i 0
-          first i l = k i (omega arith) ∙ ap (λ s. getD s i 0) (w ∙ sets-eq (f .kind ∷ 1 ∷ f .a ∷ f .b ∷ f .flag ∷ []) parts 0 room)
+          first i l = k .same i (omega arith) (omega arith) ∙ ap (λ s. getD s i 0) (w ∙ sets-eq (f .kind ∷ 1 ∷ f .a ∷ f .b ∷ f .flag ∷ []) parts 0 room)
 
       module _ (r : Rd.Read) (p : ℕ) (line : p ≡ lineEnd t 0) (whole : (n : Word) (y : Bool) → WholeRead t (headOf (f .kind) n y) p cells′ froms′ parts₁ parts′ r) where
         head-by : (b : Bytes) → WholeRead t (head b) (lineEnd t 0) cells′ froms′ parts₁ parts′ r

@@ -2,7 +2,7 @@
 ghost use mathlib.Core.Path.{_≡_};
 ghost use mathlib.Core.List.{[], _∷_};
 ghost use mathlib.Core.Option.{none};
-ghost use Prim.Native.Nat.{_+_, _≤_};
+ghost use Prim.Native.Nat.{_≤_};
 ghost use lib.ListN.{length};
 ghost use lib.Seq.{sets};
 ghost use Rattle.rules.specs.Lists.{Bytes};
@@ -11,8 +11,8 @@ ghost use Rattle.rules.specs.Reader.{lineHere, oneOf, apply};
 ghost use Rattle.rules.specs.ReadStatement.{statementHeads};
 ghost use Rattle.text.specs.Lines.{field};
 ghost use Rattle.text.specs.Words.{nth};
-ghost use Rattle.ast.specs.Says.{Inside};
-ghost use Rattle.ast.specs.Reading.{here};
+ghost use Rattle.text.specs.Fields.{Inside};
+ghost use Rattle.read_expression.specs.Reading.{here};
 ghost use Rattle.statement.specs.FirstRecord.{firstSaid};
 use text::places::address;
 

@@ -1,4 +1,5 @@
 // The statement from its text: its expressions in a table of rows (crate ast), its FROM items and its other parts in two more slices.
+pub mod access;
 mod bodies;
 mod first;
 
@@ -10,7 +11,7 @@ ghost use Rattle.rules.specs.Ast.{Statement};
 ghost use Rattle.rules.specs.Sizes.{statementSize};
 ghost use Rattle.rules.specs.Lines.{Word};
 ghost use Rattle.statement.specs.Layout.{statementAt};
-ghost use Rattle.ast.specs.Reading.{Position, Given};
+ghost use Rattle.read_expression.specs.Reading.{Position, Given};
 ghost use Rattle.statement.specs.FirstRecord.{headOf};
 ghost use Rattle.statement.specs.BodyReads.{Room};
 ghost use Rattle.statement.specs.EndRecord.{ended, Is, WholeRead};
@@ -18,7 +19,7 @@ ghost use Rattle.statement.specs.Whole.{statementOf, statementAnswer, Co
 use crate::bodies::read_body;
 use crate::first::first_record;
 use crate::first::put_first;
-use ast::reading::Read;
+use read_expression::reading::Read;
 
 // How many numbers the expression table takes.
 pub const CELL_NUMBERS: usize = ast::rows::TABLE_SIZE;

@@ -5,5 +5,6 @@ pub mod Numbers
 pub mod Order
 pub mod Places
 pub mod Reading
+pub mod Fields
 pub mod Records
 pub mod Answers

@@ -87,7 +87,7 @@ words-first x xs = go (eqb x 32) refl
     go false e = rw (wordsOf, run, e, e) (push-words x xs)
 
 -- the words from p on: the one that ends at e, and those behind it
-words-at : (t : Bytes) (p e : ℕ) → p < length t → e ≡ stopAt 32 32 t p → wordsOf (drop p t) ≡ take (e - p) (drop p t) ∷ wordsOf (drop (e + 1) t)
+pub words-at : (t : Bytes) (p e : ℕ) → p < length t → e ≡ stopAt 32 32 t p → wordsOf (drop p t) ≡ take (e - p) (drop p t) ∷ wordsOf (drop (e + 1) t)
 unfolding stopAt
 words-at t p e l h =
     let k : e - p ≡ run 32 32 (drop p t) = omega arith in

@@ -11,6 +11,7 @@ ghost use Rattle.text.specs.Words.{find, wordsOf};
 ghost use Rattle.text.specs.Numbers.{valueOf, isName};
 ghost use Rattle.text.specs.Order.{orderOf};
 
+pub mod lengths;
 pub mod places; // places.rt: places in both texts
 
 // Most bytes a text, and the address of the statement's first byte.
@@ -48,7 +49,7 @@ pub fn part(t: &[u8], a: usize, n: usize) -> &[u8]
 }
 
 // Where, from a position on, the first byte that is x or y stands, or the end of the text.
-fn stop_at(t: &[u8], at: usize, x: u8, y: u8) -> usize
+pub fn stop_at(t: &[u8], at: usize, x: u8, y: u8) -> usize
     ensures { λ r. ⌜ r ≡ stopAt x y (now (t .entry)) at ⌝ }
 {
     let mut i = at;

@@ -1,4 +1,4 @@
-mod Told
+mod SameImage
 mod Floats
 mod Pairs
 mod Orders

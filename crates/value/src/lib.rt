@@ -2,6 +2,7 @@
 pub mod arithmetic;
 pub mod bits;
 pub mod comparison;
+pub mod literals;
 pub mod logic;
 pub mod operands;
 

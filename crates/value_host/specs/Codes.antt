@@ -1,35 +1,25 @@
 -- Operators by the codes that the rules have for them.
 use Prim.Native.Nat.{ℕ}
-use mathlib.Core.Bool.{Bool, true, false}
-use mathlib.Core.List.{List, [], _∷_}
+use mathlib.Core.List.{[], _∷_}
 use mathlib.Core.Option.{Option, none, some}
 use mathlib.Core.Path.{_≡_, refl}
-use lib.Dec.{eqb}
 use Rattle.rules.specs.Refusals.{notWorkedOut}
 use Rattle.rules.specs.Schema.{Value}
 use Rattle.rules.specs.Ast.{Unary, not, fact, ident, neg, sqrt, Plain, and, or, eq, gt, lt, add, div, pow, mul, rem, sub, like, Binary, plain, ge, le, ne}
 use Rattle.rules.specs.Arithmetic.{Worked, fails}
 use Rattle.rules.specs.Operators.{unaryOf, binaryOf}
 use Rattle.rules.specs.Codes.{unaryCode, plainCode, binaryCode}
+use Rattle.numbers.specs.Codes.{coded}
 
--- the first of some operators that has the code n
-unfoldable pub coded : {O : Type 0} → (O → ℕ) → List O → ℕ → Option O
-coded code [] n = none
-coded code (o ∷ os) n = elim (eqb n (code o)) [ true ↦ some o | false ↦ coded code os n ]
-
-abbrev pub unaries : List Unary
-unaries = not ∷ fact ∷ ident ∷ neg ∷ sqrt ∷ []
-
-abbrev pub binaries : List Binary
-binaries =
-    plain and ∷ plain or ∷ plain eq ∷ plain gt ∷ plain lt ∷ plain add ∷ plain div ∷ plain pow ∷ plain mul ∷ plain rem ∷ plain sub ∷ plain like ∷
-    ge ∷ le ∷ ne ∷ []
-
+-- the operator of a code, if one has it
 unfoldable pub unaryAt : ℕ → Option Unary
-unaryAt = coded unaryCode unaries
+unaryAt n = coded none (some not ∷ some fact ∷ some ident ∷ some neg ∷ some sqrt ∷ []) 8 n
 
 unfoldable pub binaryAt : ℕ → Option Binary
-binaryAt = coded binaryCode binaries
+binaryAt n = coded none (
+    some (plain and) ∷ some (plain or) ∷ some (plain eq) ∷ some (plain gt) ∷ some (plain lt) ∷ some (plain add) ∷ some (plain div) ∷ some (plain pow)
+    ∷ some (plain mul) ∷ some (plain rem) ∷ some (plain sub) ∷ some (plain like) ∷ some ge ∷ some le ∷ some ne ∷ []
+    ) 16 n
 
 -- what the operator of a code gives; 28 where no operator has the code
 unfoldable pub applied : {O : Type 0} → (O → Worked) → Option O → Worked

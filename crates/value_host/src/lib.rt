@@ -5,12 +5,15 @@ ghost use Rattle.rules.specs.Lists.{Bytes};
 ghost use Rattle.rules.specs.Schema as rule;
 ghost use Rattle.rules.specs.Operators.{isOf};
 ghost use Rattle.value.specs.Values.{valueOf, workedOf, held};
-ghost use Rattle.value_host.specs.Numbers.{valueAt, kindOf, bitsOf, refusedBy, answerOf};
+ghost use Rattle.value_host.specs.Numbers.{valueBy, kindOf, bitsOf, refusedBy, answerOf};
 ghost use Rattle.value_host.specs.Codes.{unaryWorked, binaryWorked};
+use numbers::halves::high;
+use numbers::halves::low;
 use value::Value;
 use value::Worked;
 use value::arithmetic;
 use value::comparison;
+use value::literals;
 use value::logic;
 
 // Document 01's number of a refusal, or 0 and the value's kind and bits.
@@ -22,21 +25,14 @@ pub struct Answer {
 }
 
 fn value_at(kind: u32, n: u64) -> Value
-    ensures { λ r. ⌜ ((c q : Bytes) → valueOf c q r ≡ held (valueAt c q kind n)) ⌝ }
+    ensures { λ r. ⌜ ((c q : Bytes) → valueOf c q r ≡ held (valueBy c q kind n)) ⌝ }
 {
-    if kind == 2 {
-        return Value::Bool(n != 0);
-    }
-    if kind == 3 {
-        return Value::Int(ints::bits::from_bits(n));
-    }
-    if kind == 4 {
-        return Value::Float(value::bits::from_bits(n));
-    }
+    let a = low(n);
+    let b = high(n);
     if kind == 5 {
-        return Value::Text((n / 4294967296) as u32, (n % 4294967296) as u32);
+        return literals::literal(kind, b, a);
     }
-    Value::Null
+    literals::literal(kind, a, b)
 }
 
 fn kind_of(v: Value) -> u32
@@ -127,7 +123,7 @@ fn binary(catalog: &[u8], statement: &[u8], op: u32, a: Value, b: Value) -> Work
 
 #[no_mangle]
 pub extern "C" fn value_unary(op: u32, kind: u32, n: u64) -> Answer
-    ensures { λ r. ⌜ ((c q : Bytes) → r ≡ answerOf (unaryWorked op (valueAt c q kind n))) ⌝ }
+    ensures { λ r. ⌜ ((c q : Bytes) → r ≡ answerOf (unaryWorked op (valueBy c q kind n))) ⌝ }
 {
     answered(unary(op, value_at(kind, n)))
 }
@@ -143,7 +139,7 @@ pub extern "C" fn value_binary(
     l: u32,
     n: u64,
 ) -> Answer
-    ensures { λ r. ⌜ r ≡ answerOf (binaryWorked op (valueAt (now (catalog .entry)) (now (statement .entry)) k m) (valueAt (now (catalog .entry)) (now (statement .entry)) l n)) ⌝ }
+    ensures { λ r. ⌜ r ≡ answerOf (binaryWorked op (valueBy (now (catalog .entry)) (now (statement .entry)) k m) (valueBy (now (catalog .entry)) (now (statement .entry)) l n)) ⌝ }
 {
     let a = value_at(k, m);
     let b = value_at(l, n);
@@ -152,7 +148,7 @@ pub extern "C" fn value_binary(
 
 #[no_mangle]
 pub extern "C" fn value_is_null(kind: u32, n: u64) -> Answer
-    ensures { λ r. ⌜ ((c q : Bytes) → r ≡ answerOf (isOf rule.null (valueAt c q kind n))) ⌝ }
+    ensures { λ r. ⌜ ((c q : Bytes) → r ≡ answerOf (isOf rule.null (valueBy c q kind n))) ⌝ }
 {
     answered(comparison::is_null(value_at(kind, n)))
 }
@@ -160,7 +156,7 @@ pub extern "C" fn value_is_null(kind: u32, n: u64) -> Answer
 // `is` with a NaN, whatever its bits m.
 #[no_mangle]
 pub extern "C" fn value_is_nan(kind: u32, n: u64) -> Answer
-    ensures { λ r. ⌜ ((m : ℕ) (c q : Bytes) → r ≡ answerOf (isOf (rule.float m) (valueAt c q kind n))) ⌝ }
+    ensures { λ r. ⌜ ((m : ℕ) (c q : Bytes) → r ≡ answerOf (isOf (rule.float m) (valueBy c q kind n))) ⌝ }
 {
     answered(comparison::is_nan(value_at(kind, n)))
 }

@@ -1,4 +1,4 @@
--- Lists joined: their answers, cells, roots and counts stand one behind the other.
+-- Lists joined: their answers, cells and counts stand one behind the other.
 use Prim.Native.Nat.{ℕ, _+_}
 use native.Mathlib.Omega.{arith}
 use native.Mathlib.Nat.{add-assoc, add-zero}
@@ -6,7 +6,7 @@ use mathlib.Core.Path.{_≡_, refl, sym, ap}
 use mathlib.Core.List.{List, [], _∷_, _++_, map, append-assoc}
 use Rattle.rules.specs.Refusals.{Answer, ok, refused, _>>=_}
 use Rattle.rules.specs.Plan.{Built}
-use Rattle.rules.specs.Cells.{builtCount, countAll, cellsAll, roots, numberFirst}
+use Rattle.rules.specs.Cells.{builtCount, countAll, cellsAll, numberFirst}
 use Rattle.rules.specs.BuildExpression.{each}
 
 pub each-append : {A B : Type 0} (f : A → Answer B) (xs ys : List A)
@@ -37,10 +37,6 @@ pub map-same : {B : Type 0} (bs : List B) → map (λ b. b) bs ≡ bs
 map-same [] = refl
 map-same (b ∷ bs) = ap (λ r. b ∷ r) (map-same bs)
 
-pub map-append : {A B : Type 0} (f : A → B) (xs ys : List A) → map f (xs ++ ys) ≡ map f xs ++ map f ys
-map-append f [] ys = refl
-map-append f (x ∷ xs) ys = ap (λ r. f x ∷ r) (map-append f xs ys)
-
 pub count-append : (xs ys : List Built) → countAll (xs ++ ys) ≡ countAll xs + countAll ys
 unfolding countAll
 count-append [] ys = omega arith
@@ -51,11 +47,6 @@ pub cells-append : (xs ys : List Built) (n : ℕ)
 unfolding cellsAll countAll
 cells-append [] ys n = rw add-zero
 cells-append (x ∷ xs) ys n = rw (cells-append xs ys (n + builtCount x), add-assoc, append-assoc)
-
-pub roots-append : (xs ys : List Built) (n : ℕ) → roots n (xs ++ ys) ≡ roots n xs ++ roots (n + countAll xs) ys
-unfolding roots countAll
-roots-append [] ys n = rw add-zero
-roots-append (x ∷ xs) ys n = rw (roots-append xs ys (n + builtCount x), add-assoc)
 
 pub first-append : {B : Type 0} (xs ys : List (Built × B)) (n : ℕ)
     → numberFirst n (xs ++ ys) ≡ numberFirst n xs ++ numberFirst (n + countAll (map (λ x. x .0) xs)) ys

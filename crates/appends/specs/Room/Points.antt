@@ -17,10 +17,10 @@ use Rattle.claims.specs.Answers.{Ensures, then, weaken, ensured}
 use Rattle.claims.specs.Cells.Length.{cells-length, cellsAll-length}
 use Rattle.claims.specs.Count.Totals.{total-append}
 use Rattle.claims.specs.Count.Costs.{cost-use}
+use Rattle.claims.specs.Count.Uses.{useBy}
 use Rattle.appends.specs.Expressions.Emit.{emit, emitted-ok}
 use Rattle.appends.specs.Room.Written.{written, written-whole}
-use Rattle.appends.specs.Room.Items.{writtenUse}
-use Rattle.appends.specs.Room.Select.{uses-most}
+use Rattle.appends.specs.Room.Select.{writtenUse, uses-most}
 
 -- an accepted expression appends what is written of it
 pub emit-written : (s : Scope) (n : ℕ) (e : Expr) (xs : List Cell) (m : ℕ) → emit s n e ≡ ok (xs, m)
@@ -34,7 +34,7 @@ emit-written s n e xs m h =
 -- USES
 -- a use that is built has no more cells
 use-within : (u : Use) → Ensures (buildUse u) (λ x. builtCount x ≤ writtenUse u)
-unfolding buildUse useCost writtenUse
+unfolding buildUse useCost useBy
 use-within (over s e) = weaken (build s e) _ _ (λ b h. omega (arith, h)) (written-whole s e)
 use-within (argumentOf s e) =
     weaken (buildUse (argumentOf s e)) _ _ (λ x h. omega (arith, h)) (cost-use (argumentOf s e))

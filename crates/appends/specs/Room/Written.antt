@@ -22,8 +22,7 @@ use Rattle.rules.specs.Count.{pickCost, cost, costFirst, argumentCost}
 use Rattle.claims.specs.Answers.{Ensures}
 use Rattle.claims.specs.Count.Totals.{total-append}
 use Rattle.claims.specs.Count.Costs.{added-most}
-use Rattle.claims.specs.Count.Arguments.{argumentsCost, arguments-most}
-use Rattle.appends.specs.Room.Arguments.{all-arguments-most, collect-sqrt}
+use Rattle.claims.specs.Count.Arguments.{argumentsCost, arguments-most, all-arguments-most, collect-sqrt}
 
 -- what comes behind an answer, if it is accepted
 unfoldable pub ifAccepted : {A : Type 0} → Answer A → ℕ → ℕ

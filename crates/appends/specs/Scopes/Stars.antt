@@ -14,7 +14,7 @@ use Rattle.rules.specs.Items.{starredColumn, expandStars, starsExpand, expanded
 use Rattle.rules.specs.BuildSelect.{functionsOf}
 use Rattle.rules.specs.Sizes.{total}
 use Rattle.claims.specs.Cases.{either-way}
-use Rattle.appends.specs.Lists.Joined.{map-append}
+use Rattle.claims.specs.Lists.{map-append}
 
 -- HOW MANY
 mutual

@@ -17,8 +17,9 @@ use Rattle.rules.specs.Scope.{Scope}
 use Rattle.rules.specs.Items.{isLone}
 use Rattle.rules.specs.Hidden.{HiddenColumn, projected}
 use Rattle.rules.specs.BuildSelect.{itemBuilt, hiddenBuilt, projectItems, buildProjection}
+use Rattle.claims.specs.Lists.{map-append}
 use Rattle.appends.specs.Answers.{bind-ok, bind-refused, ok-same, atMost-passed, atMost-refused}
-use Rattle.appends.specs.Lists.Joined.{each-pure, map-append, first-append}
+use Rattle.appends.specs.Lists.Joined.{each-pure, first-append}
 use Rattle.appends.specs.Lists.Kinds.{emitFirsts, firsts-ok, firsts-refused}
 use Rattle.appends.specs.Nodes.Lays.{Lays, Adds, adds-more}
 use Rattle.appends.specs.Nodes.Kinds.{lays-project}

@@ -20,20 +20,20 @@ use Rattle.claims.specs.Answers.{ensured}
 use Rattle.claims.specs.Area.Accepted.{accepted, catalog-read}
 use Rattle.claims.specs.Area.ReadPlan.{readPlan}
 use Rattle.claims.specs.Area.PlanReadable.{plan-readable}
-use Rattle.claims.specs.Area.PlanSpeaks.{plan-speaks}
+use Rattle.claims.specs.Area.PlanReadsBack.{plan-reads-back}
 use Rattle.claims.specs.Room.Statements.{room}
 
--- THE AREA SPEAKS
+-- THE AREA READ BACK
 -- The whole area at exit, read back over the catalog's tables, gives exactly the plan: its cells, its nodes and what
 -- the statement has of its own; and the reported count is that of the cells.
-pub record Speaks (c q : Bytes) (a : List ℕ) (p : Plan Built) : Type 0 where
+pub record ReadsBack (c q : Bytes) (a : List ℕ) (p : Plan Built) : Type 0 where
   pub tables : Catalog
   pub catalog : readCatalog c ≡ ok tables
   pub contents : readPlan c q tables (plan c q a .area) ≡ some (planCells p, numberPlan p)
   pub count : plan c q a .count ≡ length (planCells p)
 
--- whenever the entry accepts, the area speaks
-pub area-demand : (c q : Bytes) (a : List ℕ) (p : Plan Built) → entry (length a) c q ≡ ok p → Speaks c q a p
+-- whenever the entry accepts, the area is read back so
+pub area-demand : (c q : Bytes) (a : List ℕ) (p : Plan Built) → entry (length a) c q ≡ ok p → ReadsBack c q a p
 unfolding plan outcome
 area-demand c q a p e =
     let h = accepted (length a) c q p e in
@@ -42,7 +42,7 @@ area-demand c q a p e =
     record {
       tables = ts .0;
       catalog = ts .1;
-      contents = rw e (plan-speaks c q (ts .0) p (length a - length (planNumbers p)) r);
+      contents = rw e (plan-reads-back c q (ts .0) p (length a - length (planNumbers p)) r);
       count = rw e;
     }
 

@@ -1,11 +1,10 @@
 -- Cells and nodes read back from the area's numbers (docs/PLAN.md), over the two texts and the catalog.
-use Prim.Native.Nat.{ℕ, zero, suc, _+_, _*_, _-_, _%_, _^_}
+use Prim.Native.Nat.{ℕ, zero, suc, _+_, _%_, _^_}
 use mathlib.Core.Bool.{Bool, true, false}
 use mathlib.Core.List.{List, [], _∷_, _++_}
 use mathlib.Core.Option.{Option, none, some}
 use lib.Dec.{eqb, ltb}
 use lib.ListN.{length}
-use lib.IntN.{ℤ, pos, negsuc}
 use Rattle.rules.specs.Lists.{Bytes, mapOption}
 use Rattle.rules.specs.Lines.{Word}
 use Rattle.rules.specs.Schema.{Value, null, bool, int, float, text, Table, Catalog, getTable, namedBy}
@@ -15,6 +14,7 @@ use Rattle.rules.specs.Plan.{Aggregate, avg, count, max, min, sum, mapSecond}
 use Rattle.rules.specs.Cells.{Cell, constant, column, unary, binary, is}
 use Rattle.rules.specs.Nodes.{NodeRecord, scan, values, join, filter, aggregate, project, order, offset, limit, remap}
 use Rattle.rules.specs.Places.{wordAt}
+use Rattle.numbers.specs.Bits.{joined, signed}
 use Rattle.claims.specs.Area.Readings.{Reading, give, _>>=_, _>>_, giving, found, demand, number, times, all}
 use Rattle.claims.specs.Area.Readings.{padded}
 use Rattle.claims.specs.Area.Readings.{whole}
@@ -26,11 +26,7 @@ unfoldable pub longHere : Reading ℕ
 longHere = do
   x ← number
   y ← number
-  give (x + y * 2 ^ 32)
-
--- the integer of 64 bits, two's complement
-unfoldable pub signed : ℕ → ℤ
-signed n = elim (ltb n (2 ^ 63)) [ true ↦ pos n | false ↦ negsuc (2 ^ 64 - suc n) ]
+  give (joined x y)
 
 unfoldable pub flagHere : Reading Bool
 flagHere = codeHere ((0, false) ∷ (1, true) ∷ [])

@@ -32,7 +32,7 @@ table-found c l n = go (getTable c (n .bytes)) refl
     go none e = refusing unknownTable l _
     go (some t) e = (refl, rw e)
 
-each-table : (P : Table → Type 0) (c : Catalog) (n : Bytes) → All P c → Given P (getTable c n)
+pub each-table : (P : Table → Type 0) (c : Catalog) (n : Bytes) → All P c → Given P (getTable c n)
 unfolding getTable All Given
 each-table P [] n h = tt
 each-table P (t ∷ ts) n h = either-way (Given P) (same (t .name .bytes) n) (some t) (getTable ts n) (h .0) (each-table P ts n (h .1))

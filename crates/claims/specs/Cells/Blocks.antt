@@ -195,25 +195,25 @@ of-plan p B Q steps =
     (rw zero-add at (blocks (planCells p) (planComparisons p) B Q steps (planExpressions p) 0 (stand-all p) λ d m. m))
 
 -- some numbers are from n up to m
-unfoldable pub Inside : ℕ → ℕ → List ℕ → Type 0
-Inside n m rs = (i : ℕ) → List·Memᴰ i rs → (n ≤ i) × (i < m)
+unfoldable pub NumbersBetween : ℕ → ℕ → List ℕ → Type 0
+NumbersBetween n m rs = (i : ℕ) → List·Memᴰ i rs → (n ≤ i) × (i < m)
 
-pub inside-end : (n : ℕ) → Inside n n []
-unfolding Inside
-inside-end n i m = absurd (List·Memᴰ·not-nil m)
+pub between-end : (n : ℕ) → NumbersBetween n n []
+unfolding NumbersBetween
+between-end n i m = absurd (List·Memᴰ·not-nil m)
 
-pub inside-more : (n k m : ℕ) (rs : List ℕ) → n < k → k ≤ m → Inside k m rs → Inside n m (pred k ∷ rs)
-unfolding Inside
-inside-more n k m rs h l f i t =
+pub between-more : (n k m : ℕ) (rs : List ℕ) → n < k → k ≤ m → NumbersBetween k m rs → NumbersBetween n m (pred k ∷ rs)
+unfolding NumbersBetween
+between-more n k m rs h l f i t =
     elim (List·Memᴰ·cases-cons t) [ inl e ↦ omega arith | inr u ↦ (let b = f i u in omega arith) ]
 
 -- the numbers in a plan are numbers of its cells
-pub roots-inside : (p : Plan Built) → Inside 0 (length (planCells p)) (planExpressions (numberPlan p))
-roots-inside p = of-plan p (λ n m. Unit {0}) Inside (record {
+pub roots-between : (p : Plan Built) → NumbersBetween 0 (length (planCells p)) (planExpressions (numberPlan p))
+roots-between p = of-plan p (λ n m. Unit {0}) NumbersBetween (record {
   leaf = λ n e. tt;
   one = λ n m h e b. tt;
   two = λ n k m h l e a b. tt;
   compared = λ n k m s h l t c a b. tt;
-  end = inside-end;
-  more = λ n k m rs h l b f. inside-more n k m rs h l f;
+  end = between-end;
+  more = λ n k m rs h l b f. between-more n k m rs h l f;
 })

@@ -13,7 +13,7 @@ use Rattle.claims.specs.Cells.Numbers.{Between, between-none, between-jo
 use Rattle.claims.specs.Cells.Operands.{cellAt, operands, Uses, operands-binary, uses-none, uses-one, uses-two}
 use Rattle.claims.specs.Cells.Operands.{past-end, uses-below}
 use Rattle.claims.specs.Cells.Comparisons.{Comparison, comparison, planComparisons, ComparisonCells}
-use Rattle.claims.specs.Cells.Blocks.{Steps, of-plan, Inside, inside-end, inside-more}
+use Rattle.claims.specs.Cells.Blocks.{Steps, of-plan, NumbersBetween, between-end, between-more}
 use Rattle.claims.specs.Cells.Order.{Below, Within, within-join, within-leaf, within-one, within-two}
 use Rattle.claims.specs.Cells.Order.{within-compared}
 
@@ -54,7 +54,7 @@ module _ (cs : List Cell) (ds : List Comparison) where
   -- several blocks, with their roots
   record Blocks (n m : ℕ) (rs : List ℕ) : Type 0 where
     block : Block n m
-    inside : Inside n m rs
+    inside : NumbersBetween n m rs
     unused : (i : ℕ) → List·Memᴰ i rs → Between (λ j. ¬ Uses (cellAt cs j) i) n m
     roots : Distinct rs
 
@@ -154,16 +154,16 @@ module _ (cs : List Cell) (ds : List Comparison) where
   unfolding Within Distinct
   blocks-end n = record {
     block = record { within = between-none _ n; shares = between-none _ n; distinct = between-none _ n };
-    inside = inside-end n;
+    inside = between-end n;
     unused = λ i m. absurd (List·Memᴰ·not-nil m);
     roots = tt;
   }
 
   blocks-more : (n k m : ℕ) (rs : List ℕ) → n < k → k ≤ m → Block n k → Blocks k m rs → Blocks n m (pred k ∷ rs)
-  unfolding Within Below Distinct Inside
+  unfolding Within Below Distinct NumbersBetween
   blocks-more n k m rs h h′ a b = record {
     block = block-join n k m (omega arith) a (b .block);
-    inside = inside-more n k m rs h h′ (b .inside);
+    inside = between-more n k m rs h h′ (b .inside);
     unused = λ i t. between-join _ n k m (first i (List·Memᴰ·cases-cons t)) (second i (List·Memᴰ·cases-cons t));
     roots = (λ t. let p = b .inside (pred k) t in omega arith, b .roots);
   }

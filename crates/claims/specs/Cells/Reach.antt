@@ -10,7 +10,7 @@ use Rattle.rules.specs.Cells.{Cell, planCells, planExpressions, numberPlan}
 use Rattle.claims.specs.Cells.Numbers.{Between, between-none, between-join, between-next, NumberOf, number-below}
 use Rattle.claims.specs.Cells.Operands.{cellAt, operands, Uses, operands-binary}
 use Rattle.claims.specs.Cells.Comparisons.{Comparison, comparison, ComparisonCells}
-use Rattle.claims.specs.Cells.Blocks.{Steps, of-plan, Inside, roots-inside}
+use Rattle.claims.specs.Cells.Blocks.{Steps, of-plan, NumbersBetween, roots-between}
 use Rattle.claims.specs.Cells.Order.{operands-below}
 
 -- a cell is reached if it is a root, or an operand of a reached cell
@@ -87,8 +87,8 @@ reached-all p i h =
 -- and nothing else
 pub reached-only : (p : Plan Built) (i : ℕ) → Reached (planCells p) (planExpressions (numberPlan p)) i
     → i < length (planCells p)
-unfolding Inside
-reached-only p i (from m) = roots-inside p i m .1
+unfolding NumbersBetween
+reached-only p i (from m) = roots-between p i m .1
 reached-only p i (by {j} h u) = let l = reached-only p j h in let b = operands-below p j i l u in omega arith
 
 -- the cells are as many as the plan's numbers reach

@@ -11,7 +11,7 @@ use Rattle.rules.specs.Cells.{builtCount, countAll, roots, expressions, cellCou
 use Rattle.rules.specs.Cells.{numberSecond, numberNode, planExpressions, numberPlan}
 use Rattle.claims.specs.Answers.{All}
 
-roots-append : (xs ys : List Built) (i : ℕ) → roots i (xs ++ ys) ≡ roots i xs ++ roots (i + countAll xs) ys
+pub roots-append : (xs ys : List Built) (i : ℕ) → roots i (xs ++ ys) ≡ roots i xs ++ roots (i + countAll xs) ys
 unfolding roots countAll
 roots-append [] ys i = rw add-zero
 roots-append (x ∷ xs) ys i = rw (roots-append xs ys (i + builtCount x), add-assoc)

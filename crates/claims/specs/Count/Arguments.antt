@@ -45,7 +45,7 @@ mutual
   arguments-most s (binary l o a b) = omega (arith, arguments-most s a, arguments-most s b, total-append (argumentCost s) (collect a) (collect b))
   arguments-most s (is l a v) = omega (arith, arguments-most s a)
 
-  all-arguments-most : (s : Scope) (as′ : Exprs) → total (argumentCost s) (collectAll as′) ≤ 3 * sizeAll as′
+  pub all-arguments-most : (s : Scope) (as′ : Exprs) → total (argumentCost s) (collectAll as′) ≤ 3 * sizeAll as′
   all-arguments-most s nil = omega arith
   all-arguments-most s (cons a as′) = omega (arith, arguments-most s a, all-arguments-most s as′, total-append (argumentCost s) (collect a) (collectAll as′))
 
@@ -65,7 +65,7 @@ sqrt-plain : isAggregate (bytes "sqrt") ≡ false
 unfolding isAggregate aggregates named same bytes isSome
 sqrt-plain = refl
 
-collect-sqrt : (l : ℕ) (n : Word) (as′ : Exprs) → same (n .bytes) (bytes "sqrt") ≡ true → collect (call l n as′) ≡ collectAll as′
+pub collect-sqrt : (l : ℕ) (n : Word) (as′ : Exprs) → same (n .bytes) (bytes "sqrt") ≡ true → collect (call l n as′) ≡ collectAll as′
 unfolding collect
 collect-sqrt l n as′ h = go (isAggregate (n .bytes)) (ap isAggregate (same-eq (n .bytes) (bytes "sqrt") h) ∙ sqrt-plain)
   where

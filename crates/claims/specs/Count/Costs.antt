@@ -91,7 +91,7 @@ option-most s none = omega arith
 option-most s (some e) = omega (arith, cost-most s e)
 
 -- USES
-function-cost : (s : Scope) (e : Expr) → Ensures (buildFunction s e) (λ f. builtCount (f .1) ≡ argumentCost s e)
+pub function-cost : (s : Scope) (e : Expr) → Ensures (buildFunction s e) (λ f. builtCount (f .1) ≡ argumentCost s e)
 unfolding builtCount cost argumentCost costFirst asCall
 function-cost s = function-by s (λ e x. builtCount x ≡ cost s e) (λ l. sym (pick-one (matched s (star l)))) (cost-build s)
     (λ e x. builtCount x ≡ argumentCost s e) λ l n a x g. g

@@ -7,58 +7,34 @@ use mathlib.Core.Bool.{Bool, true, false}
 use mathlib.Core.List.{List, [], _∷_, _++_, map}
 use mathlib.Core.Option.{Option, none, some}
 use lib.ListN.{length}
-use Rattle.rules.specs.Refusals.{ok}
 use Rattle.rules.specs.Lines as Lines
 use Rattle.rules.specs.Ast.{Expr, column, size, Item, Select}
 use Rattle.rules.specs.Plan.{Label, nameless, unqualified, qualified}
-use Rattle.rules.specs.Plan as P
 use Rattle.rules.specs.Scope.{Scope, matched}
-use Rattle.rules.specs.BuildExpression.{build}
 use Rattle.rules.specs.BuildAggregate.{collect}
 use Rattle.rules.specs.Views.{asStar}
 use Rattle.rules.specs.Items.{isLone, starredColumn, expandStars, starsExpand, expandedItems}
 use Rattle.rules.specs.Hidden.{HiddenColumn, projected}
 use Rattle.rules.specs.Sizes.{total, itemsSize}
-use Rattle.rules.specs.Order.{Use, over, through, buildUse, itemUses}
-use Rattle.rules.specs.Count.{cost, useCost, itemStarred}
-use Rattle.claims.specs.Answers.{ensured, All, all-left, all-right, all-every, all-weaken}
+use Rattle.rules.specs.Order.{Use, over, through, itemUses}
+use Rattle.rules.specs.Count.{cost, itemStarred}
+use Rattle.claims.specs.Answers.{All, all-left, all-right, all-every, all-weaken}
 use Rattle.claims.specs.Lists.{map-all}
 use Rattle.claims.specs.Count.Totals.{total-append, all-most}
 use Rattle.claims.specs.Count.Costs.{pick-one}
-use Rattle.claims.specs.Count.Arguments.{argumentsCost, arguments-most, argument-bound}
+use Rattle.claims.specs.Count.Arguments.{argumentsCost, arguments-most}
+use Rattle.claims.specs.Count.Uses.{itemsArguments, useBy, items-total, hidden-total}
 use Rattle.claims.specs.Count.Hidden.{hidden-most}
 use Rattle.claims.specs.Count.Stars.{starredOver}
 
--- a use that is built
-abbrev pub Built : Use → Type 0
-Built u = (x : P.Built) × (buildUse u ≡ ok x)
-
--- with its aggregates' arguments, an expression that is built has at most three cells for each of its expression cells
-pub built-bound : (g s : Scope) (e : Expr) → Built (over g e) → cost g e + argumentsCost s e ≤ 3 * size e
-unfolding buildUse
-built-bound g s e h = ensured (build g e) (λ b. cost g e + argumentsCost s e ≤ 3 * size e) (argument-bound g s e) (h .0) (h .1)
-
-items-cost : (g : Scope) (is′ : List Item) → total useCost (map (λ (i : Item). over g (i .expr)) is′) ≡ total (λ (i : Item). cost g (i .expr)) is′
-unfolding total useCost
-items-cost g [] = refl
-items-cost g (i ∷ is′) = omega (arith, items-cost g is′)
-
-hidden-cost : (cs : List HiddenColumn) → total useCost (map (λ (c : HiddenColumn). through (c .position)) cs) ≡ length cs
-unfolding total useCost
-hidden-cost [] = refl
-hidden-cost (c ∷ cs) = omega (arith, hidden-cost cs)
-
--- what the arguments of the items' aggregates cost
-abbrev pub itemsArguments : Scope → List Item → ℕ
-itemsArguments s is′ = total (λ (i : Item). argumentsCost s (i .expr)) is′
-
-starred-cost : (g : Scope) (l : ℕ) (a : Label) → cost g (starredColumn l a .expr) ≡ 1
+-- STARRED COLUMNS
+pub starred-cost : (g : Scope) (l : ℕ) (a : Label) → cost g (starredColumn l a .expr) ≡ 1
 unfolding starredColumn cost
 starred-cost g l nameless = pick-one (matched g (column l none (Lines.empty 0)))
 starred-cost g l (unqualified n) = pick-one (matched g (column l none n))
 starred-cost g l (qualified t n) = pick-one (matched g (column l (some t) n))
 
-starred-arguments : (s : Scope) (l : ℕ) (a : Label) → argumentsCost s (starredColumn l a .expr) ≡ 0
+pub starred-arguments : (s : Scope) (l : ℕ) (a : Label) → argumentsCost s (starredColumn l a .expr) ≡ 0
 unfolding starredColumn argumentsCost collect total
 starred-arguments s l nameless = refl
 starred-arguments s l (unqualified n) = refl
@@ -97,7 +73,7 @@ module _ (f : Expr → ℕ) (one : (l : ℕ) (a : Label) → f (starredColumn l 
       go none k p = omega (arith, k (p .1), p .0)
       go (some l) k p = omega (arith, k (all-right Within (map (starredColumn l) ls) rest p), both-append (map (starredColumn l) ls) rest, starred-both l ls)
 
-  items-bound : (q : Select) (ls : List Label) → All Within (expandedItems q ls) → both-costs (expandedItems q ls) ≤ 3 * itemsSize (q .items) + starredOver q (length ls)
+  pub items-bound : (q : Select) (ls : List Label) → All Within (expandedItems q ls) → both-costs (expandedItems q ls) ≤ 3 * itemsSize (q .items) + starredOver q (length ls)
   unfolding expandedItems starredOver
   items-bound q ls = go (starsExpand q)
     where
@@ -108,38 +84,48 @@ module _ (f : Expr → ℕ) (one : (l : ℕ) (a : Label) → f (starredColumn l 
       go false h = unfold itemsSize in (omega (arith, all-most (λ (i : Item). f (i .expr)) (λ (i : Item). argumentsCost s (i .expr)) (λ (i : Item). size (i .expr)) (q .items) h))
 
 -- THE PROJECTION
--- built over one scope, the aggregates' arguments over another, with the stars expanded to some labels
-pub items-most : (q : Select) (ls : List Label) (is′ : List Item) (later : List Expr) (g s : Scope) → is′ ≡ expandedItems q ls
-    → All Built (itemUses g is′ later)
-    → total useCost (itemUses g is′ later) + itemsArguments s is′
-    ≤ 3 * itemsSize (q .items) + starredOver q (length ls) + total size later
-unfolding itemUses
-items-most q ls is′ later g s e = go (isLone is′)
-  where
-    cs : List HiddenColumn
-    cs = projected g is′ later .columns
+-- by a number w of an expression over a scope: with the arguments of its aggregates over another, at most three for each
+-- expression cell of every use that has P
+module _ (w : Scope → Expr → ℕ) (one : (g : Scope) (l : ℕ) (a : Label) → w g (starredColumn l a .expr) ≤ 1)
+    (P : Use → Type 0)
+    (three : (g s : Scope) (e : Expr) → P (over g e) → w g e + argumentsCost s e ≤ 3 * size e) where
+  -- over one scope, the aggregates' arguments over another, with the stars expanded to some labels
+  pub items-most : (q : Select) (ls : List Label) (is′ : List Item) (later : List Expr) (g s : Scope)
+      → is′ ≡ expandedItems q ls → All P (itemUses g is′ later)
+      → total (useBy w) (itemUses g is′ later) + itemsArguments s is′
+      ≤ 3 * itemsSize (q .items) + starredOver q (length ls) + total size later
+  unfolding itemUses
+  items-most q ls is′ later g s e = go (isLone is′)
+    where
+      cs : List HiddenColumn
+      cs = projected g is′ later .columns
 
-    bound : (f : Expr → ℕ) → ((l : ℕ) (a : Label) → f (starredColumn l a .expr) ≤ 1)
-        → All (λ i. f (i .expr) + argumentsCost s (i .expr) ≤ 3 * size (i .expr)) is′
-        → total (λ (i : Item). f (i .expr)) is′ + itemsArguments s is′ ≤ 3 * itemsSize (q .items) + starredOver q (length ls)
-    bound f one h = rw e (items-bound f one s q ls (rw e at h))
+      bound : (f : Expr → ℕ) → ((l : ℕ) (a : Label) → f (starredColumn l a .expr) ≤ 1)
+          → All (λ i. f (i .expr) + argumentsCost s (i .expr) ≤ 3 * size (i .expr)) is′
+          → total (λ (i : Item). f (i .expr)) is′ + itemsArguments s is′
+          ≤ 3 * itemsSize (q .items) + starredOver q (length ls)
+      bound f single h = rw e (items-bound f single s q ls (rw e at h))
 
-    us : List Use
-    us = map (λ (i : Item). over g (i .expr)) is′
+      us : List Use
+      us = map (λ (i : Item). over g (i .expr)) is′
 
-    hs : List Use
-    hs = map (λ (c : HiddenColumn). through (c .position)) cs
+      hs : List Use
+      hs = map (λ (c : HiddenColumn). through (c .position)) cs
 
-    go : (b : Bool) → All Built (elim b [ true ↦ [] | false ↦ us ++ hs ])
-        → total useCost (elim b [ true ↦ [] | false ↦ us ++ hs ]) + itemsArguments s is′
-        ≤ 3 * itemsSize (q .items) + starredOver q (length ls) + total size later
-    go true h = unfold total in (omega (arith, bound (λ x. 0) (λ l a. omega arith) (all-every _ (λ i. omega (arith, arguments-most s (i .expr))) is′)))
-    go false h = omega (
-      arith,
-      total-append useCost us hs,
-      items-cost g is′,
-      hidden-cost cs,
-      bound (cost g) (λ l a. omega (arith, starred-cost g l a))
-          (all-weaken _ _ (λ i. built-bound g s (i .expr)) is′ (map-all Built (λ (i : Item). over g (i .expr)) is′ (all-left Built us hs h))),
-      hidden-most g is′ later,
-    )
+      go : (b : Bool) → All P (elim b [ true ↦ [] | false ↦ us ++ hs ])
+          → total (useBy w) (elim b [ true ↦ [] | false ↦ us ++ hs ]) + itemsArguments s is′
+          ≤ 3 * itemsSize (q .items) + starredOver q (length ls) + total size later
+      go true h = unfold total in (omega (
+        arith,
+        bound (λ x. 0) (λ l a. omega arith) (all-every _ (λ i. omega (arith, arguments-most s (i .expr))) is′),
+      ))
+      go false h = omega (
+        arith,
+        total-append (useBy w) us hs,
+        items-total w g is′,
+        hidden-total w cs,
+        bound (w g) (one g)
+            (all-weaken _ _ (λ i. three g s (i .expr)) is′
+            (map-all P (λ (i : Item). over g (i .expr)) is′ (all-left P us hs h))),
+        hidden-most g is′ later,
+      )

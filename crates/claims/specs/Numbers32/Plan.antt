@@ -18,7 +18,7 @@ use Rattle.claims.specs.Answers.{Ensures, ensures, ensured, All, all-app
 use Rattle.claims.specs.Lists.{all-both}
 use Rattle.claims.specs.Cells.Length.{cellsAll-length}
 use Rattle.claims.specs.Area.NodeTree.{records-length}
-use Rattle.claims.specs.Cells.Blocks.{Inside, roots-inside}
+use Rattle.claims.specs.Cells.Blocks.{NumbersBetween, roots-between}
 use Rattle.claims.specs.Reading.Catalog.{LimitedTable, catalog-limited}
 use Rattle.claims.specs.Widths.Bounded.{PlanBounded}
 use Rattle.claims.specs.Room.Nodes.{nodeRoom, number-room, planNodeRoom, plan-room}
@@ -61,8 +61,8 @@ records-most (P.create n k cs) = omega arith
 records-most (P.drop n y) = omega arith
 
 -- the numbers in a plan, below the number of its cells
-inside-all : (m : ℕ) (rs : List ℕ) → Inside 0 m rs → All (λ i. i < m) rs
-unfolding Inside All
+inside-all : (m : ℕ) (rs : List ℕ) → NumbersBetween 0 m rs → All (λ i. i < m) rs
+unfolding NumbersBetween All
 inside-all m [] h = tt
 inside-all m (r ∷ rs) h = (h r (List·Memᴰ·head refl) .1, inside-all m rs (λ i k. h i (List·Memᴰ·tail k)))
 
@@ -124,7 +124,7 @@ numbers-small ts limited p l h b =
     let r = plan-room p in
     let xs = planExpressions (numberPlan p) in
     let n = length (planCells p) in
-    let e : All Few xs = all-weaken _ Few (λ i g. omega arith) xs (inside-all n xs (roots-inside p)) in
+    let e : All Few xs = all-weaken _ Few (λ i g. omega arith) xs (inside-all n xs (roots-between p)) in
     let trees : All SmallTree (planExpressions p) =
     all-both _ _ (planExpressions p) (plan-trees _ _ ts p h) (plan-narrow ts limited p (omega arith) h b) in
     all-append Small (header p) _ (header-small p l)

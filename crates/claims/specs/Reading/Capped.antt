@@ -24,7 +24,8 @@ use Rattle.claims.specs.Reading.Cells.{adds-deep}
 abbrev pub Counts : {A : Type 0} → Read A → Type 0
 Counts m = Reads (λ p. p .cells ≤ mostCells) m (λ p a q. (p .cells < q .cells) × (q .cells ≤ mostCells))
 
-size-positive : (e : Expr) → 1 ≤ size e
+-- every expression has a cell at least
+pub size-positive : (e : Expr) → 1 ≤ size e
 unfolding size
 size-positive (star l) = omega arith
 size-positive (column l t n) = omega arith

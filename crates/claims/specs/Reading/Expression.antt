@@ -14,12 +14,12 @@ use Rattle.claims.specs.Reading.Sound.{Sound, Gives, gives-then, gives-g
 use Rattle.claims.specs.Reading.Records.{HeadHas, makes-literals, makes-heads}
 
 module _ {F : Word → Type 0} {Q : Value → Type 0} {N : Word → Type 0} {I : Place → Type 0} (s : Sound F Q N I) where
-  gives-head : Gives I headHere (HeadHas Q N)
+  pub gives-head : Gives I headHere (HeadHas Q N)
   unfolding headHere stop
   gives-head p i = reads-option (oneOf heads (lineHere p)) _ _ _ tt λ h e. reads-test (ltb (p .cells) mostCells) _ _ _
       (λ b. (oneOf-has s _ heads (makes-heads s) p i h e, s .next _ (s .counted p i))) (λ b. tt)
 
-  gives-literal : Gives I literalHere Q
+  pub gives-literal : Gives I literalHere Q
   unfolding literalHere
   gives-literal p i = reads-fit (oneOf literals (lineHere p)) p _ λ v e. (oneOf-has s _ literals (makes-literals s) p i v e, s .next p i)
 

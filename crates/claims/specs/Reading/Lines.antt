@@ -22,6 +22,15 @@ pub record Running (L : ℕ → Bytes → Type 0) (F : Word → Type 0) : Type 0
   pub empties : (o : ℕ) (xs : Bytes) → L o xs → F (empty o)
   pub longer : (o x : ℕ) (xs : Bytes) (w : Word) → L o (x ∷ xs) → w .start ≡ suc o → F w → F (record { bytes = x ∷ w .bytes; start = o })
 
+-- two such at once
+pub running-both : {L M : ℕ → Bytes → Type 0} {F G : Word → Type 0} → Running L F → Running M G
+    → Running (λ o xs. L o xs × M o xs) (λ w. F w × G w)
+running-both k m = record {
+  rest = λ o x xs h. (k .rest o x xs (h .0), m .rest o x xs (h .1));
+  empties = λ o xs h. (k .empties o xs (h .0), m .empties o xs (h .1));
+  longer = λ o x xs w h e g. (k .longer o x xs w (h .0) e (g .0), m .longer o x xs w (h .1) e (g .1));
+}
+
 module _ {L : ℕ → Bytes → Type 0} {F : Word → Type 0} (k : Running L F) where
   -- the first field starts at o, and all have F
   Fields : ℕ → List Word → Type 0

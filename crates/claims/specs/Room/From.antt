@@ -13,10 +13,10 @@ use Rattle.claims.specs.Reading.Limits.{fromTables}
 use Rattle.claims.specs.Widths.Swapped.{swapped-length}
 use Rattle.claims.specs.Widths.Labels.{merge-width}
 use Rattle.claims.specs.Building.FromClause.{FromSteps, clause-by}
-use Rattle.claims.specs.Room.Nodes.{rowsRoom, nodeRoom}
+use Rattle.claims.specs.Room.Nodes.{rowsRoom, nodeRoom, mostFromNumbers}
 
 -- 272 numbers a table are enough, less the 265 of a join and a remap that the first needs not
-room-steps : (c : Catalog) → FromSteps c (λ f r. nodeRoom (r .node) + 265 ≤ 272 * fromTables f)
+pub room-steps : (c : Catalog) → FromSteps c (λ f r. nodeRoom (r .node) + 265 ≤ 272 * fromTables f)
 unfolding fromTables nodeRoom scanOf joinInOrder joinSwapped joinNode swapTargets
 room-steps c = record {
   tables = λ l n a t e. omega arith;
@@ -28,7 +28,7 @@ room-steps c = record {
 
 -- 16 tables take at most 4,087 numbers; with none it is one empty row, of three
 pub fromClause-room : (c : Catalog) (fs : List From) → total fromTables fs ≤ mostFromTables
-    → Ensures (buildFromClause c fs) (λ f. (nodeRoom (f .node) ≤ 4087) × (width (f .scope) ≤ mostColumns))
+    → Ensures (buildFromClause c fs) (λ f. (nodeRoom (f .node) ≤ mostFromNumbers) × (width (f .scope) ≤ mostColumns))
 unfolding buildFromClause total
 fromClause-room c [] h = unfold nodeRoom rowsRoom empty width in (omega arith, omega arith)
 fromClause-room c (f ∷ fs) h = weaken (buildFromClause c (f ∷ fs)) _ _ (λ r g. (omega (arith, g .0), g .1))

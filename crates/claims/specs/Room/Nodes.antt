@@ -21,6 +21,39 @@ use Rattle.rules.specs.Area.{sized, recordNumbers, mappingNumbers, mapNumbers, 
 use Rattle.rules.specs.Area.{ownNumbers}
 use Rattle.rules.specs.Area.{headerSize, cellPart, nodePart, header, planNumbers}
 
+-- LIMITS
+-- the cells of any plan
+abbrev pub mostPlanCells : ℕ
+mostPlanCells = 2304
+
+-- the numbers of its nodes and its own
+abbrev pub mostNodeNumbers : ℕ
+mostNodeNumbers = 5782
+
+-- those of FROM's nodes; of a filter, of groups and functions, of items and hidden columns, of order keys, of OFFSET or
+-- LIMIT, of a remap
+abbrev pub mostFromNumbers : ℕ
+mostFromNumbers = 4087
+
+abbrev pub filterNumbers : ℕ
+filterNumbers = 4
+
+abbrev pub mostGroupNumbers : ℕ
+mostGroupNumbers = 516
+
+abbrev pub mostItemNumbers : ℕ
+mostItemNumbers = 771
+
+abbrev pub mostKeyNumbers : ℕ
+mostKeyNumbers = 131
+
+abbrev pub rowCountNumbers : ℕ
+rowCountNumbers = 5
+
+abbrev pub mostRemapNumbers : ℕ
+mostRemapNumbers = 259
+
+-- NODES
 -- the numbers of given rows: a length and its cells for each
 unfoldable pub rowsRoom : {E : Type 0} → List (List E) → ℕ
 rowsRoom [] = 0
@@ -124,13 +157,9 @@ cells-room p = concat-size cellNumbers 4 cell-size (planCells p)
 pub made-room : (cs : List Made) → length (concat (map madeNumbers cs)) ≡ 12 * length cs
 made-room cs = concat-size madeNumbers 12 made-size cs
 
--- NODES
-map-append : {A B : Type 0} (f : A → B) (xs ys : List A) → map f (xs ++ ys) ≡ map f xs ++ map f ys
-map-append f [] ys = refl
-map-append {B} f (x ∷ xs) ys = ap {B = List B} (λ r. f x ∷ r) (map-append f xs ys)
-
+-- RECORDS
 -- the numbers of some records
-abbrev recordsRoom : List NodeRecord → ℕ
+abbrev pub recordsRoom : List NodeRecord → ℕ
 recordsRoom rs = length (concat (map recordNumbers rs))
 
 append-room : (xs ys : List NodeRecord) → recordsRoom (xs ++ ys) ≡ recordsRoom xs + recordsRoom ys

@@ -24,28 +24,18 @@ use Rattle.claims.specs.Answers.{Ensures, then, refusing, both, weaken, 
 use Rattle.claims.specs.Building.Positions.{from-mapped}
 use Rattle.claims.specs.Reading.Limits.{Limited, LimitedInsert, statement-limited}
 use Rattle.claims.specs.Count.Statements.{mostCellsOf, statement-cells}
-use Rattle.claims.specs.Room.Nodes.{rowsRoom, nodeRoom, planNodeRoom, mapRoom, ownRoom, plan-room}
+use Rattle.claims.specs.Reading.Capped.{size-positive}
+use Rattle.claims.specs.Room.Nodes.{mostPlanCells, mostNodeNumbers, rowsRoom, nodeRoom, planNodeRoom, mapRoom, ownRoom, plan-room}
 use Rattle.claims.specs.Room.Select.{select-room}
 
 -- INSERT
--- every expression has a cell at least
-size-positive : (e : Expr) → 1 ≤ size e
-unfolding size
-size-positive (Ast.star l) = omega arith
-size-positive (Ast.column l t n) = omega arith
-size-positive (Ast.literal l v) = omega arith
-size-positive (Ast.call l n as′) = omega arith
-size-positive (Ast.unary l o a) = omega arith
-size-positive (Ast.binary l o a b) = omega arith
-size-positive (Ast.is l a v) = omega arith
-
-length-size : (es : List Expr) → length es ≤ total size es
+pub length-size : (es : List Expr) → length es ≤ total size es
 unfolding total
 length-size [] = omega arith
 length-size (e ∷ es) = omega (arith, size-positive e, length-size es)
 
 -- built rows take as many numbers as there are rows and cells
-rows-room : (rs : List (List Expr))
+pub rows-room : (rs : List (List Expr))
     → Ensures (each (each (build empty)) rs) (λ bs. rowsRoom bs ≤ length rs + rowsSize rs)
 unfolding each rowsRoom rowsSize total
 rows-room [] = omega arith
@@ -53,7 +43,7 @@ rows-room (r ∷ rs) =
     then (each (build empty) r) _ _ _ (each-length (build empty) r) λ b hb.
     then (each (each (build empty)) rs) _ _ _ (rows-room rs) λ bs hbs. omega (arith, hb, length-size r)
 
-map-room : (cs : List Column) (ns : Option (List Named)) → Given (λ (n : List Named). length n ≤ 64) ns
+pub map-room : (cs : List Column) (ns : Option (List Named)) → Given (λ (n : List Named). length n ≤ 64) ns
     → Ensures (columnMap cs ns) (λ m. mapRoom m ≤ 129)
 unfolding columnMap mapRoom Given All
 map-room cs none h = omega arith
@@ -61,7 +51,7 @@ map-room cs (some ns) h = then (mapFrom cs ns 0 []) _ _ _ (from-mapped cs ns [] 
 
 -- NODES AND OWN NUMBERS of each statement
 Small : Plan Built → Type 0
-Small p = planNodeRoom p + ownRoom p ≤ 5782
+Small p = planNodeRoom p + ownRoom p ≤ mostNodeNumbers
 
 delete-small : (c : Catalog) (d : Delete) → Ensures (buildDelete c d) Small
 unfolding buildDelete Small planNodeRoom ownRoom nodeRoom
@@ -107,7 +97,7 @@ statement-small c (Ast.drop d) k h = unfold planNodeRoom ownRoom in (omega arith
 statement-small c (Ast.other l) k h = refusing otherStatement l _
 
 -- at most 2,304 cells
-cells-most : (s : Statement) → statementSize s ≤ mostCells → Limited s → mostCellsOf s ≤ 2304
+pub cells-most : (s : Statement) → statementSize s ≤ mostCells → Limited s → mostCellsOf s ≤ mostPlanCells
 unfolding mostCellsOf
 cells-most (Ast.select q) k h = omega arith
 cells-most (Ast.delete d) k h = omega arith

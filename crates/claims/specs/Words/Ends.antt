@@ -28,19 +28,28 @@ endAddress = 131072
 unfoldable pub Ends : Word → Type 0
 Ends w = w .start + length (w .bytes) ≤ endAddress
 
--- every field ends by there where what is left of its text does
-ending : Running (λ o xs. o + length xs ≤ endAddress) Ends
-unfolding Ends empty
-ending =
+-- every field ends by an address where what is left of its text does
+pub ending-by : (m : ℕ) → Running (λ o xs. o + length xs ≤ m) (λ w. w .start + length (w .bytes) ≤ m)
+unfolding empty
+ending-by m =
     record { rest = λ o x xs h. omega arith; empties = λ o xs h. omega arith; longer = λ o x xs w h e g. omega arith }
+
+ending : Running (λ o xs. o + length xs ≤ endAddress) Ends
+unfolding Ends
+ending = ending-by endAddress
+
+-- a value within 64 bits, whose word has a property
+abbrev pub FitsWorded : (Word → Type 0) → Value → Type 0
+FitsWorded P v = Fits v × WordedValue itself P v
 
 -- a value within 64 bits, whose word ends by there
 abbrev pub EndsValue : Value → Type 0
-EndsValue v = Fits v × WordedValue itself Ends v
+EndsValue v = FitsWorded Ends v
 
-ends-kept : Kept EndsValue
+-- operators keep it
+pub fits-worded-kept : (P : Word → Type 0) → Kept (FitsWorded P)
 unfolding Fits valueWords All
-ends-kept = record {
+fits-worded-kept P = record {
   nulls = (tt, tt);
   truths = λ a. (tt, tt);
   within = λ z h. (h, tt);
@@ -53,7 +62,7 @@ pub plan-ends : (c q : Bytes) → length c ≤ mostBytes → length q ≤ mostBy
     → Ensures (planOf c q) (PlanHas EndsValue Ends ts)
 unfolding Fits valueWords All start baseAddress
 plan-ends c q l m =
-    let s = running ending ends-kept (λ w h. (tt, (h, tt))) (λ w h i. h) in planned s s c q (omega arith) (omega arith)
+    let s = running ending (fits-worded-kept Ends) (λ w h. (tt, (h, tt))) (λ w h i. h) in planned s s c q (omega arith) (omega arith)
 
 -- its words
 pub words-end : (c q : Bytes) → length c ≤ mostBytes → length q ≤ mostBytes

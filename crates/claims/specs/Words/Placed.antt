@@ -35,7 +35,7 @@ words-kept t P =
     record { nulls = tt; truths = λ a. tt; within = λ z h. tt; remainders = λ m n h. tt; floats = λ b h. tt }
 
 -- at the start all is left
-whole-left : (t : Bytes) (b : ℕ) → Left t b b t
+pub whole-left : (t : Bytes) (b : ℕ) → Left t b b t
 unfolding Left
 whole-left t b = let e : b - b ≡ 0 = omega arith in (omega arith, rw e refl)
 

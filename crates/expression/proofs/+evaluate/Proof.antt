@@ -86,8 +86,8 @@ evaluate-first-operand-requires : (t : ℕ) → evaluate-lts.Need-first-operand-
 evaluate-first-operand-requires t c κs = search needs
 
 evaluate-returns-3 : (t : ℕ) → evaluate-lts.Need-returns-3 (claims t) (evaluate-at t) evaluate.Post
-evaluate-returns-3 t c = let told = c .before .before .before .before in let called = told .before .before in
-    by-row _ _ _ _ _ (c .first-operand .ensures _ _ _ (taken _ _ _ _ _ (told .first .given .1) (left _ _ _ _ _ (called .evaluate .ensures))))
+evaluate-returns-3 t c = let same-image = c .before .before .before .before in let called = same-image .before .before in
+    by-row _ _ _ _ _ (c .first-operand .ensures _ _ _ (taken _ _ _ _ _ (same-image .first .given .1) (left _ _ _ _ _ (called .evaluate .ensures))))
 
 evaluate-evaluate-requires-2 : (t : ℕ) → evaluate-lts.Need-evaluate-requires-2 (claims t) (evaluate-at t) evaluate.Post
 evaluate-evaluate-requires-2 t c κs = let called = c .before .before .before .before .before .before in
@@ -100,18 +100,18 @@ evaluate-enum-told-2 : (t : ℕ) → evaluate-lts.Need-enum-told-2 (claims t) (e
 evaluate-enum-told-2 t c = search needs
 
 evaluate-returns-4 : (t : ℕ) → evaluate-lts.Need-returns-4 (claims t) (evaluate-at t) evaluate.Post
-evaluate-returns-4 t c = let told = c .before .before .before .before .before .before in let called = told .before .before in
+evaluate-returns-4 t c = let same-image = c .before .before .before .before .before .before in let called = same-image .before .before in
     right-refused _ _ _ _ _ _ _ (c .enum-told2 .given .1) _ (sym (c .before .before .before .before .kind .ensures) ∙ c .before .before .before .if2 .left)
-    (taken _ _ _ _ _ (told .first .given .1) (left _ _ _ _ _ (called .evaluate .ensures)))
+    (taken _ _ _ _ _ (same-image .first .given .1) (left _ _ _ _ _ (called .evaluate .ensures)))
     (right _ _ _ _ _ _ (called .before .next .ensures) (c .before .before .evaluate2 .ensures))
 
 evaluate-both-operands-requires : (t : ℕ) → evaluate-lts.Need-both-operands-requires (claims t) (evaluate-at t) evaluate.Post
 evaluate-both-operands-requires t c κs = search needs
 
 evaluate-returns-5 : (t : ℕ) → evaluate-lts.Need-returns-5 (claims t) (evaluate-at t) evaluate.Post
-evaluate-returns-5 t c = let told = c .before .before .before .before .before .before .before .before in let called = told .before .before in
+evaluate-returns-5 t c = let same-image = c .before .before .before .before .before .before .before .before in let called = same-image .before .before in
     by-row _ _ _ _ _ (c .both-operands .ensures _
-    (taken _ _ _ _ _ (told .first .given .1) (left _ _ _ _ _ (called .evaluate .ensures)))
+    (taken _ _ _ _ _ (same-image .first .given .1) (left _ _ _ _ _ (called .evaluate .ensures)))
     (taken _ _ _ _ _ (c .before .before .second .given .1) (right _ _ _ _ _ _ (called .before .next .ensures) (c .before .before .before .before .evaluate2 .ensures))))
 
 pub +evaluate-spec : {M : Type 1} → statement M

@@ -3,9 +3,9 @@ use mathlib.Core.Path.{sym, ap, _∙_}
 use borrow.Author.Needs.{needs}
 use Rattle.rules.specs.Evaluate.{evaluate, evaluateRoot}
 use Rattle.rules.specs.Refusals.{ok, refuse, constantOnly, unknownFunction, unsupportedStar}
+use Rattle.numbers.specs.Values.{valueAt}
 use Rattle.value.specs.Values.{held}
 use Rattle.ast.specs.Operands.{tree-column, tree-qualified, tree-literal}
-use Rattle.ast.specs.Table.{valueAt}
 use Rattle.expression.specs.Answers.{mapAnswer, reasonOf, answerOf}
 use Rattle.expression.proofs.Rows.{tree-none, tree-star}
 use Rattle.expression.proofs.leaf.Statement.{statement}

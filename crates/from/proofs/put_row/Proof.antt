@@ -3,7 +3,7 @@ use Prim.Native.Nat.{_*_}
 use native.Mathlib.Omega.{arith}
 use lib.ListN.{length-set}
 use borrow.Author.Needs.{needs}
-use Rattle.ast.specs.Stores.{eight-stores}
+use Rattle.numbers.specs.Stores.{eight-stores}
 use Rattle.from.proofs.put_row.Statement.{statement}
 use Rattle.from.proofs.put_row.Tie as tie
 use Rattle.ast.specs.Table.{rowSize}

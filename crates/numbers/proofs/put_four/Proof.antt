@@ -1,8 +1,7 @@
 -- `put_four`: four stores are one.
 use native.Mathlib.Omega.{arith}
-use mathlib.Core.Path.{sym}
 use lib.ListN.{length-set}
-use Rattle.numbers.specs.Kept.{four-sets}
+use Rattle.numbers.specs.Stores.{four-stores}
 use borrow.Author.Needs.{needs}
 use Rattle.numbers.proofs.put_four.Statement.{statement}
 use Rattle.numbers.proofs.put_four.Tie as tie
@@ -44,7 +43,7 @@ same-length : tie.Need-same-length
 same-length c = search needs
 
 returns : tie.Need-returns
-returns c = sym (four-sets (c .args .s .now) (c .args .i) (c .args .a) (c .args .b) (c .args .c) (c .args .d))
+returns c = four-stores (c .args .s .now) (c .args .i) (c .args .a) (c .args .b) (c .args .c) (c .args .d)
 
 pub put-four-spec : {M : Type 1} → statement M
 put-four-spec =

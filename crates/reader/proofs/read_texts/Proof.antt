@@ -3,6 +3,11 @@ use borrow.Author.Needs.{needs}
 use Rattle.reader.specs.Cases.{catalog-long, statement-long, catalog-wrong, catalog-limit, statement-wrong, statement-limit, texts-read}
 use Rattle.reader.proofs.read_texts.Statement.{statement}
 use Rattle.reader.proofs.read_texts.Tie as tie
+use Rattle.reader.proofs.read_texts.Reads as reads
+use Rattle.reader.proofs.read_texts.Lts as lts
+use Rattle.reader.proofs.taken.Reads as taken-reads
+use Rattle.schema.proofs.read.read_catalog.Reads as read-catalog-reads
+use Rattle.statement.proofs.read_statement.Reads as read-statement-reads
 
 cast-if1 : tie.Need-cast-if1
 cast-if1 c = search needs
@@ -46,39 +51,54 @@ element-copy-out-taken c = search needs
 element-copy-out-taken-2 : tie.Need-element-copy-out-taken-2
 element-copy-out-taken-2 c = search needs
 
-element-copy-out-taken-3 : tie.Need-element-copy-out-taken-3
-element-copy-out-taken-3 c = search needs
+slice-read-taken : tie.Need-slice-read-taken
+slice-read-taken c = search needs
 
 taken-requires : tie.Need-taken-requires
 taken-requires c κs = search needs
 
+same-length : tie.Need-same-length
+same-length c = search needs
+
 returns-3 : tie.Need-returns-3
 returns-3 c =
-    let k = c .before .before .before in
-    catalog-wrong (record { short = k .before .before .before .if1 .left; shortStatement = k .before .before .if2 .left; is = k .read-catalog .ensures _ }) (c .before .c .given .1)
+    let k = c .before .before .before .before .before in
+    catalog-wrong (record { short = c .before .before .before .before .before .before .before .before .if1 .left; shortStatement = c .before .before .before .before .before .before .before .if2 .left; is = k .read-catalog .ensures _ }) (c .before .c .given .1)
+
+same-length-2 : tie.Need-same-length-2
+same-length-2 c = search needs
 
 returns-4 : tie.Need-returns-4
 returns-4 c =
-    let k = c .before .before .before in
-    catalog-limit (record { short = k .before .before .before .if1 .left; shortStatement = k .before .before .if2 .left; is = k .read-catalog .ensures _ }) (c .before .c2 .given .1)
+    let k = c .before .before .before .before .before in
+    catalog-limit (record { short = c .before .before .before .before .before .before .before .before .if1 .left; shortStatement = c .before .before .before .before .before .before .before .if2 .left; is = k .read-catalog .ensures _ }) (c .before .c2 .given .1)
+
+same-length-3 : tie.Need-same-length-3
+same-length-3 c = search needs
 
 returns-5 : tie.Need-returns-5
 returns-5 c =
     let s = c .before .before .before in
-    let k = s .before .before .before .before .before .before in
-    statement-wrong (record { short = k .before .before .before .if1 .left; shortStatement = k .before .before .if2 .left; is = k .read-catalog .ensures _ }) (s .before .before .before .before .enum-told .given .1) (record { is = s .read-statement .ensures .0 _; size = s .read-statement .ensures .1 _ }) (c .before .s .given .1)
+    let k = c .before .before .before .before .before .before .before .before .before .before .before in
+    statement-wrong (record { short = c .before .before .before .before .before .before .before .before .before .before .before .before .before .before .if1 .left; shortStatement = c .before .before .before .before .before .before .before .before .before .before .before .before .before .if2 .left; is = k .read-catalog .ensures _ }) (c .before .before .before .before .before .before .before .enum-told .given .1) (record { is = s .read-statement .ensures .0 _; size = s .read-statement .ensures .1 _ }) (c .before .s .given .1)
+
+same-length-4 : tie.Need-same-length-4
+same-length-4 c = search needs
 
 returns-6 : tie.Need-returns-6
 returns-6 c =
     let s = c .before .before .before in
-    let k = s .before .before .before .before .before .before in
-    statement-limit (record { short = k .before .before .before .if1 .left; shortStatement = k .before .before .if2 .left; is = k .read-catalog .ensures _ }) (s .before .before .before .before .enum-told .given .1) (record { is = s .read-statement .ensures .0 _; size = s .read-statement .ensures .1 _ }) (c .before .s2 .given .1)
+    let k = c .before .before .before .before .before .before .before .before .before .before .before in
+    statement-limit (record { short = c .before .before .before .before .before .before .before .before .before .before .before .before .before .before .if1 .left; shortStatement = c .before .before .before .before .before .before .before .before .before .before .before .before .before .if2 .left; is = k .read-catalog .ensures _ }) (c .before .before .before .before .before .before .before .enum-told .given .1) (record { is = s .read-statement .ensures .0 _; size = s .read-statement .ensures .1 _ }) (c .before .s2 .given .1)
+
+same-length-5 : tie.Need-same-length-5
+same-length-5 c = search needs
 
 returns-7 : tie.Need-returns-7
 returns-7 c =
     let s = c .before .before .before .before .before .before .before in
-    let k = s .before .before .before .before .before .before in
-    rw (c .taken .ensures) (texts-read (record { short = k .before .before .before .if1 .left; shortStatement = k .before .before .if2 .left; is = k .read-catalog .ensures _ }) (s .before .before .before .before .enum-told .given .1) (record { is = s .read-statement .ensures .0 _; size = s .read-statement .ensures .1 _ }) (c .before .before .before .before .before .s3 .given .1))
+    let k = c .before .before .before .before .before .before .before .before .before .before .before .before .before .before .before in
+    rw (c .taken .ensures) (texts-read (record { short = c .before .before .before .before .before .before .before .before .before .before .before .before .before .before .before .before .before .before .if1 .left; shortStatement = c .before .before .before .before .before .before .before .before .before .before .before .before .before .before .before .before .before .if2 .left; is = k .read-catalog .ensures _ }) (c .before .before .before .before .before .before .before .before .before .before .before .enum-told .given .1) (record { is = s .read-statement .ensures .0 _; size = s .read-statement .ensures .1 _ }) (c .before .before .before .before .before .s3 .given .1))
 
 pub read-texts-spec : {M : Type 1} → statement M
 read-texts-spec =
@@ -98,10 +118,15 @@ read-texts-spec =
     enum-known-s-3
     element-copy-out-taken
     element-copy-out-taken-2
-    element-copy-out-taken-3
+    slice-read-taken
     taken-requires
+    same-length
     returns-3
+    same-length-2
     returns-4
+    same-length-3
     returns-5
+    same-length-4
     returns-6
+    same-length-5
     returns-7)

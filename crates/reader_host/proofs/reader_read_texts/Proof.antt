@@ -12,7 +12,7 @@ answered-requires : tie.Need-answered-requires
 answered-requires c κs = search needs
 
 returns : tie.Need-returns
-returns c = (c .answered .ensures ∙ ap answered (c .before .read-texts .ensures .says) ∙ answered-told _, c .before .read-texts .ensures .stands)
+returns c = (c .answered .ensures ∙ ap answered (c .before .read-texts .ensures .is) ∙ answered-told _, c .before .read-texts .ensures .stands)
 
 pub reader-read-texts-spec : {M : Type 1} → statement M
 reader-read-texts-spec = tie.close (tie.spec read-texts-requires answered-requires returns)

@@ -6,7 +6,7 @@ use Rattle.sections.proofs.read_entry.Statement.{statement}
 use Rattle.sections.proofs.read_entry.Tie as tie
 use Rattle.sections.proofs.read_entry.Reads as reads
 use Rattle.sections.proofs.read_entry.Lts as lts
-use Rattle.ast.proofs.reading.read_expressions.Reads as read-expressions-reads
+use Rattle.read_expression.proofs.reading.read_expressions.Reads as read-expressions-reads
 use Rattle.entries.proofs.entry_head.Reads as entry-head-reads
 use Rattle.sections.proofs.entry_start.Reads as entry-start-reads
 use Rattle.sections.proofs.most_of.Reads as most-of-reads

@@ -3,7 +3,7 @@ use borrow.Author.Needs.{needs}
 use Rattle.rules.specs.Refusals.{refusalNumber}
 use Rattle.value.specs.Values.{workedOf, refusalOf}
 use Rattle.value.specs.declared.Worked.{Worked}
-use Rattle.value.proofs.Told.{told}
+use Rattle.value.proofs.SameImage.{same-image}
 use Rattle.value.proofs.number.Statement.{statement}
 use Rattle.value.proofs.number.Tie as tie
 
@@ -24,23 +24,23 @@ enum-told-5 c = search needs
 
 returns : tie.Need-returns
 unfolding refusalOf workedOf refusalNumber
-returns c = λ t q. told (λ (w : Worked). refusalOf (workedOf t q w)) (c .enum-told .given .1)
+returns c = λ t q. same-image (λ (w : Worked). refusalOf (workedOf t q w)) (c .enum-told .given .1)
 
 returns-2 : tie.Need-returns-2
 unfolding refusalOf workedOf refusalNumber
-returns-2 c = λ t q. told (λ (w : Worked). refusalOf (workedOf t q w)) (c .enum-told2 .given .1)
+returns-2 c = λ t q. same-image (λ (w : Worked). refusalOf (workedOf t q w)) (c .enum-told2 .given .1)
 
 returns-3 : tie.Need-returns-3
 unfolding refusalOf workedOf refusalNumber
-returns-3 c = λ t q. told (λ (w : Worked). refusalOf (workedOf t q w)) (c .enum-told3 .given .1)
+returns-3 c = λ t q. same-image (λ (w : Worked). refusalOf (workedOf t q w)) (c .enum-told3 .given .1)
 
 returns-4 : tie.Need-returns-4
 unfolding refusalOf workedOf refusalNumber
-returns-4 c = λ t q. told (λ (w : Worked). refusalOf (workedOf t q w)) (c .enum-told4 .given .1)
+returns-4 c = λ t q. same-image (λ (w : Worked). refusalOf (workedOf t q w)) (c .enum-told4 .given .1)
 
 returns-5 : tie.Need-returns-5
 unfolding refusalOf workedOf refusalNumber
-returns-5 c = λ t q. told (λ (w : Worked). refusalOf (workedOf t q w)) (c .enum-told5 .given .1)
+returns-5 c = λ t q. same-image (λ (w : Worked). refusalOf (workedOf t q w)) (c .enum-told5 .given .1)
 
 pub number-spec : {M : Type 1} → statement M
 number-spec =

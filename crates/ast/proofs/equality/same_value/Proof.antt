@@ -5,6 +5,7 @@ use borrow.Author.Needs.{needs}
 use Rattle.rules.specs.Places.{wordAt}
 use Rattle.rules.specs.Lists.{same}
 use Rattle.rules.specs.Equality.{contents, sameValue}
+use Rattle.numbers.specs.Bits.{joined-small}
 use Rattle.ast.proofs.Literals.{values-apart, both-null, value-bool, value-int, value-float, value-text, bool-one, bool-other, ints, floats, low-differ, low-same}
 use Rattle.ast.proofs.equality.same_value.Statement.{statement}
 use Rattle.ast.proofs.equality.same_value.Tie as tie
@@ -22,7 +23,7 @@ returns-2 : tie.Need-returns-2
 returns-2 c = rw (value-bool _ _ _ _ _ (sym (c .before .before .before .before .or-least .ensures) ∙ c .before .match .keys1), value-bool _ _ _ _ _ (sym (c .before .before .before .or-least2 .ensures) ∙ sym (c .before .before .if1 .left) ∙ c .before .match .keys1)) (sym (bool-one _ _ (c .if2 .taken)))
 
 returns-3 : tie.Need-returns-3
-returns-3 c = rw (value-int _ _ _ _ _ (sym (c .before .before .before .before .or-least .ensures) ∙ c .before .match .keys2), value-int _ _ _ _ _ (sym (c .before .before .before .or-least2 .ensures) ∙ sym (c .before .before .if1 .left) ∙ c .before .match .keys2)) (sym (ints _ _ _ _ (omega arith) (omega arith) ∙ low-differ _ _ _ _ (omega arith) (omega arith) (c .if3 .taken)))
+returns-3 c = rw (value-int _ _ _ _ _ (sym (c .before .before .before .before .or-least .ensures) ∙ c .before .match .keys2), value-int _ _ _ _ _ (sym (c .before .before .before .or-least2 .ensures) ∙ sym (c .before .before .if1 .left) ∙ c .before .match .keys2)) (sym (ints _ _ (joined-small _ _ (omega arith) (omega arith)) (joined-small _ _ (omega arith) (omega arith)) ∙ low-differ _ _ _ _ (omega arith) (omega arith) (c .if3 .taken)))
 
 returns-4 : tie.Need-returns-4
 returns-4 c = rw (value-float _ _ _ _ _ (sym (c .before .before .before .before .or-least .ensures) ∙ c .before .match .keys3), value-float _ _ _ _ _ (sym (c .before .before .before .or-least2 .ensures) ∙ sym (c .before .before .if1 .left) ∙ c .before .match .keys3)) (sym (floats _ _ ∙ low-differ _ _ _ _ (omega arith) (omega arith) (c .if4 .taken)))
@@ -34,7 +35,7 @@ returns-5 : tie.Need-returns-5
 returns-5 c = rw (value-bool _ _ _ _ _ (sym (c .before .before .before .before .or-least .ensures) ∙ c .before .match .keys1), value-bool _ _ _ _ _ (sym (c .before .before .before .or-least2 .ensures) ∙ sym (c .before .before .if1 .left) ∙ c .before .match .keys1)) (sym (bool-other _ _ (c .if2 .left)))
 
 returns-6 : tie.Need-returns-6
-returns-6 c = rw (value-int _ _ _ _ _ (sym (c .before .before .before .before .or-least .ensures) ∙ c .before .match .keys2), value-int _ _ _ _ _ (sym (c .before .before .before .or-least2 .ensures) ∙ sym (c .before .before .if1 .left) ∙ c .before .match .keys2)) (sym (ints _ _ _ _ (omega arith) (omega arith) ∙ low-same _ _ _ _ (c .if3 .left)))
+returns-6 c = rw (value-int _ _ _ _ _ (sym (c .before .before .before .before .or-least .ensures) ∙ c .before .match .keys2), value-int _ _ _ _ _ (sym (c .before .before .before .or-least2 .ensures) ∙ sym (c .before .before .if1 .left) ∙ c .before .match .keys2)) (sym (ints _ _ (joined-small _ _ (omega arith) (omega arith)) (joined-small _ _ (omega arith) (omega arith)) ∙ low-same _ _ _ _ (c .if3 .left)))
 
 returns-7 : tie.Need-returns-7
 returns-7 c = rw (value-float _ _ _ _ _ (sym (c .before .before .before .before .or-least .ensures) ∙ c .before .match .keys3), value-float _ _ _ _ _ (sym (c .before .before .before .or-least2 .ensures) ∙ sym (c .before .before .if1 .left) ∙ c .before .match .keys3)) (sym (floats _ _ ∙ low-same _ _ _ _ (c .if4 .left)))

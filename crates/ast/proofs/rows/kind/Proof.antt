@@ -1,7 +1,7 @@
 -- `rows::kind`: the number at place 0, or the star's.
 use mathlib.Core.Path.{ap, _∙_}
 use borrow.Author.Needs.{needs}
-use Rattle.ast.specs.Codes.{orLeast}
+use Rattle.numbers.specs.Codes.{orLeast}
 use Rattle.ast.specs.Operands.{kindAt}
 use Rattle.ast.proofs.rows.kind.Statement.{statement}
 use Rattle.ast.proofs.rows.kind.Tie as tie

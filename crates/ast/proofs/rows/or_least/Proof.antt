@@ -1,6 +1,6 @@
 -- `rows::or_least`, by the two tests.
 use mathlib.Core.Path.{sym}
-use Rattle.ast.specs.Codes.{least-below, least-above, least-between}
+use Rattle.numbers.specs.Codes.{least-below, least-above, least-between}
 use Rattle.ast.proofs.rows.or_least.Statement.{statement}
 use Rattle.ast.proofs.rows.or_least.Tie as tie
 

@@ -4,7 +4,7 @@ use borrow.Author.Needs.{needs}
 use Rattle.rules.specs.Evaluate.{workedAt}
 use Rattle.rules.specs.Operators.{isOf}
 use Rattle.expression.specs.Answers.{answerOf, reasonOf}
-use Rattle.expression.proofs.Codes.{value-arm, value-rest}
+use Rattle.numbers.specs.Values.{value-arm, value-rest}
 use Rattle.expression.proofs.operators.is.Statement.{statement}
 use Rattle.expression.proofs.operators.is.Tie as tie
 

@@ -2,7 +2,7 @@
 use mathlib.Core.Path.{refl, sym, _∙_}
 use borrow.Author.Tests.{not-true, not-false}
 use borrow.Author.Needs.{needs}
-use Rattle.from.specs.Fields.{says-as, alias-first, alias-second, alias-some}
+use Rattle.from.specs.Fields.{row-as, alias-first, alias-second, alias-some}
 use Rattle.from.proofs.record.alias_record.Statement.{statement}
 use Rattle.from.proofs.record.alias_record.Tie as tie
 
@@ -13,7 +13,7 @@ wrong-record-requires : tie.Need-wrong-record-requires
 wrong-record-requires c κs = search needs
 
 returns : tie.Need-returns
-returns c = says-as _ (alias-first _ _ _ _ _ (c .before .before .before .before .pre .0) (c .before .before .before .before .pre .1) (sym (c .before .before .is-name .ensures) ∙ not-true _ (c .before .if1 .taken))) (c .wrong-record .ensures _)
+returns c = row-as _ (alias-first _ _ _ _ _ (c .before .before .before .before .pre .0) (c .before .before .before .before .pre .1) (sym (c .before .before .is-name .ensures) ∙ not-true _ (c .before .if1 .taken))) (c .wrong-record .ensures _)
 
 is-name-requires-2 : tie.Need-is-name-requires-2
 is-name-requires-2 c κs = search needs
@@ -22,7 +22,7 @@ wrong-record-requires-2 : tie.Need-wrong-record-requires-2
 wrong-record-requires-2 c κs = search needs
 
 returns-2 : tie.Need-returns-2
-returns-2 c = says-as _ (alias-second _ _ _ _ _ (c .before .before .before .before .before .before .pre .0) (c .before .before .before .before .before .before .pre .1) (sym (c .before .before .before .before .is-name .ensures) ∙ not-false _ (c .before .before .before .if1 .left)) (sym (c .before .before .is-name2 .ensures) ∙ not-true _ (c .before .if2 .taken))) (c .wrong-record2 .ensures _)
+returns-2 c = row-as _ (alias-second _ _ _ _ _ (c .before .before .before .before .before .before .pre .0) (c .before .before .before .before .before .before .pre .1) (sym (c .before .before .before .before .is-name .ensures) ∙ not-false _ (c .before .before .before .if1 .left)) (sym (c .before .before .is-name2 .ensures) ∙ not-true _ (c .before .if2 .taken))) (c .wrong-record2 .ensures _)
 
 cast-t9 : tie.Need-cast-t9
 cast-t9 c = search needs

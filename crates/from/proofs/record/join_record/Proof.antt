@@ -3,7 +3,7 @@ use native.Mathlib.Omega.{arith}
 use mathlib.Core.Path.{refl}
 use borrow.Author.Needs.{needs}
 use Rattle.rules.specs.Lines.{bytes}
-use Rattle.from.specs.Fields.{says-as, join-words, predicate-words, join-none, predicate-none, join-some}
+use Rattle.from.specs.Fields.{row-as, join-words, predicate-words, join-none, predicate-none, join-some}
 use Rattle.from.proofs.record.join_record.Statement.{statement}
 use Rattle.from.proofs.record.join_record.Tie as tie
 
@@ -18,7 +18,7 @@ wrong-record-requires c κs = search needs
 
 returns : tie.Need-returns
 unfolding bytes
-returns c = says-as _ (join-none _ _ _ _ _ _ _ join-words (c .before .before .which .ensures) (c .before .if1 .taken)) (c .wrong-record .ensures _)
+returns c = row-as _ (join-none _ _ _ _ _ _ _ join-words (c .before .before .which .ensures) (c .before .if1 .taken)) (c .wrong-record .ensures _)
 
 slice-aggregate-which-2 : tie.Need-slice-aggregate-which-2
 slice-aggregate-which-2 c = search needs
@@ -31,7 +31,7 @@ wrong-record-requires-2 c κs = search needs
 
 returns-2 : tie.Need-returns-2
 unfolding bytes
-returns-2 c = says-as _ (predicate-none _ _ _ _ _ _ _ join-words (c .before .before .before .before .before .which .ensures) _ _ predicate-words (c .before .before .which2 .ensures) (c .before .if2 .taken)) (c .wrong-record2 .ensures _)
+returns-2 c = row-as _ (predicate-none _ _ _ _ _ _ _ join-words (c .before .before .before .before .before .which .ensures) _ _ predicate-words (c .before .before .which2 .ensures) (c .before .if2 .taken)) (c .wrong-record2 .ensures _)
 
 cast-t16 : tie.Need-cast-t16
 cast-t16 c = search needs

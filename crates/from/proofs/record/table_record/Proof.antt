@@ -2,7 +2,7 @@
 use mathlib.Core.Path.{refl, sym, _∙_}
 use borrow.Author.Tests.{not-true, not-false}
 use borrow.Author.Needs.{needs}
-use Rattle.from.specs.Fields.{says-as, table-none, table-some}
+use Rattle.from.specs.Fields.{row-as, table-none, table-some}
 use Rattle.from.proofs.record.table_record.Statement.{statement}
 use Rattle.from.proofs.record.table_record.Tie as tie
 
@@ -13,7 +13,7 @@ wrong-record-requires : tie.Need-wrong-record-requires
 wrong-record-requires c κs = search needs
 
 returns : tie.Need-returns
-returns c = says-as _ (table-none _ _ _ (c .before .before .before .before .pre) (sym (c .before .before .is-name .ensures) ∙ not-true _ (c .before .if1 .taken))) (c .wrong-record .ensures _)
+returns c = row-as _ (table-none _ _ _ (c .before .before .before .before .pre) (sym (c .before .before .is-name .ensures) ∙ not-true _ (c .before .if1 .taken))) (c .wrong-record .ensures _)
 
 cast-t7 : tie.Need-cast-t7
 cast-t7 c = search needs

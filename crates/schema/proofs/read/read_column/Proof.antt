@@ -1,7 +1,8 @@
 -- `read_column`: the rest from here is this column and the rest behind it, or what ends the run.
+use native.Mathlib.Omega.{arith}
 use mathlib.Core.Path.{refl}
 use borrow.Author.Needs.{needs}
-use Rattle.schema.specs.Columns.{column-end, column-wrong, column-next, column-limit, column-default, column-read}
+use Rattle.schema.specs.Columns.{column-end, column-wrong, column-next, column-limit, column-default, column-room, column-read}
 use Rattle.schema.proofs.read.read_column.Statement.{statement}
 use Rattle.schema.proofs.read.read_column.Tie as tie
 use Rattle.schema.proofs.read.read_column.Reads as reads
@@ -54,13 +55,22 @@ add-i-2 : tie.Need-add-i-2
 add-i-2 c = search needs
 
 put-four-requires : tie.Need-put-four-requires
-put-four-requires c κs = search needs
+put-four-requires c κs =
+    let d = c .before .before in
+    let e = d .before .before in
+    let k = e .before .before in
+    omega (arith, column-room (k .before .before .before .before .before .before .before .pre) (k .before .before .before .before .column-record .ensures) (k .before .before .c .given .1) (k .if1 .left) _ (e .default-record .ensures) (d .d .given .1))
 
 add-put-four : tie.Need-add-put-four
 add-put-four c = search needs
 
 put-four-requires-2 : tie.Need-put-four-requires-2
-put-four-requires-2 c κs = search needs
+put-four-requires-2 c κs =
+    let o = c .before .before .before in
+    let d = o .before .before .before in
+    let e = d .before .before in
+    let k = e .before .before in
+    omega (arith, column-room (k .before .before .before .before .before .before .before .pre) (k .before .before .before .before .column-record .ensures) (k .before .before .c .given .1) (k .if1 .left) _ (e .default-record .ensures) (d .d .given .1), o .put-four .kept .0)
 
 returns-3 : tie.Need-returns-3
 returns-3 c = column-end (c .before .before .before .before .before .pre) (c .before .before .column-record .ensures) (c .enum-told .given .1)

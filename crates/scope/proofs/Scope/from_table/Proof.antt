@@ -1,6 +1,7 @@
 use native.Mathlib.Omega.{arith}
 use Prim.Native.Nat.{_-_, _≤_}
 use mathlib.Core.Path.{refl}
+use Rattle.rules.specs.Limits.{mostColumns}
 use Rattle.scope.specs.FromTable.{Storing, storing-begin, storing-more, storing-end}
 use borrow.Author.Needs.{needs}
 use Rattle.scope.proofs.Scope.from_table.Statement.{statement}
@@ -9,7 +10,8 @@ use Rattle.scope.proofs.Scope.from_table.Reads as reads
 use Rattle.scope.proofs.Scope.from_table.Lts as lts
 
 abbrev Inv-loop : tie.InvT-loop
-Inv-loop catalog i a n count width labels₀ tables j₀ labels j = (j ≤ width) × (width ≤ 256) × Storing catalog i j labels
+Inv-loop catalog i a n count width labels₀ tables j₀ labels j = (j ≤ width) × (width ≤ mostColumns)
+    × Storing catalog i j labels
 
 abbrev μ-loop : tie.MeasureT-loop
 μ-loop catalog i a n count width labels₀ tables j₀ labels j = width - j

@@ -1,9 +1,9 @@
 use borrow.Author.Needs.{needs}
-use Prim.Native.Nat.{_+_, _-_, _≤_, _<_}
+use Prim.Native.Nat.{_-_, _≤_}
 use native.Mathlib.Omega.{arith}
 use mathlib.Core.Path.{_≡_, refl, _∙_}
 use mathlib.Core.List.{[]}
-use lib.ListN.{length, take, drop}
+use lib.ListN.{take, drop}
 use Rattle.scope.specs.Copies.{Copying, copying-begin, copying-more}
 use Rattle.scope.specs.Swap.{copying-second, swapped-end}
 use Rattle.scope.proofs.Scope.swap.Statement.{statement}

@@ -5,7 +5,6 @@ use Rattle.scope.proofs.labels.last_byte.Statement.{statement}
 use Rattle.scope.proofs.labels.last_byte.Tie as tie
 use Rattle.scope.proofs.labels.last_byte.Reads as reads
 use Rattle.scope.proofs.labels.last_byte.Lts as lts
-use Rattle.text.proofs.byte.Reads as byte-reads
 
 -- src/lookup.rt:22:14
 sub-k : tie.Need-sub-k

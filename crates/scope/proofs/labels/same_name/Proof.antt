@@ -1,13 +1,10 @@
-use mathlib.Core.Path.{_≡_, refl, sym, ap, _∙_}
+use mathlib.Core.Path.{sym, _∙_}
 use Rattle.scope.specs.Names.{other-lengths, other-last}
 use borrow.Author.Needs.{needs}
 use Rattle.scope.proofs.labels.same_name.Statement.{statement}
 use Rattle.scope.proofs.labels.same_name.Tie as tie
 use Rattle.scope.proofs.labels.same_name.Reads as reads
 use Rattle.scope.proofs.labels.same_name.Lts as lts
-use Rattle.scope.proofs.labels.last_byte.Reads as last-byte-reads
-use Rattle.text.proofs.places.inside.Reads as inside-reads
-use Rattle.text.proofs.places.same_bytes.Reads as same-bytes-reads
 
 -- src/lookup.rt:35:12
 inside-requires : tie.Need-inside-requires

@@ -1,4 +1,4 @@
-use mathlib.Core.Path.{_≡_, sym, _∙_}
+use mathlib.Core.Path.{sym, _∙_}
 use Rattle.scope.specs.Names.{named-none, named-some}
 use borrow.Author.Needs.{needs}
 use Rattle.scope.proofs.lookup.is_named.Statement.{statement}

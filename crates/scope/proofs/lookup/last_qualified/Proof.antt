@@ -1,11 +1,10 @@
 use mathlib.Core.Logic.{⊎-elim}
-use Prim.Native.Nat.{ℕ, _-_, _≤_, _<_}
+use Prim.Native.Nat.{_-_, _≤_, _<_}
 use native.Mathlib.Omega.{arith}
-use mathlib.Core.List.{List}
 use lib.ListN.{length}
 use Rattle.rules.specs.Places.{wordAt}
 use Rattle.rules.specs.Scope.{theLast, isQualified}
-use Rattle.scope.specs.Labels.{labelAt, columnsOf}
+use Rattle.scope.specs.Labels.{positionCount, labelAt, columnsOf}
 use Rattle.scope.specs.Search.{Seeking, seek-begin, seek-miss, seek-next}
 use Rattle.scope.specs.Search.{seek-none, seek-one, last-none, last-one}
 use borrow.Author.Needs.{needs}
@@ -16,7 +15,7 @@ use Rattle.scope.proofs.lookup.last_qualified.Lts as lts
 
 abbrev Inv-loop : tie.InvT-loop
 Inv-loop catalog statement labels matches tables b m a n last₀ i₀ last i =
-    (i ≤ length labels) × (length labels < 4294967296)
+    (i ≤ length labels) × (length labels < positionCount)
     × Seeking theLast (isQualified (wordAt catalog statement b m) (wordAt catalog statement a n))
     (labelAt catalog statement tables) labels i last
 

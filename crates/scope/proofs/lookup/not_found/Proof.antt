@@ -1,4 +1,4 @@
-use Prim.Native.Nat.{_-_, _≤_, _<_}
+use Prim.Native.Nat.{_-_, _≤_}
 use lib.ListN.{length}
 use Rattle.scope.specs.Search.{NoneBefore, none-before, none-more, missing-column, missing-aggregated}
 use borrow.Author.Needs.{needs}

@@ -5,7 +5,7 @@ use mathlib.Core.List.{List}
 use lib.ListN.{length}
 use Rattle.rules.specs.Places.{wordAt}
 use Rattle.rules.specs.Scope.{theOnly, isNamed}
-use Rattle.scope.specs.Labels.{labelAt, columnsOf}
+use Rattle.scope.specs.Labels.{positionCount, labelAt, columnsOf}
 use Rattle.scope.specs.Search.{Seeking, seek-begin, seek-miss, seek-first}
 use Rattle.scope.specs.Search.{seek-second, seek-none, seek-one, only-none, only-one}
 use borrow.Author.Needs.{needs}
@@ -15,7 +15,7 @@ use Rattle.scope.proofs.lookup.only_named.Reads as reads
 use Rattle.scope.proofs.lookup.only_named.Lts as lts
 
 abbrev Inv-loop : tie.InvT-loop
-Inv-loop catalog statement labels matches a n hit₀ i₀ hit i = (i ≤ length labels) × (length labels < 4294967296)
+Inv-loop catalog statement labels matches a n hit₀ i₀ hit i = (i ≤ length labels) × (length labels < positionCount)
     × ((ts : List ℕ) → Seeking theOnly (isNamed (wordAt catalog statement a n)) (labelAt catalog statement ts) labels i
     hit)
 

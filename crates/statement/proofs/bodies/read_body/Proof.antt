@@ -1,8 +1,8 @@
 -- `read_body`: by the kind.
 use borrow.Author.Needs.{needs}
+use Rattle.numbers.specs.Codes.{coded}
 use Rattle.statement.specs.FirstRecord.{headOf}
 use Rattle.statement.specs.BodyReads.{delete-read, create-read, no-body}
-use Rattle.ast.specs.Table.{coded}
 use Rattle.statement.proofs.bodies.read_body.Statement.{statement}
 use Rattle.statement.proofs.bodies.read_body.Tie as tie
 

@@ -12,7 +12,7 @@ use Rattle.ints.proofs.Signed.{read-mag}
 use Rattle.value.specs.Values.{valueOf, workedOf}
 use Rattle.value.specs.declared.Value.{Value}
 use Rattle.value.proofs.Pairs.{below, from}
-use Rattle.value.proofs.Told.{told}
+use Rattle.value.proofs.SameImage.{same-image}
 use Rattle.value.proofs.arithmetic.fact.Statement.{statement}
 use Rattle.value.proofs.arithmetic.fact.Tie as tie
 
@@ -34,7 +34,7 @@ is-negative-requires c κs = search needs
 returns : tie.Need-returns
 unfolding workedOf valueOf unaryOf factorialOf factorial
 returns c = λ t q. below _ (c .before .is-negative .ensures) (λ z. fails wrongOperand ≡ factorial z) (λ n. refl) (c .if1 .taken)
-    ∙ ap factorial (read-mag (c .before .before .before .a .given .0 .0) (c .before .before .known-told .given .0 .1)) ∙ told (rule t q)
+    ∙ ap factorial (read-mag (c .before .before .before .a .given .0 .0) (c .before .before .known-told .given .0 .1)) ∙ same-image (rule t q)
     (c .before .before .before .a .given .1)
 
 unsigned-abs-requires : tie.Need-unsigned-abs-requires
@@ -54,11 +54,11 @@ enum-told-4 c = search needs
 
 returns-2 : tie.Need-returns-2
 unfolding workedOf valueOf unaryOf factorialOf
-returns-2 c = λ t q. told (rule t q) (c .enum-told .given .1)
+returns-2 c = λ t q. same-image (rule t q) (c .enum-told .given .1)
 
 returns-3 : tie.Need-returns-3
 unfolding workedOf valueOf unaryOf factorialOf
-returns-3 c = λ t q. told (rule t q) (c .enum-told2 .given .1)
+returns-3 c = λ t q. same-image (rule t q) (c .enum-told2 .given .1)
 
 returns-4 : tie.Need-returns-4
 unfolding workedOf valueOf unaryOf factorialOf
@@ -66,16 +66,16 @@ returns-4 c = λ t q. c .of-checked .ensures t q ∙ c .before .factorial .ensur
     (c .before .before .before .before .is-negative .ensures) (λ z. factorial (pos (c .before .before .unsigned-abs .result)) ≡ factorial z)
     (c .before .before .unsigned-abs .ensures) (λ n e. ap (λ (n : ℕ). factorial (pos n)) e) (c .before .before .before .if1 .left)
     ∙ ap factorial (read-mag (c .before .before .before .before .before .before .a .given .0 .0)
-    (c .before .before .before .before .before .known-told .given .0 .1)) ∙ told (rule t q)
+    (c .before .before .before .before .before .known-told .given .0 .1)) ∙ same-image (rule t q)
     (c .before .before .before .before .before .before .a .given .1)
 
 returns-5 : tie.Need-returns-5
 unfolding workedOf valueOf unaryOf factorialOf
-returns-5 c = λ t q. told (rule t q) (c .enum-told3 .given .1)
+returns-5 c = λ t q. same-image (rule t q) (c .enum-told3 .given .1)
 
 returns-6 : tie.Need-returns-6
 unfolding workedOf valueOf unaryOf factorialOf
-returns-6 c = λ t q. told (rule t q) (c .enum-told4 .given .1)
+returns-6 c = λ t q. same-image (rule t q) (c .enum-told4 .given .1)
 
 pub fact-spec : {M : Type 1} → statement M
 fact-spec =

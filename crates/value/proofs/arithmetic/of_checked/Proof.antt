@@ -7,7 +7,7 @@ use Rattle.rules.specs.Schema.{int}
 use Rattle.ints.proofs.Signed.{read-mag}
 use Rattle.ints.specs.Checked.{checked}
 use Rattle.value.specs.Values.{valueOf, workedOf}
-use Rattle.value.proofs.Told.{told}
+use Rattle.value.proofs.SameImage.{same-image}
 use Rattle.value.proofs.arithmetic.of_checked.Statement.{statement}
 use Rattle.value.proofs.arithmetic.of_checked.Tie as tie
 
@@ -22,16 +22,16 @@ enum-told-2 c = search needs
 
 returns : tie.Need-returns
 unfolding workedOf valueOf checked
-returns c = λ t q. ap (λ (z : ℤ). gives (int z)) (read-mag (c .before .k .given .0 .0) (c .known-told .given .0 .1)) ∙ told (checked)
+returns c = λ t q. ap (λ (z : ℤ). gives (int z)) (read-mag (c .before .k .given .0 .0) (c .known-told .given .0 .1)) ∙ same-image (checked)
     (c .before .k .given .1)
 
 returns-2 : tie.Need-returns-2
 unfolding workedOf valueOf checked
-returns-2 c = λ t q. told (checked) (c .enum-told .given .1)
+returns-2 c = λ t q. same-image (checked) (c .enum-told .given .1)
 
 returns-3 : tie.Need-returns-3
 unfolding workedOf valueOf checked
-returns-3 c = λ t q. told (checked) (c .enum-told2 .given .1)
+returns-3 c = λ t q. same-image (checked) (c .enum-told2 .given .1)
 
 pub of-checked-spec : {M : Type 1} → statement M
 of-checked-spec =

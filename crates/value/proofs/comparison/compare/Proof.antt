@@ -12,7 +12,7 @@ use Rattle.value.specs.Values.{valueOf}
 use Rattle.value.specs.declared.Value.{Value}
 use Rattle.value.proofs.Floats.{of-bits}
 use Rattle.value.proofs.Orders.{text-order}
-use Rattle.value.proofs.Told.{told, told2}
+use Rattle.value.proofs.SameImage.{same-image, same-image2}
 use Rattle.value.proofs.comparison.compare.Statement.{statement}
 use Rattle.value.proofs.comparison.compare.Tie as tie
 
@@ -123,43 +123,43 @@ of-order-requires c κs = search needs
 
 returns : tie.Need-returns
 unfolding valueOf compare comparedOf rounded
-returns c = let start = c .before .before .before .before in told
+returns c = let start = c .before .before .before .before in same-image
     (λ (a : Value). rule (start .args .catalog .now) (start .args .statement .now) a (start .args .b)) (c .enum-told .given .1)
 
 returns-2 : tie.Need-returns-2
 unfolding valueOf compare comparedOf rounded
-returns-2 c = let start = c .before .before .before .before .before .before .before in told2
+returns-2 c = let start = c .before .before .before .before .before .before .before in same-image2
     (rule (start .args .catalog .now) (start .args .statement .now)) (c .before .before .before .a .given .1) (c .enum-told2 .given .1)
 
 returns-3 : tie.Need-returns-3
 unfolding valueOf compare comparedOf rounded
-returns-3 c = let start = c .before .before .before .before .before .before .before .before .before in c .order-bools .ensures ∙ told2
+returns-3 c = let start = c .before .before .before .before .before .before .before .before .before in c .order-bools .ensures ∙ same-image2
     (rule (start .args .catalog .now) (start .args .statement .now)) (c .before .before .before .before .before .a .given .1)
     (c .before .before .b .given .1)
 
 returns-4 : tie.Need-returns-4
 unfolding valueOf compare comparedOf rounded
-returns-4 c = let start = c .before .before .before .before .before .before .before in told2
+returns-4 c = let start = c .before .before .before .before .before .before .before in same-image2
     (rule (start .args .catalog .now) (start .args .statement .now)) (c .before .before .before .a .given .1) (c .enum-told3 .given .1)
 
 returns-5 : tie.Need-returns-5
 unfolding valueOf compare comparedOf rounded
-returns-5 c = let start = c .before .before .before .before .before .before .before in told2
+returns-5 c = let start = c .before .before .before .before .before .before .before in same-image2
     (rule (start .args .catalog .now) (start .args .statement .now)) (c .before .before .before .a .given .1) (c .enum-told4 .given .1)
 
 returns-6 : tie.Need-returns-6
 unfolding valueOf compare comparedOf rounded
-returns-6 c = let start = c .before .before .before .before .before .before .before in told2
+returns-6 c = let start = c .before .before .before .before .before .before .before in same-image2
     (rule (start .args .catalog .now) (start .args .statement .now)) (c .before .before .before .a .given .1) (c .enum-told5 .given .1)
 
 returns-7 : tie.Need-returns-7
 unfolding valueOf compare comparedOf rounded
-returns-7 c = let start = c .before .before .before .before .before .before .before in told2
+returns-7 c = let start = c .before .before .before .before .before .before .before in same-image2
     (rule (start .args .catalog .now) (start .args .statement .now)) (c .before .before .before .a2 .given .1) (c .enum-told6 .given .1)
 
 returns-8 : tie.Need-returns-8
 unfolding valueOf compare comparedOf rounded
-returns-8 c = let start = c .before .before .before .before .before .before .before in told2
+returns-8 c = let start = c .before .before .before .before .before .before .before in same-image2
     (rule (start .args .catalog .now) (start .args .statement .now)) (c .before .before .before .a2 .given .1) (c .enum-told7 .given .1)
 
 returns-9 : tie.Need-returns-9
@@ -167,7 +167,7 @@ unfolding valueOf compare comparedOf rounded
 returns-9 c = let start = c .before .before .before .before .before .before .before .before .before in c .order-ints .ensures ∙
     (λ i. ordered (orderIntegers
     (read-mag (c .before .before .before .before .before .a2 .given .0 .0) (c .before .before .before .before .known-told3 .given .0 .1) i)
-    (read-mag (c .before .before .b2 .given .0 .0) (c .before .known-told4 .given .0 .1) i))) ∙ told2 (rule (start .args .catalog .now)
+    (read-mag (c .before .before .b2 .given .0 .0) (c .before .known-told4 .given .0 .1) i))) ∙ same-image2 (rule (start .args .catalog .now)
     (start .args .statement .now)) (c .before .before .before .before .before .a2 .given .1) (c .before .before .b2 .given .1)
 
 returns-10 : tie.Need-returns-10
@@ -177,22 +177,22 @@ returns-10 c = let start = c .before .before .before .before .before .before .be
     ((c .before .nearest-i64-to-f64 .ensures ∙ ap (ofInt binary64)
     (read-mag (c .before .before .before .before .before .before .a2 .given .0 .0)
     (c .before .before .before .before .before .known-told3 .given .0 .1))) i) ((sym (of-bits _
-    (c .before .before .known-told5 .given .0 .1))) i))) ∙ told2 (rule (start .args .catalog .now) (start .args .statement .now))
+    (c .before .before .known-told5 .given .0 .1))) i))) ∙ same-image2 (rule (start .args .catalog .now) (start .args .statement .now))
     (c .before .before .before .before .before .before .a2 .given .1) (c .before .before .before .b3 .given .1)
 
 returns-11 : tie.Need-returns-11
 unfolding valueOf compare comparedOf rounded
-returns-11 c = let start = c .before .before .before .before .before .before .before in told2
+returns-11 c = let start = c .before .before .before .before .before .before .before in same-image2
     (rule (start .args .catalog .now) (start .args .statement .now)) (c .before .before .before .a2 .given .1) (c .enum-told8 .given .1)
 
 returns-12 : tie.Need-returns-12
 unfolding valueOf compare comparedOf rounded
-returns-12 c = let start = c .before .before .before .before .before .before .before in told2
+returns-12 c = let start = c .before .before .before .before .before .before .before in same-image2
     (rule (start .args .catalog .now) (start .args .statement .now)) (c .before .before .before .a3 .given .1) (c .enum-told9 .given .1)
 
 returns-13 : tie.Need-returns-13
 unfolding valueOf compare comparedOf rounded
-returns-13 c = let start = c .before .before .before .before .before .before .before in told2
+returns-13 c = let start = c .before .before .before .before .before .before .before in same-image2
     (rule (start .args .catalog .now) (start .args .statement .now)) (c .before .before .before .a3 .given .1) (c .enum-told10 .given .1)
 
 returns-14 : tie.Need-returns-14
@@ -200,7 +200,7 @@ unfolding valueOf compare comparedOf rounded
 returns-14 c = let start = c .before .before .before .before .before .before .before .before .before .before in c .order-floats2 .ensures ∙
     (λ i. ordered (orderFloats ((sym (of-bits _ (c .before .before .before .before .before .known-told6 .given .0 .1))) i)
     ((c .before .nearest-i64-to-f642 .ensures ∙ ap (ofInt binary64)
-    (read-mag (c .before .before .before .b4 .given .0 .0) (c .before .before .known-told7 .given .0 .1))) i))) ∙ told2 (rule
+    (read-mag (c .before .before .before .b4 .given .0 .0) (c .before .before .known-told7 .given .0 .1))) i))) ∙ same-image2 (rule
     (start .args .catalog .now) (start .args .statement .now)) (c .before .before .before .before .before .before .a3 .given .1)
     (c .before .before .before .b4 .given .1)
 
@@ -208,38 +208,38 @@ returns-15 : tie.Need-returns-15
 unfolding valueOf compare comparedOf rounded
 returns-15 c = let start = c .before .before .before .before .before .before .before .before .before in c .order-floats3 .ensures ∙
     (λ i. ordered (orderFloats ((sym (of-bits _ (c .before .before .before .before .known-told6 .given .0 .1))) i)
-    ((sym (of-bits _ (c .before .known-told8 .given .0 .1))) i))) ∙ told2 (rule (start .args .catalog .now) (start .args .statement .now))
+    ((sym (of-bits _ (c .before .known-told8 .given .0 .1))) i))) ∙ same-image2 (rule (start .args .catalog .now) (start .args .statement .now))
     (c .before .before .before .before .before .a3 .given .1) (c .before .before .b5 .given .1)
 
 returns-16 : tie.Need-returns-16
 unfolding valueOf compare comparedOf rounded
-returns-16 c = let start = c .before .before .before .before .before .before .before in told2
+returns-16 c = let start = c .before .before .before .before .before .before .before in same-image2
     (rule (start .args .catalog .now) (start .args .statement .now)) (c .before .before .before .a3 .given .1) (c .enum-told11 .given .1)
 
 returns-17 : tie.Need-returns-17
 unfolding valueOf compare comparedOf rounded
-returns-17 c = let start = c .before .before .before .before .before .before .before in told2
+returns-17 c = let start = c .before .before .before .before .before .before .before in same-image2
     (rule (start .args .catalog .now) (start .args .statement .now)) (c .before .before .before .a4 .given .1) (c .enum-told12 .given .1)
 
 returns-18 : tie.Need-returns-18
 unfolding valueOf compare comparedOf rounded
-returns-18 c = let start = c .before .before .before .before .before .before .before in told2
+returns-18 c = let start = c .before .before .before .before .before .before .before in same-image2
     (rule (start .args .catalog .now) (start .args .statement .now)) (c .before .before .before .a4 .given .1) (c .enum-told13 .given .1)
 
 returns-19 : tie.Need-returns-19
 unfolding valueOf compare comparedOf rounded
-returns-19 c = let start = c .before .before .before .before .before .before .before in told2
+returns-19 c = let start = c .before .before .before .before .before .before .before in same-image2
     (rule (start .args .catalog .now) (start .args .statement .now)) (c .before .before .before .a4 .given .1) (c .enum-told14 .given .1)
 
 returns-20 : tie.Need-returns-20
 unfolding valueOf compare comparedOf rounded
-returns-20 c = let start = c .before .before .before .before .before .before .before in told2
+returns-20 c = let start = c .before .before .before .before .before .before .before in same-image2
     (rule (start .args .catalog .now) (start .args .statement .now)) (c .before .before .before .a4 .given .1) (c .enum-told15 .given .1)
 
 returns-21 : tie.Need-returns-21
 unfolding valueOf compare comparedOf rounded
 returns-21 c = let start = c .before .before .before .before .before .before .before .before .before .before in c .of-order .ensures ∙ ap
-    (λ (o : Order). ordered (textOrder o)) (c .before .order-texts .ensures) ∙ ap ordered (text-order _ _ _ _ _ _) ∙ told2
+    (λ (o : Order). ordered (textOrder o)) (c .before .order-texts .ensures) ∙ ap ordered (text-order _ _ _ _ _ _) ∙ same-image2
     (rule (start .args .catalog .now) (start .args .statement .now)) (c .before .before .before .before .before .before .a4 .given .1)
     (c .before .before .before .b6 .given .1)
 

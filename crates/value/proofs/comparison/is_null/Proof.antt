@@ -6,7 +6,7 @@ use Rattle.rules.specs.Operators.{isOf, isNull}
 use Rattle.rules.specs.Schema.{null}
 use Rattle.value.specs.Values.{valueOf, workedOf}
 use Rattle.value.specs.declared.Value.{Value}
-use Rattle.value.proofs.Told.{told}
+use Rattle.value.proofs.SameImage.{same-image}
 use Rattle.value.proofs.comparison.is_null.Statement.{statement}
 use Rattle.value.proofs.comparison.is_null.Tie as tie
 
@@ -30,23 +30,23 @@ enum-told-5 c = search needs
 
 returns : tie.Need-returns
 unfolding workedOf valueOf isOf isNull
-returns c = λ t q. told (rule t q) (c .enum-told .given .1)
+returns c = λ t q. same-image (rule t q) (c .enum-told .given .1)
 
 returns-2 : tie.Need-returns-2
 unfolding workedOf valueOf isOf isNull
-returns-2 c = λ t q. told (rule t q) (c .enum-told2 .given .1)
+returns-2 c = λ t q. same-image (rule t q) (c .enum-told2 .given .1)
 
 returns-3 : tie.Need-returns-3
 unfolding workedOf valueOf isOf isNull
-returns-3 c = λ t q. told (rule t q) (c .enum-told3 .given .1)
+returns-3 c = λ t q. same-image (rule t q) (c .enum-told3 .given .1)
 
 returns-4 : tie.Need-returns-4
 unfolding workedOf valueOf isOf isNull
-returns-4 c = λ t q. told (rule t q) (c .enum-told4 .given .1)
+returns-4 c = λ t q. same-image (rule t q) (c .enum-told4 .given .1)
 
 returns-5 : tie.Need-returns-5
 unfolding workedOf valueOf isOf isNull
-returns-5 c = λ t q. told (rule t q) (c .enum-told5 .given .1)
+returns-5 c = λ t q. same-image (rule t q) (c .enum-told5 .given .1)
 
 pub is-null-spec : {M : Type 1} → statement M
 is-null-spec =

@@ -9,7 +9,7 @@ use Rattle.value.specs.Operands.{logicOf}
 use Rattle.value.specs.Values.{valueOf, workedOf}
 use Rattle.value.specs.declared.Truths.the-variants as Tr
 use Rattle.value.proofs.Pairs.{at-truths, and-no}
-use Rattle.value.proofs.Told.{told}
+use Rattle.value.proofs.SameImage.{same-image}
 use Rattle.value.proofs.logic.and.Statement.{statement}
 use Rattle.value.proofs.logic.and.Tie as tie
 
@@ -30,7 +30,7 @@ enum-told-2 c = search needs
 
 returns : tie.Need-returns
 unfolding workedOf valueOf plainOf logicOf andUnknown
-returns c = λ t q. told (λ (x : Bool). gives (bool (x && c .before .before .p .given .0 .1 .0))) (c .if1 .taken) ∙ at-truths
+returns c = λ t q. same-image (λ (x : Bool). gives (bool (x && c .before .before .p .given .0 .1 .0))) (c .if1 .taken) ∙ at-truths
     (λ a b. a && b) andUnknown (c .before .before .before .before .truths-of .ensures (λ a b. a && b) andUnknown t q) _
     (c .before .before .p .given .1)
 
@@ -42,12 +42,12 @@ returns-2 c = λ t q. ap (λ (x : Bool). gives (bool x)) (and-no (c .before .bef
 
 returns-3 : tie.Need-returns-3
 unfolding workedOf valueOf plainOf logicOf andUnknown
-returns-3 c = λ t q. told (λ (x : Bool). gives (andUnknown x)) (c .if2 .taken) ∙ at-truths (λ a b. a && b) andUnknown
+returns-3 c = λ t q. same-image (λ (x : Bool). gives (andUnknown x)) (c .if2 .taken) ∙ at-truths (λ a b. a && b) andUnknown
     (c .before .before .before .before .truths-of .ensures (λ a b. a && b) andUnknown t q) _ (c .before .before .p2 .given .1)
 
 returns-4 : tie.Need-returns-4
 unfolding workedOf valueOf plainOf logicOf andUnknown
-returns-4 c = λ t q. told (λ (x : Bool). gives (andUnknown x)) (c .if2 .left) ∙ at-truths (λ a b. a && b) andUnknown
+returns-4 c = λ t q. same-image (λ (x : Bool). gives (andUnknown x)) (c .if2 .left) ∙ at-truths (λ a b. a && b) andUnknown
     (c .before .before .before .before .truths-of .ensures (λ a b. a && b) andUnknown t q) _ (c .before .before .p2 .given .1)
 
 returns-5 : tie.Need-returns-5

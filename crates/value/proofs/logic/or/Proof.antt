@@ -9,7 +9,7 @@ use Rattle.value.specs.Operands.{logicOf}
 use Rattle.value.specs.Values.{valueOf, workedOf}
 use Rattle.value.specs.declared.Truths.the-variants as Tr
 use Rattle.value.proofs.Pairs.{at-truths, or-yes}
-use Rattle.value.proofs.Told.{told}
+use Rattle.value.proofs.SameImage.{same-image}
 use Rattle.value.proofs.logic.or.Statement.{statement}
 use Rattle.value.proofs.logic.or.Tie as tie
 
@@ -36,18 +36,18 @@ returns c = λ t q. ap (λ (x : Bool). gives (bool x)) (or-yes (c .before .befor
 
 returns-2 : tie.Need-returns-2
 unfolding workedOf valueOf plainOf logicOf orUnknown
-returns-2 c = λ t q. told (λ (x : Bool). gives (bool (x || c .before .before .p .given .0 .1 .0))) (c .if1 .left) ∙ at-truths
+returns-2 c = λ t q. same-image (λ (x : Bool). gives (bool (x || c .before .before .p .given .0 .1 .0))) (c .if1 .left) ∙ at-truths
     (λ a b. a || b) orUnknown (c .before .before .before .before .truths-of .ensures (λ a b. a || b) orUnknown t q) _
     (c .before .before .p .given .1)
 
 returns-3 : tie.Need-returns-3
 unfolding workedOf valueOf plainOf logicOf orUnknown
-returns-3 c = λ t q. told (λ (x : Bool). gives (orUnknown x)) (c .if2 .taken) ∙ at-truths (λ a b. a || b) orUnknown
+returns-3 c = λ t q. same-image (λ (x : Bool). gives (orUnknown x)) (c .if2 .taken) ∙ at-truths (λ a b. a || b) orUnknown
     (c .before .before .before .before .truths-of .ensures (λ a b. a || b) orUnknown t q) _ (c .before .before .p2 .given .1)
 
 returns-4 : tie.Need-returns-4
 unfolding workedOf valueOf plainOf logicOf orUnknown
-returns-4 c = λ t q. told (λ (x : Bool). gives (orUnknown x)) (c .if2 .left) ∙ at-truths (λ a b. a || b) orUnknown
+returns-4 c = λ t q. same-image (λ (x : Bool). gives (orUnknown x)) (c .if2 .left) ∙ at-truths (λ a b. a || b) orUnknown
     (c .before .before .before .before .truths-of .ensures (λ a b. a || b) orUnknown t q) _ (c .before .before .p2 .given .1)
 
 returns-5 : tie.Need-returns-5

@@ -10,7 +10,7 @@ use Rattle.value.specs.Values.{valueOf}
 use Rattle.value.specs.declared.Value.{Value}
 use Rattle.value.proofs.Floats.{of-bits}
 use Rattle.value.proofs.Pairs.{pair-ints, pair-floats}
-use Rattle.value.proofs.Told.{told, told2}
+use Rattle.value.proofs.SameImage.{same-image, same-image2}
 use Rattle.value.proofs.operands.numbers_of.Statement.{statement}
 use Rattle.value.proofs.operands.numbers_of.Tie as tie
 
@@ -85,80 +85,80 @@ enum-told-14 c = search needs
 
 returns : tie.Need-returns
 unfolding valueOf numbers pairOf rounded
-returns c = λ t q. told2 (rule t q) (c .before .before .enum-told .given .1) (c .enum-told2 .given .1)
+returns c = λ t q. same-image2 (rule t q) (c .before .before .enum-told .given .1) (c .enum-told2 .given .1)
 
 returns-2 : tie.Need-returns-2
 unfolding valueOf numbers pairOf rounded
-returns-2 c = λ t q. told2 (rule t q) (c .before .before .enum-told .given .1) (c .enum-told3 .given .1)
+returns-2 c = λ t q. same-image2 (rule t q) (c .before .before .enum-told .given .1) (c .enum-told3 .given .1)
 
 returns-3 : tie.Need-returns-3
 unfolding valueOf numbers pairOf rounded
-returns-3 c = λ t q. told2 (rule t q) (c .before .before .enum-told .given .1) (c .enum-told4 .given .1)
+returns-3 c = λ t q. same-image2 (rule t q) (c .before .before .enum-told .given .1) (c .enum-told4 .given .1)
 
 returns-4 : tie.Need-returns-4
 unfolding valueOf numbers pairOf rounded
-returns-4 c = λ t q. told2 (rule t q) (c .before .before .enum-told .given .1) (c .enum-told5 .given .1)
+returns-4 c = λ t q. same-image2 (rule t q) (c .before .before .enum-told .given .1) (c .enum-told5 .given .1)
 
 returns-5 : tie.Need-returns-5
 unfolding valueOf numbers pairOf rounded
-returns-5 c = λ t q. told2 (rule t q) (c .before .before .enum-told .given .1) (c .enum-told6 .given .1)
+returns-5 c = λ t q. same-image2 (rule t q) (c .before .before .enum-told .given .1) (c .enum-told6 .given .1)
 
 returns-6 : tie.Need-returns-6
 unfolding valueOf numbers pairOf rounded
-returns-6 c = λ t q. told (λ (a : Value). rule t q a (c .before .before .args .b)) (c .enum-told7 .given .1)
+returns-6 c = λ t q. same-image (λ (a : Value). rule t q a (c .before .before .args .b)) (c .enum-told7 .given .1)
 
 returns-7 : tie.Need-returns-7
 unfolding valueOf numbers pairOf rounded
-returns-7 c = λ t q. told2 (rule t q) (c .before .before .before .a .given .1) (c .enum-told8 .given .1)
+returns-7 c = λ t q. same-image2 (rule t q) (c .before .before .before .a .given .1) (c .enum-told8 .given .1)
 
 returns-8 : tie.Need-returns-8
 unfolding valueOf numbers pairOf rounded
-returns-8 c = λ t q. told2 (rule t q) (c .before .before .before .a .given .1) (c .enum-told9 .given .1)
+returns-8 c = λ t q. same-image2 (rule t q) (c .before .before .before .a .given .1) (c .enum-told9 .given .1)
 
 returns-9 : tie.Need-returns-9
 unfolding valueOf numbers pairOf rounded
-returns-9 c = λ t q. pair-ints _ _ (c .before .before .before .known-told .given .0 .1) (c .known-told2 .given .0 .1) ∙ told2 (rule t q)
+returns-9 c = λ t q. pair-ints _ _ (c .before .before .before .known-told .given .0 .1) (c .known-told2 .given .0 .1) ∙ same-image2 (rule t q)
     (c .before .before .before .before .a .given .1) (c .before .b .given .1)
 
 returns-10 : tie.Need-returns-10
 unfolding valueOf numbers pairOf rounded
 returns-10 c = λ t q. pair-floats (c .nearest-i64-to-f64 .ensures ∙ ap (ofInt binary64)
     (read-mag (c .before .before .before .before .before .a .given .0 .0) (c .before .before .before .before .known-told .given .0 .1)))
-    (sym (of-bits _ (c .before .known-told3 .given .0 .1))) ∙ told2 (rule t q) (c .before .before .before .before .before .a .given .1)
+    (sym (of-bits _ (c .before .known-told3 .given .0 .1))) ∙ same-image2 (rule t q) (c .before .before .before .before .before .a .given .1)
     (c .before .before .b2 .given .1)
 
 returns-11 : tie.Need-returns-11
 unfolding valueOf numbers pairOf rounded
-returns-11 c = λ t q. told2 (rule t q) (c .before .before .before .a .given .1) (c .enum-told10 .given .1)
+returns-11 c = λ t q. same-image2 (rule t q) (c .before .before .before .a .given .1) (c .enum-told10 .given .1)
 
 returns-12 : tie.Need-returns-12
 unfolding valueOf numbers pairOf rounded
-returns-12 c = λ t q. told2 (rule t q) (c .before .before .before .a2 .given .1) (c .enum-told11 .given .1)
+returns-12 c = λ t q. same-image2 (rule t q) (c .before .before .before .a2 .given .1) (c .enum-told11 .given .1)
 
 returns-13 : tie.Need-returns-13
 unfolding valueOf numbers pairOf rounded
-returns-13 c = λ t q. told2 (rule t q) (c .before .before .before .a2 .given .1) (c .enum-told12 .given .1)
+returns-13 c = λ t q. same-image2 (rule t q) (c .before .before .before .a2 .given .1) (c .enum-told12 .given .1)
 
 returns-14 : tie.Need-returns-14
 unfolding valueOf numbers pairOf rounded
 returns-14 c = λ t q. pair-floats (sym (of-bits _ (c .before .before .before .before .known-told4 .given .0 .1)))
     (c .nearest-i64-to-f642 .ensures ∙ ap (ofInt binary64) (read-mag (c .before .before .b3 .given .0 .0)
-    (c .before .known-told5 .given .0 .1))) ∙ told2 (rule t q) (c .before .before .before .before .before .a2 .given .1)
+    (c .before .known-told5 .given .0 .1))) ∙ same-image2 (rule t q) (c .before .before .before .before .before .a2 .given .1)
     (c .before .before .b3 .given .1)
 
 returns-15 : tie.Need-returns-15
 unfolding valueOf numbers pairOf rounded
 returns-15 c = λ t q. pair-floats (sym (of-bits _ (c .before .before .before .known-told4 .given .0 .1)))
-    (sym (of-bits _ (c .known-told6 .given .0 .1))) ∙ told2 (rule t q) (c .before .before .before .before .a2 .given .1)
+    (sym (of-bits _ (c .known-told6 .given .0 .1))) ∙ same-image2 (rule t q) (c .before .before .before .before .a2 .given .1)
     (c .before .b4 .given .1)
 
 returns-16 : tie.Need-returns-16
 unfolding valueOf numbers pairOf rounded
-returns-16 c = λ t q. told2 (rule t q) (c .before .before .before .a2 .given .1) (c .enum-told13 .given .1)
+returns-16 c = λ t q. same-image2 (rule t q) (c .before .before .before .a2 .given .1) (c .enum-told13 .given .1)
 
 returns-17 : tie.Need-returns-17
 unfolding valueOf numbers pairOf rounded
-returns-17 c = λ t q. told (λ (a : Value). rule t q a (c .before .before .args .b)) (c .enum-told14 .given .1)
+returns-17 c = λ t q. same-image (λ (a : Value). rule t q a (c .before .before .args .b)) (c .enum-told14 .given .1)
 
 pub numbers-of-spec : {M : Type 1} → statement M
 numbers-of-spec =

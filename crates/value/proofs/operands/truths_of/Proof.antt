@@ -8,7 +8,7 @@ use Rattle.rules.specs.Schema as schema
 use Rattle.value.specs.Operands.{logicOf}
 use Rattle.value.specs.Values.{valueOf}
 use Rattle.value.specs.declared.Value.{Value}
-use Rattle.value.proofs.Told.{told, told2}
+use Rattle.value.proofs.SameImage.{same-image, same-image2}
 use Rattle.value.proofs.operands.truths_of.Statement.{statement}
 use Rattle.value.proofs.operands.truths_of.Tie as tie
 
@@ -62,55 +62,55 @@ enum-told-12 c = search needs
 
 returns : tie.Need-returns
 unfolding valueOf logic logicOf
-returns c = λ f u t q. told2 (rule f u t q) (c .before .before .enum-told .given .1) (c .enum-told2 .given .1)
+returns c = λ f u t q. same-image2 (rule f u t q) (c .before .before .enum-told .given .1) (c .enum-told2 .given .1)
 
 returns-2 : tie.Need-returns-2
 unfolding valueOf logic logicOf
-returns-2 c = λ f u t q. told2 (rule f u t q) (c .before .before .before .enum-told .given .1) (c .before .b .given .1)
+returns-2 c = λ f u t q. same-image2 (rule f u t q) (c .before .before .before .enum-told .given .1) (c .before .b .given .1)
 
 returns-3 : tie.Need-returns-3
 unfolding valueOf logic logicOf
-returns-3 c = λ f u t q. told2 (rule f u t q) (c .before .before .enum-told .given .1) (c .enum-told3 .given .1)
+returns-3 c = λ f u t q. same-image2 (rule f u t q) (c .before .before .enum-told .given .1) (c .enum-told3 .given .1)
 
 returns-4 : tie.Need-returns-4
 unfolding valueOf logic logicOf
-returns-4 c = λ f u t q. told2 (rule f u t q) (c .before .before .enum-told .given .1) (c .enum-told4 .given .1)
+returns-4 c = λ f u t q. same-image2 (rule f u t q) (c .before .before .enum-told .given .1) (c .enum-told4 .given .1)
 
 returns-5 : tie.Need-returns-5
 unfolding valueOf logic logicOf
-returns-5 c = λ f u t q. told2 (rule f u t q) (c .before .before .enum-told .given .1) (c .enum-told5 .given .1)
+returns-5 c = λ f u t q. same-image2 (rule f u t q) (c .before .before .enum-told .given .1) (c .enum-told5 .given .1)
 
 returns-6 : tie.Need-returns-6
 unfolding valueOf logic logicOf
-returns-6 c = λ f u t q. told2 (rule f u t q) (c .before .before .before .a .given .1) (c .enum-told6 .given .1)
+returns-6 c = λ f u t q. same-image2 (rule f u t q) (c .before .before .before .a .given .1) (c .enum-told6 .given .1)
 
 returns-7 : tie.Need-returns-7
 unfolding valueOf logic logicOf
-returns-7 c = λ f u t q. told2 (rule f u t q) (c .before .before .before .before .a .given .1) (c .before .b2 .given .1)
+returns-7 c = λ f u t q. same-image2 (rule f u t q) (c .before .before .before .before .a .given .1) (c .before .b2 .given .1)
 
 returns-8 : tie.Need-returns-8
 unfolding valueOf logic logicOf
-returns-8 c = λ f u t q. told2 (rule f u t q) (c .before .before .before .a .given .1) (c .enum-told7 .given .1)
+returns-8 c = λ f u t q. same-image2 (rule f u t q) (c .before .before .before .a .given .1) (c .enum-told7 .given .1)
 
 returns-9 : tie.Need-returns-9
 unfolding valueOf logic logicOf
-returns-9 c = λ f u t q. told2 (rule f u t q) (c .before .before .before .a .given .1) (c .enum-told8 .given .1)
+returns-9 c = λ f u t q. same-image2 (rule f u t q) (c .before .before .before .a .given .1) (c .enum-told8 .given .1)
 
 returns-10 : tie.Need-returns-10
 unfolding valueOf logic logicOf
-returns-10 c = λ f u t q. told2 (rule f u t q) (c .before .before .before .a .given .1) (c .enum-told9 .given .1)
+returns-10 c = λ f u t q. same-image2 (rule f u t q) (c .before .before .before .a .given .1) (c .enum-told9 .given .1)
 
 returns-11 : tie.Need-returns-11
 unfolding valueOf logic logicOf
-returns-11 c = λ f u t q. told (λ (a : Value). rule f u t q a (c .before .before .args .b)) (c .enum-told10 .given .1)
+returns-11 c = λ f u t q. same-image (λ (a : Value). rule f u t q a (c .before .before .args .b)) (c .enum-told10 .given .1)
 
 returns-12 : tie.Need-returns-12
 unfolding valueOf logic logicOf
-returns-12 c = λ f u t q. told (λ (a : Value). rule f u t q a (c .before .before .args .b)) (c .enum-told11 .given .1)
+returns-12 c = λ f u t q. same-image (λ (a : Value). rule f u t q a (c .before .before .args .b)) (c .enum-told11 .given .1)
 
 returns-13 : tie.Need-returns-13
 unfolding valueOf logic logicOf
-returns-13 c = λ f u t q. told (λ (a : Value). rule f u t q a (c .before .before .args .b)) (c .enum-told12 .given .1)
+returns-13 c = λ f u t q. same-image (λ (a : Value). rule f u t q a (c .before .before .args .b)) (c .enum-told12 .given .1)
 
 pub truths-of-spec : {M : Type 1} → statement M
 truths-of-spec =

@@ -1,0 +1,169 @@
+-- Room for the node records of a SELECT, clause by clause: the numbers of the nodes before, and all that the next record
+-- may take, are within the most numbers of nodes, whether or not that clause is accepted.
+use Prim.Native.Nat.{ℕ, _+_, _*_, _≤_}
+use native.Mathlib.Omega.{arith}
+use mathlib.Core.Path.{_≡_, refl, ap, _∙_}
+use mathlib.Core.List.{List, [], _∷_, _++_, map}
+use lib.ListN.{length}
+use Rattle.rules.specs.Refusals.{ok, invalidOffset, invalidLimit}
+use Rattle.rules.specs.Limits.{mostCells, mostColumns}
+use Rattle.rules.specs.Schema.{Catalog}
+use Rattle.rules.specs.Ast.{Expr, size, Item, Select}
+use Rattle.rules.specs.Plan.{Built, Node, labels}
+use Rattle.rules.specs.Plan as P
+use Rattle.rules.specs.Cells.{Cell, numberNode}
+use Rattle.rules.specs.Nodes.{NodeRecord}
+use Rattle.rules.specs.Scope.{Scope, spawn, width}
+use Rattle.rules.specs.BuildExpression.{clauseExpr}
+use Rattle.rules.specs.Stage.{Stage}
+use Rattle.rules.specs.BuildAggregate.{retain, retainGroups, retainFunctions, buildGroups}
+use Rattle.rules.specs.BuildFrom.{buildFromClause}
+use Rattle.rules.specs.Items.{buildItems}
+use Rattle.rules.specs.BuildSelect.{buildWhere, laterOf, functionsOf, buildProjection, buildHaving, buildOrder, buildRows}
+use Rattle.rules.specs.Sizes.{total, clauseSize, itemsSize, keysSize, selectSize}
+use Rattle.claims.specs.Answers.{ensured}
+use Rattle.claims.specs.Count.Totals.{total-append, total-map}
+use Rattle.claims.specs.Count.Stars.{expanded-items}
+use Rattle.claims.specs.Count.Uses.{retain-most, later-total, given-size}
+use Rattle.claims.specs.Reading.Limits.{LimitedSelect}
+use Rattle.claims.specs.Room.Nodes.{mostNodeNumbers, mostFromNumbers, filterNumbers, mostGroupNumbers, mostItemNumbers}
+use Rattle.claims.specs.Room.Nodes.{mostKeyNumbers, rowCountNumbers, nodeRoom, recordsRoom}
+use Rattle.claims.specs.Room.Nodes.{records-room, number-room}
+use Rattle.claims.specs.Room.Select.{RoomAt, from-at, where-at, groups-at, projection-at, width-at, having-room}
+use Rattle.claims.specs.Room.Select.{order-room, rows-room, offset-room, limit-room}
+use Rattle.appends.specs.Nodes.Lays.{Lays}
+use Rattle.appends.specs.Scopes.Stars.{collectEach-size, stars-functions}
+
+-- the numbers of the records that a node lays
+pub lays-room : (i k : ℕ) (n : Node Built) (cs : List Cell) (rs : List NodeRecord) (j m : ℕ) → Lays i k n cs rs j m
+    → recordsRoom rs ≡ nodeRoom n
+lays-room i k n cs rs j m h = rw (← h .records) (records-room (numberNode i n) k ∙ number-room n i)
+
+-- THE NEXT RECORD
+-- the numbers of g groups and f functions, of k items, of k order keys, of a remap of k columns
+abbrev pub groupRecord : ℕ → ℕ → ℕ
+groupRecord g f = 4 + g + 2 * f
+
+abbrev pub itemRecord : ℕ → ℕ
+itemRecord k = 3 + 3 * k
+
+abbrev pub keyRecord : ℕ → ℕ
+keyRecord k = 3 + 2 * k
+
+abbrev pub remapRecord : ℕ → ℕ
+remapRecord k = 3 + k
+
+ones : (es : List Expr) → total (λ e. 1) es ≡ length es
+unfolding total
+ones [] = refl
+ones (e ∷ es) = omega (arith, ones es)
+
+-- no more are kept than there are
+pub retain-length : (p : Scope) (es : List Expr) (c : Scope) → length (retain p es c .exprs) ≤ length es
+retain-length p es c = omega (arith, ones es, ones (retain p es c .exprs), retain-most (λ e. 1) p es c)
+
+-- a SELECT's aggregates are at most its expression cells
+pub functions-length : (q : Select) (n : Node Built) (is′ : List Item) → buildItems q n ≡ ok is′
+    → length (functionsOf is′ (laterOf q)) ≤ selectSize q
+unfolding functionsOf itemsSize keysSize clauseSize selectSize
+functions-length q n is′ e =
+    let h = ensured (buildItems q n) _ (expanded-items q n) is′ e in
+    let es = map (λ (i : Item). i .expr) (q .items) in
+    let y : functionsOf is′ (laterOf q) ≡ functionsOf (q .items) (laterOf q) =
+    ap (λ (us : List Item). functionsOf us (laterOf q)) (h .0) ∙ stars-functions q (labels n) (laterOf q) in
+    let z : length (functionsOf is′ (laterOf q)) ≡ length (functionsOf (q .items) (laterOf q)) = ap length y in
+    omega (
+      arith,
+      z,
+      collectEach-size (es ++ laterOf q),
+      total-append size es (laterOf q),
+      total-map size (λ (i : Item). i .expr) (q .items),
+      later-total size q,
+      given-size (clauseExpr (q .having)),
+    )
+
+-- SELECT
+module _ (c : Catalog) (q : Select) (few : selectSize q ≤ mostCells) (limited : LimitedSelect q) where
+  module _ (f : Stage) (ef : buildFromClause c (q .from) ≡ ok f) where
+    at-from : RoomAt mostFromNumbers f
+    at-from = ensured (buildFromClause c (q .from)) _ (from-at c (q .from) (limited .from)) f ef
+
+    pub numbers-where : nodeRoom (f .node) + filterNumbers ≤ mostNodeNumbers
+    numbers-where = omega (arith, at-from .nodes)
+
+    module _ (is′ : List Item) (ei : buildItems q (f .node) ≡ ok is′) (w : Stage)
+        (ew : buildWhere f (q .filter) ≡ ok w) where
+      at-where : RoomAt (mostFromNumbers + filterNumbers) w
+      at-where = ensured (buildWhere f (q .filter)) _ (where-at f at-from (q .filter)) w ew
+
+      -- also where they are more than 256
+      pub numbers-groups : nodeRoom (w .node)
+          + groupRecord (length (retainGroups (w .scope) (q .group) .exprs))
+          (length (retainFunctions (w .scope) (q .group) (functionsOf is′ (laterOf q)) .exprs)) ≤ mostNodeNumbers
+      unfolding retainGroups retainFunctions
+      numbers-groups = omega (
+        arith,
+        few,
+        at-where .nodes,
+        limited .group,
+        retain-length (w .scope) (q .group) (spawn (w .scope)),
+        retain-length (w .scope) (functionsOf is′ (laterOf q)) (retainGroups (w .scope) (q .group) .scope),
+        functions-length q (f .node) is′ ei,
+      )
+
+      module _ (a : Stage) (ea : buildGroups w (q .group) (functionsOf is′ (laterOf q)) ≡ ok a) where
+        at-groups : RoomAt (mostFromNumbers + filterNumbers + mostGroupNumbers) a
+        at-groups = ensured (buildGroups w (q .group) (functionsOf is′ (laterOf q))) _
+            (groups-at w at-where (q .group) (functionsOf is′ (laterOf q))) a ea
+
+        pub numbers-items : nodeRoom (a .node) + itemRecord mostColumns ≤ mostNodeNumbers
+        numbers-items = omega (arith, at-groups .nodes)
+
+        module _ (p : Stage) (ep : buildProjection a is′ (laterOf q) ≡ ok p) where
+          at-items : RoomAt (mostFromNumbers + filterNumbers + mostGroupNumbers + mostItemNumbers) p
+          at-items = ensured (buildProjection a is′ (laterOf q)) _
+              (projection-at a at-groups is′ (laterOf q)
+              (ensured (buildItems q (f .node)) _ (expanded-items q (f .node)) is′ ei .1)) p ep
+
+          pub numbers-having : nodeRoom (p .node) + filterNumbers ≤ mostNodeNumbers
+          numbers-having = omega (arith, at-items .nodes)
+
+          module _ (h : Node Built) (eh : buildHaving (p .node) (q .having) (p .scope) ≡ ok h) where
+            having-nodes : nodeRoom h ≤ nodeRoom (p .node) + filterNumbers
+            having-nodes = ensured (buildHaving (p .node) (q .having) (p .scope)) _
+                (having-room (p .node) (q .having) (p .scope)) h eh
+
+            pub numbers-order : nodeRoom h + keyRecord (length (q .order)) ≤ mostNodeNumbers
+            numbers-order = omega (arith, at-items .nodes, having-nodes, limited .order)
+
+            module _ (o : Node Built) (eo : buildOrder h (q .order) (p .scope) ≡ ok o) where
+              order-nodes : nodeRoom o ≤ nodeRoom h + mostKeyNumbers
+              order-nodes = ensured (buildOrder h (q .order) (p .scope)) _
+                  (order-room h (q .order) (p .scope) (limited .order)) o eo
+
+              pub numbers-offset : nodeRoom o + rowCountNumbers ≤ mostNodeNumbers
+              numbers-offset = omega (arith, at-items .nodes, having-nodes, order-nodes)
+
+              module _ (n : Node Built) (en : buildRows invalidOffset (λ k t. P.offset t k) o (q .offset) ≡ ok n) where
+                offset-nodes : nodeRoom n ≤ nodeRoom o + rowCountNumbers
+                offset-nodes = ensured (buildRows invalidOffset (λ k t. P.offset t k) o (q .offset)) _
+                    (rows-room invalidOffset (λ k t. P.offset t k) offset-room o (q .offset)) n en
+
+                pub numbers-limit : nodeRoom n + rowCountNumbers ≤ mostNodeNumbers
+                numbers-limit = omega (arith, at-items .nodes, having-nodes, order-nodes, offset-nodes)
+
+                module _ (m : Node Built) (em : buildRows invalidLimit (λ k t. P.limit t k) n (q .limit) ≡ ok m) where
+                  limit-nodes : nodeRoom m ≤ nodeRoom n + rowCountNumbers
+                  limit-nodes = ensured (buildRows invalidLimit (λ k t. P.limit t k) n (q .limit)) _
+                      (rows-room invalidLimit (λ k t. P.limit t k) limit-room n (q .limit)) m em
+
+                  pub numbers-remap : nodeRoom m + remapRecord (width (p .scope)) ≤ mostNodeNumbers
+                  numbers-remap = omega (
+                    arith,
+                    at-items .nodes,
+                    having-nodes,
+                    order-nodes,
+                    offset-nodes,
+                    limit-nodes,
+                    width-at p at-items,
+                  )

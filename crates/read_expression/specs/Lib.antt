@@ -1,0 +1,16 @@
+pub mod Encode
+pub mod Fits
+pub mod ReadBack
+pub mod RowOf
+pub mod Operators
+pub mod Heads
+pub mod Literals
+pub mod Records
+pub mod Reading
+pub mod RecordHere
+pub mod Times
+pub mod Given
+pub mod Built
+pub mod Rows
+pub mod Starred
+pub mod ExpressionRuns

@@ -1,8 +1,0 @@
--- What a function of one value or of two gives, at what a match told of them.
-use mathlib.Core.Path.{_≡_, sym, ap}
-
-pub told : {A X : Type 0} (F : A → X) {a u : A} → a ≡ u → F u ≡ F a
-told F e = sym (ap F e)
-
-pub told2 : {A B X : Type 0} (F : A → B → X) {a u : A} {b v : B} → a ≡ u → b ≡ v → F u v ≡ F a b
-told2 F e g = sym (λ i. F (e i) (g i))
