@@ -1,0 +1,6 @@
+pub mod Rows
+pub mod Steps
+pub mod Calls
+pub mod Builds
+pub mod Leaves
+pub mod Operands
