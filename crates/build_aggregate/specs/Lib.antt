@@ -1,0 +1,4 @@
+pub mod Functions
+pub mod Entries
+pub mod Kinds
+pub mod Nodes
