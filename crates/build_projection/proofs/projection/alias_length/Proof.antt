@@ -1,0 +1,23 @@
+-- `projection::alias_length`: the length of an entry's name; a starred column has none.
+use Rattle.build_projection.specs.Aliases.{length-entry, length-starred}
+use borrow.Author.Needs.{needs}
+use Rattle.build_projection.proofs.projection.alias_length.Statement.{statement}
+use Rattle.build_projection.proofs.projection.alias_length.Tie as tie
+use Rattle.build_projection.proofs.projection.alias_length.Reads as reads
+use Rattle.build_projection.proofs.projection.alias_length.Lts as lts
+use Rattle.sections.proofs.entry.entry_at.Reads as entry-at-reads
+
+-- src/projection.rt:54:13
+entry-at-requires : tie.Need-entry-at-requires
+entry-at-requires c κs = search needs
+
+-- src/projection.rt:55:9
+returns : tie.Need-returns
+returns c = length-entry _ _ (c .before .if1 .taken) _ (c .entry-at .ensures)
+
+-- src/projection.rt:50:1
+returns-2 : tie.Need-returns-2
+returns-2 c = length-starred _ _ (c .if1 .left)
+
+pub alias-length-spec : {M : Type 1} → statement M
+alias-length-spec = tie.close (tie.spec entry-at-requires returns returns-2)
