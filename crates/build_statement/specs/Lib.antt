@@ -1,0 +1,13 @@
+pub mod Plans
+pub mod Kinds
+pub mod Ends
+pub mod Drops
+pub mod Tables
+pub mod Clauses
+pub mod Scans
+pub mod Deletes
+pub mod Sets
+pub mod Pushes
+pub mod Create
+pub mod Columns
+pub mod Map
