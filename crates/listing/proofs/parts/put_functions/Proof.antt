@@ -1,0 +1,61 @@
+-- `put_functions`: the fields of the parts counted are put.
+use borrow.Author.Needs.{needs}
+use Prim.Native.Nat.{_-_, _*_}
+use mathlib.Core.Path.{ap}
+use lib.ListN.{drop}
+use Rattle.listing.specs.Fields.{fields-same}
+use Rattle.listing.specs.Lines.{FieldLoop, each, fields-begin, fields-more, fields-all}
+use Rattle.listing.specs.Nodes.{functionFields, functionsFields}
+use Rattle.listing.proofs.parts.put_functions.Statement.{statement}
+use Rattle.listing.proofs.parts.put_functions.Tie as tie
+
+abbrev Inv-loop : tie.InvT-loop
+Inv-loop out₀ at s n to₀ i₀ out to i = FieldLoop out₀ out at (λ j. functionFields j (drop (j * 2) s)) n i to
+
+abbrev μ-loop : tie.MeasureT-loop
+μ-loop out₀ at s n to₀ i₀ out to i = n - i
+
+loop-holds : tie.Need-loop-holds Inv-loop μ-loop
+loop-holds c = fields-begin
+
+mul-tail : tie.Need-mul-tail Inv-loop μ-loop
+mul-tail c = search needs
+
+tail-requires : tie.Need-tail-requires Inv-loop μ-loop
+tail-requires c κs = search needs
+
+put-function-requires : tie.Need-put-function-requires Inv-loop μ-loop
+put-function-requires c κs = search needs
+
+add-i : tie.Need-add-i Inv-loop μ-loop
+add-i c = search needs
+
+loop-less : tie.Need-loop-less Inv-loop μ-loop
+loop-less c = search needs
+
+loop-again : tie.Need-loop-again Inv-loop μ-loop
+loop-again c = fields-more _ (c .before .before .before .before .before .before .loop .inv) (c .before .before .before .before .before .loop-test .taken)
+    (fields-same (c .before .before .put-function .ensures) (ap (λ t. functionFields (c .before .before .before .before .before .before .loop .i) t) (c .before .before .before .tail .ensures)))
+
+same-length : tie.Need-same-length Inv-loop μ-loop
+same-length c = c .before .loop .inv .put .put .room
+
+returns : tie.Need-returns Inv-loop μ-loop
+unfolding each functionsFields
+returns c = fields-all _ (c .before .loop .inv) (c .loop-test .left)
+
+pub put-functions-spec : {M : Type 1} → statement M
+put-functions-spec =
+    tie.close
+    (tie.spec
+    Inv-loop
+    μ-loop
+    loop-holds
+    mul-tail
+    tail-requires
+    put-function-requires
+    add-i
+    loop-less
+    loop-again
+    same-length
+    returns)

@@ -1,0 +1,36 @@
+-- `put_decimal`: the digits are those of the rules.
+use borrow.Author.Needs.{needs}
+use Rattle.listing.specs.Put.{put-same}
+use Rattle.listing.specs.Decimals.{decimal-of}
+use Rattle.listing.proofs.put.put_decimal.Statement.{statement}
+use Rattle.listing.proofs.put.put_decimal.Tie as tie
+
+decimal-requires : tie.Need-decimal-requires
+decimal-requires c κs = search needs
+
+array-share-prefix-digits : tie.Need-array-share-prefix-digits
+array-share-prefix-digits c = search needs
+
+slice-aggregate-put-bytes : tie.Need-slice-aggregate-put-bytes
+slice-aggregate-put-bytes c = search needs
+
+put-bytes-requires : tie.Need-put-bytes-requires
+put-bytes-requires c κs = search needs
+
+same-length : tie.Need-same-length
+same-length c = search needs
+
+returns : tie.Need-returns
+returns c = put-same (c .before .before .put-bytes .ensures)
+    (decimal-of _ (c .before .before .before .before .before .decimal .result) _ (c .before .before .before .before .before .decimal .ensures .1 .0) (search needs) (c .before .before .before .before .before .decimal .ensures .1 .1))
+
+pub put-decimal-spec : {M : Type 1} → statement M
+put-decimal-spec =
+    tie.close
+    (tie.spec
+    decimal-requires
+    array-share-prefix-digits
+    slice-aggregate-put-bytes
+    put-bytes-requires
+    same-length
+    returns)

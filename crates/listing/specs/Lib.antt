@@ -1,0 +1,17 @@
+pub mod Put
+pub mod Fields
+pub mod Words
+pub mod Decimals
+pub mod Lines
+pub mod Choices
+pub mod Cells
+pub mod Nodes
+pub mod Rows
+pub mod Parts
+pub mod Behind
+pub mod Own
+pub mod Listed
+pub mod ShownCells
+pub mod ShownNodes
+pub mod ShownOwn
+pub mod Shown
