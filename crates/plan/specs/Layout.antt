@@ -1,8 +1,9 @@
 -- The plan in the area: a header, the cells of four numbers each, then the nodes and the statement's own numbers; and
 -- how many numbers there are at most.
 use Prim.Native.Nat.{ℕ, _+_, _*_}
-use Rattle.rules.specs.Limits.{mostCells, mostColumns}
 use Rattle.rules.specs.Area.{headerSize}
+use Rattle.claims.specs.Room.Nodes as room
+use Rattle.claims.specs.Room.Nodes.{mostNodeNumbers}
 
 -- numbers a cell
 abbrev pub cellSize : ℕ
@@ -14,11 +15,11 @@ cellsEnd n = headerSize + cellSize * n
 
 -- cells of a plan: those of the statement's expressions, four for each at most, and one for each starred column
 abbrev pub mostPlanCells : ℕ
-mostPlanCells = 4 * mostCells + mostColumns
+mostPlanCells = room.mostPlanCells
 
 -- numbers of the nodes and of the statement's own
 abbrev pub nodesSize : ℕ
-nodesSize = 5782
+nodesSize = mostNodeNumbers
 
 -- numbers of a plan in all
 abbrev pub planSize : ℕ
