@@ -10,3 +10,4 @@ pub mod Room
 pub mod Cells
 pub mod Literals
 pub mod Emits
+pub mod Steps

@@ -27,6 +27,9 @@ const LENGTH: usize = 1;
 
 const GROUPS: usize = 3;
 
+// How many numbers a key of an order has.
+pub const KEY_SIZE: usize = 2;
+
 // BEGINNINGS
 pub fn begin_values(nodes: &mut [u32], k: usize) -> usize
     requires { ⌜ k + recordHead ≤ length (now nodes) ⌝ }
