@@ -22,7 +22,10 @@ use Rattle.schema.specs.TableRuns.{catalogOf, catalogAnswer}
 use Rattle.schema.specs.declared.read.Read as Rd
 use Rattle.schema.specs.declared.read.Read.the-variants as A
 use Rattle.statement.specs.Layout.{statementAt}
-use Rattle.statement.specs.Whole.{statementOf, statementAnswer, Counts}
+use Rattle.statement.specs.Whole.{statementOf, statementAnswer, Counts, SelectStays}
+use Rattle.statement.specs.Access as access
+use Rattle.statement.specs.Stays.{SectionsStay}
+use Rattle.statement.specs.declared.access.Kind.the-variants as K
 use Rattle.statement.specs.declared.Outcome as Oc
 use Rattle.statement.specs.declared.Outcome.the-variants as O
 use Rattle.reader.specs.Texts.{kindOf, notOther, bothOf, readTexts}
@@ -36,7 +39,7 @@ never e = let z : _≡_ {A = ℕ} 0 1 = cc in omega arith
 module _ {c q : Bytes} {tables cells froms parts : List ℕ} where
   refused-read : (ρ : Refusal) → readTexts c q ≡ refused ρ → TextsRead c q tables cells froms parts (T.Refused (refusalNumber (ρ .reason)) (textNumber (ρ .text)) (ρ .line))
   unfolding textsOf
-  refused-read ρ e = record { is = sym (ap textsOf e); stands = λ x z. absurd (never (sym e ∙ z)) }
+  refused-read ρ e = record { is = sym (ap textsOf e); stands = λ x z. absurd (never (sym e ∙ z)); stays = λ x z. absurd (never (sym e ∙ z)) }
 
   pub catalog-long : mostBytes < length c → TextsRead c q tables cells froms parts (T.Refused 3 1 0)
   unfolding readTexts refusalNumber textNumber
@@ -103,6 +106,7 @@ pub record CatalogRead (c q : Bytes) (tables : List ℕ) (k : Rd.Read) : Type 0 
 pub record StatementRead (c q : Bytes) (cells froms parts : List ℕ) (o : Oc.Outcome) : Type 0 where
   pub is : statementOf c q cells froms parts o ≡ statementAnswer q
   pub size : Counts (statementSize (statementAt c q cells froms parts)) o
+  pub stays : SelectStays q cells parts o
 
 module _ {c q : Bytes} {tables : List ℕ} {k : Rd.Read} (g : CatalogRead c q tables k) where
   both : readTexts c q ≡ bothOf c q
@@ -147,9 +151,14 @@ module _ {c q : Bytes} {tables : List ℕ} {k : Rd.Read} (g : CatalogRead c q ta
     unfolding Counts
     counted y = rw y at (h .size)
 
+    staying : {n : ℕ} → o ≡ O.Done n → K.Select ≡ access.kindOf (access.kindNumber parts) → SectionsStay q cells parts
+    unfolding SelectStays
+    staying y = rw y at (h .stays)
+
     pub texts-read : {n : ℕ} → o ≡ O.Done n → TextsRead c q tables cells froms parts (textsBy (getD parts 0 0) (getD parts 1 0) n (getD tables 0 0))
     unfolding statementAt catalogAt
     texts-read {n} y = record {
       is = sym (ap textsOf (taken y) ∙ texts-of-kind _ _ _ _ _ _ _ (catalogAt c q tables) (getD parts 0 0) n (getD tables 0 0) (counted y) (sym (tables-length c q tables 0 (getD tables 0 0))));
       stands = λ x e. same-read _ _ x (sym (taken y) ∙ e);
+      stays = λ x e. staying y;
     }

@@ -13,6 +13,9 @@ use Rattle.rules.specs.Sizes.{statementSize}
 use Rattle.rules.specs.Entry.{textNumber}
 use Rattle.schema.specs.Layout.{catalogAt}
 use Rattle.statement.specs.Layout.{statementAt}
+use Rattle.statement.specs.Access as access
+use Rattle.statement.specs.Stays.{SectionsStay}
+use Rattle.statement.specs.declared.access.Kind.the-variants as K
 use Rattle.reader.specs.Texts.{kindOf, readTexts}
 use Rattle.reader.specs.declared.Texts as Tx
 use Rattle.reader.specs.declared.Texts.the-variants as T
@@ -30,7 +33,9 @@ isOther k = eqb k 0 || ltb 6 k
 unfoldable pub textsBy : ℕ → ℕ → ℕ → ℕ → Tx.Texts
 textsBy k l n m = elim (isOther k) [ true ↦ T.Refused 4 2 l | false ↦ T.Read k n m ]
 
--- what is answered for the catalog c and the statement q, and that the slices stand for both where they are accepted
+-- what is answered for the catalog c and the statement q, and that the slices stand for both where they are accepted; what is
+-- stored behind the rows of a SELECT then changes none of its sections
 pub record TextsRead (c q : Bytes) (tables cells froms parts : List ℕ) (r : Tx.Texts) : Type 0 where
   pub is : r ≡ textsOf (readTexts c q)
   pub stands : (x : Catalog × Statement) → readTexts c q ≡ ok x → (catalogAt c q tables, statementAt c q cells froms parts) ≡ x
+  pub stays : (x : Catalog × Statement) → readTexts c q ≡ ok x → K.Select ≡ access.kindOf (access.kindNumber parts) → SectionsStay q cells parts

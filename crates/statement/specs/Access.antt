@@ -8,7 +8,7 @@ use lib.ListN.{getD}
 use Rattle.rules.specs.Lists.{Bytes}
 use Rattle.rules.specs.Lines.{Word}
 use Rattle.rules.specs.Places.{wordAt}
-use Rattle.rules.specs.Ast.{Statement}
+use Rattle.rules.specs.Ast.{Select, Statement}
 use Rattle.rules.specs.Ast as Ast
 use Rattle.numbers.specs.Codes.{coded}
 use Rattle.numbers.specs.Values.{isOne}
@@ -71,11 +71,14 @@ module _ (b q : Bytes) (cells froms parts : List ℕ) where
   abbrev pub nameWord : Word
   nameWord = wordAt b q (nameAddress parts) (nameLength parts)
 
+  -- the SELECT that the numbers stand for
+  unfoldable pub selectAt : Select
+  selectAt = selectOf (section itemKind) (fromsAt b q cells froms (fromRows parts)) (section whereKind)
+      (section groupKind) (section havingKind) (section orderKind) (section offsetKind) (section limitKind)
+
   -- what a statement of a kind is
   unfoldable pub statementOf : Kind → Statement
-  statementOf K.Select = Ast.select (selectOf (section itemKind) (fromsAt b q cells froms (fromRows parts))
-      (section whereKind) (section groupKind) (section havingKind) (section orderKind) (section offsetKind)
-      (section limitKind))
+  statementOf K.Select = Ast.select selectAt
   statementOf K.Create = Ast.create (createOf (lineAt parts) nameWord (section columnKind))
   statementOf K.Drop = Ast.drop (record { name = nameWord; ifExists = isOne (dropFlag parts) })
   statementOf K.Delete = Ast.delete (deleteOf (lineAt parts) nameWord (section whereKind))
@@ -85,7 +88,7 @@ module _ (b q : Bytes) (cells froms parts : List ℕ) where
   statementOf K.Other = Ast.other (lineAt parts)
 
   by-number : statementAt b q cells froms parts ≡ statementOf (kindOf (kindNumber parts))
-  unfolding statementAt statementOf kindOf
+  unfolding statementAt selectAt statementOf kindOf
   by-number = sym (coded-map statementOf _ _ 1 (getD parts 0 0))
 
   -- the statement, by its kind

@@ -13,7 +13,7 @@ use Rattle.rules.specs.Ast.{Statement}
 use Rattle.rules.specs.Ast as Ast
 use Rattle.rules.specs.Reader.{Place, Read, give, _>>=_}
 use Rattle.rules.specs.ReadStatement.{StatementHead, selectHead, otherHead, deleteHead, insertHead, updateHead, createHead, dropHead}
-use Rattle.ast.specs.Table.{tableSize}
+use Rattle.ast.specs.Table.{statementRows, tableSize}
 use Rattle.text.specs.Answers.{wrongAt, limitAt, bind-ok}
 use Rattle.numbers.specs.Codes.{coded, coded-miss, coded-end}
 use Rattle.numbers.specs.Kept.{Kept, kept-all}
@@ -24,7 +24,7 @@ use Rattle.from.specs.Layout.{fromsAt}
 use Rattle.statement.specs.Layout.{selectOf, insertOf, updateOf, deleteOf, createOf}
 use Rattle.sections.specs.Contracts.{endOf, SectionRead}
 use Rattle.statement.specs.Bodies.{updateSections, deleteSections, createSections, sectionsOf}
-use Rattle.statement.specs.Stays.{stays-begin, stays-on, stays-end}
+use Rattle.statement.specs.Stays.{stays-begin, stays-on, stays-end, SectionsStay}
 use Rattle.statement.specs.Answers.{bind-wrong, bind-limit, bind-same, given-done, given-wrong, given-limit}
 use Rattle.statement.specs.FirstRecord.{headOf}
 use Rattle.read_expression.specs.declared.reading.Read as Rd
@@ -51,7 +51,7 @@ module _ (b t : Bytes) (cells froms parts : List ℕ) where
   bodyAt otherHead l = Ast.other l
 
 -- A reading m from line 2 on that came to its end: the statement, which stands in the slices, and where the rest stands. The first
--- eight parts are as they were.
+-- eight parts are as they were, and what is stored behind the statement's rows changes no section of a SELECT.
 pub record BodyTook (m : Read Statement) (t : Bytes) (h : StatementHead) (p : ℕ) (cells′ froms′ parts parts′ : List ℕ) (p′ l′ c′ : ℕ) : Type 0 where
   pub value : Statement
   pub tables : ℕ
@@ -59,6 +59,7 @@ pub record BodyTook (m : Read Statement) (t : Bytes) (h : StatementHead) (p : �
   pub position : Position t p′ l′ c′
   pub stand : (b : Bytes) → bodyAt b t cells′ froms′ parts′ h 1 ≡ value
   pub kept : Kept 0 8 parts parts′
+  pub sections : h ≡ selectHead → SectionsStay t cells′ parts′
 
 -- what an answer says of such a reading
 unfoldable pub BodyBy : (m : Read Statement) (t : Bytes) (h : StatementHead) (p : ℕ) (cells′ froms′ parts parts′ : List ℕ) → Rd.Read → Type 0
@@ -85,7 +86,8 @@ module _ {A B C : Type 0} (m : Read A) (f : A → Read B) (g : B → Read C) (p 
 -- m is the last to be read: the statement is made of it
 module _ (t : Bytes) (h : StatementHead) (p : ℕ) (cells′ froms′ parts parts′ : List ℕ) {A B : Type 0} (m : Read A) (H : ℕ → A → Type 0) (a : A → B) (e : B → Statement) (q l c k : ℕ)
     (come : sectionsOf h 1 (here t p 2 0 0) ≡ ((m >>= λ v. give (a v)) >>= λ d. give (e d)) (here t q l c k))
-    (stands : (c′ : ℕ) (v : A) → c ≤ c′ → H c′ v → ((b : Bytes) → bodyAt b t cells′ froms′ parts′ h 1 ≡ e (a v)) × Kept 0 8 parts parts′) where
+    (stands : (c′ : ℕ) (v : A) → c ≤ c′ → H c′ v → ((b : Bytes) → bodyAt b t cells′ froms′ parts′ h 1 ≡ e (a v)) × Kept 0 8 parts parts′)
+    (stay : (c′ : ℕ) (v : A) → c ≤ c′ → c′ ≤ statementRows → H c′ v → h ≡ selectHead → SectionsStay t cells′ parts′) where
   last-ok : (v : A) (z : Place) → m (here t q l c k) ≡ ok (v, z) → sectionsOf h 1 (here t p 2 0 0) ≡ ok (e (a v), z)
   unfolding give
   last-ok v z x = come ∙ inner-ok m (λ v. give (a v)) (λ d. give (e d)) _ v z x ∙ bind-ok (give (a v)) (λ d. give (e d)) z (a v) z refl
@@ -101,6 +103,7 @@ module _ (t : Bytes) (h : StatementHead) (p : ℕ) (cells′ froms′ parts part
     position = g .position;
     stand = stands c′ (g .value) (g .more) (g .holds) .0;
     kept = stands c′ (g .value) (g .more) (g .holds) .1;
+    sections = stay c′ (g .value) (g .more) (g .position .rows) (g .holds);
   }
 
 -- STATEMENTS OF ONE SECTION
@@ -114,17 +117,17 @@ create-is n p = refl
 
 module _ (t : Bytes) (p : ℕ) (cells cells′ froms parts parts′ : List ℕ) (r : Rd.Read) where
   one-read : {B : Type 0} (h : StatementHead) (kind : ℕ) (a : List Entry → B) (e : B → Statement) → sectionsOf h 1 (here t p 2 0 0) ≡ ((section kind >>= λ xs. give (a xs)) >>= λ d. give (e d)) (here t p 2 0 0)
-      → ((b : Bytes) → bodyAt b t cells′ froms parts′ h 1 ≡ e (a (sectionAt b t cells′ parts′ kind))) → 8 ≤ startOf kind → Given (section kind) (SectionRead t kind 0 cells cells′ parts parts′) t p 2 0 0 r
+      → ((b : Bytes) → bodyAt b t cells′ froms parts′ h 1 ≡ e (a (sectionAt b t cells′ parts′ kind))) → 8 ≤ startOf kind → (h ≡ selectHead → SectionsStay t cells′ parts′) → Given (section kind) (SectionRead t kind 0 cells cells′ parts parts′) t p 2 0 0 r
       → BodyRead t h p cells′ froms parts parts′ r
-  one-read h kind a e come stands o g = body-last t h p cells′ froms parts parts′ (section kind) (SectionRead t kind 0 cells cells′ parts parts′) a e p 2 0 0 come (λ c′ xs l s.
+  one-read h kind a e come stands o other g = body-last t h p cells′ froms parts parts′ (section kind) (SectionRead t kind 0 cells cells′ parts parts′) a e p 2 0 0 come (λ c′ xs l s.
       let y = stays-end (stays-on (stays-begin 8 cells parts) s l o) in
-      (λ b. stands b ∙ ap (λ v. e (a v)) (y .1 b), y .0)) r g
+      (λ b. stands b ∙ ap (λ v. e (a v)) (y .1 b), y .0)) (λ c′ v l m s. other) r g
 
   pub delete-read : Given (section 1) (SectionRead t 1 0 cells cells′ parts parts′) t p 2 0 0 r → (n : Word) → BodyRead t (deleteHead n) p cells′ froms parts parts′ r
-  delete-read g n = one-read (deleteHead n) 1 (deleteOf 1 n) Ast.delete (delete-is n _) (λ b. unfold bodyAt in refl) (unfold startOf in omega arith) g
+  delete-read g n = one-read (deleteHead n) 1 (deleteOf 1 n) Ast.delete (delete-is n _) (λ b. unfold bodyAt in refl) (unfold startOf in omega arith) (λ e. record { same = λ x k b kind l. cc }) g
 
   pub create-read : Given (section 11) (SectionRead t 11 0 cells cells′ parts parts′) t p 2 0 0 r → (n : Word) → BodyRead t (createHead n) p cells′ froms parts parts′ r
-  create-read g n = one-read (createHead n) 11 (createOf 1 n) Ast.create (create-is n _) (λ b. unfold bodyAt in refl) (unfold startOf in omega arith) g
+  create-read g n = one-read (createHead n) 11 (createOf 1 n) Ast.create (create-is n _) (λ b. unfold bodyAt in refl) (unfold startOf in omega arith) (λ e. record { same = λ x k b kind l. cc }) g
 
 -- UPDATE
 update-is : (n : Word) (p : Place) → sectionsOf (updateHead n) 1 p ≡ ((someSection 10 >>= λ xs. section 1 >>= λ w. give (updateOf 1 n xs w)) >>= λ d. give (Ast.update d)) p
@@ -147,7 +150,7 @@ module _ (t : Bytes) (n : Word) (p : ℕ) (cells cells′ froms parts parts′ :
       let u = stays-on (stays-begin 8 cells parts) (x .holds) (x .more) (unfold startOf in omega arith) in
       body-last t (updateHead n) p cells″ froms parts parts″ (section 1) (SectionRead t 1 c′ cells′ cells″ parts′ parts″) (updateOf 1 n (x .value)) Ast.update p′ l′ c′ 0 (update-is n _ ∙ inner-ok (someSection 10) _ _ _ _ _ (x .is)) (λ c″ w l v.
       let y = stays-end (stays-on u v l (unfold startOf endOf mostOf in omega arith)) in
-      (λ b. unfold bodyAt in rw (y .0 .1 b, y .1 b), y .0 .0)) r′ g
+      (λ b. unfold bodyAt in rw (y .0 .1 b, y .1 b), y .0 .0)) (λ c″ w l m v e. record { same = λ x k b kind o. cc }) r′ g
 
 -- STATEMENTS OF NO SECTION
 other-is : (p : Place) → sectionsOf otherHead 1 p ≡ ok (Ast.other 1, p)
@@ -161,11 +164,11 @@ drop-is n y p = refl
 module _ (t : Bytes) (p : ℕ) (cells froms parts : List ℕ) (h : Position t p 2 0) where
   other-read : BodyRead t otherHead p cells froms parts parts (R.Done p 2 0)
   unfolding BodyBy bodyAt
-  other-read = record { value = _; tables = 0; is = other-is _; position = h; stand = λ b. refl; kept = kept-all 0 _ _ }
+  other-read = record { value = _; tables = 0; is = other-is _; position = h; stand = λ b. refl; kept = kept-all 0 _ _; sections = λ e. record { same = λ x k b kind l. cc } }
 
   drop-read : (n : Word) (y : Bool) → BodyRead t (dropHead n y) p cells froms parts parts (R.Done p 2 0)
   unfolding BodyBy bodyAt
-  drop-read n y = record { value = _; tables = 0; is = drop-is n y _; position = h; stand = λ b. refl; kept = kept-all 0 _ _ }
+  drop-read n y = record { value = _; tables = 0; is = drop-is n y _; position = h; stand = λ b. refl; kept = kept-all 0 _ _; sections = λ e. record { same = λ x k b kind l. cc } }
 
 -- BY THE KIND
 -- what a code does not stand for

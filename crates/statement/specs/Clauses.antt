@@ -1,8 +1,8 @@
 -- The sections of several kinds in a row: those of a SELECT behind its FROM.
-use Prim.Native.Nat.{ℕ, zero, suc, _+_, _*_, _-_, _≤_}
+use Prim.Native.Nat.{ℕ, zero, suc, _+_, _*_, _-_, _≤_, _<_}
 use native.Mathlib.Omega.{arith}
 use native.Mathlib.Numerals.{add-one}
-use mathlib.Core.Path.{_≡_, refl, _∙_}
+use mathlib.Core.Path.{_≡_, refl, sym, ap, _∙_}
 use mathlib.Core.List.{List, [], _∷_}
 use lib.ListN.{getD}
 use Rattle.rules.specs.Refusals.{statement, Answer, ok, refused}
@@ -53,6 +53,22 @@ module _ (b t : Bytes) (cells parts : List ℕ) where
   unfoldable pub runAt : ℕ → ℕ → List (List Entry)
   runAt k zero = []
   runAt k (suc n) = sectionAt b t cells parts k ∷ runAt (suc k) n
+
+run-section : (b t : Bytes) (cells parts : List ℕ) (k n i : ℕ) → i < n → getD (runAt b t cells parts k n) i [] ≡ sectionAt b t cells parts (k + i)
+unfolding runAt
+run-section b t cells parts k zero i l = absurd (omega arith)
+run-section b t cells parts k (suc n) zero l = let e : k ≡ k + 0 = omega arith in ap (sectionAt b t cells parts) e
+run-section b t cells parts k (suc n) (suc i) l =
+    let e : suc k + i ≡ k + suc i = omega arith in
+    run-section b t cells parts (suc k) n i (omega arith) ∙ ap (sectionAt b t cells parts) e
+
+-- where they are all the same, each is
+pub run-same : (b t : Bytes) (x cells parts : List ℕ) (k n : ℕ) → runAt b t x parts k n ≡ runAt b t cells parts k n
+    → (kind : ℕ) → k ≤ kind → kind < k + n → sectionAt b t x parts kind ≡ sectionAt b t cells parts kind
+run-same b t x cells parts k n e kind l m =
+    let i : k + (kind - k) ≡ kind = omega arith in
+    rw i at (sym (run-section b t x parts k n (kind - k) (omega arith)) ∙ ap (λ xss. getD xss (kind - k) []) e
+    ∙ run-section b t cells parts k n (kind - k) (omega arith))
 
 -- where the sections of a SELECT start, and where the last of them ends
 unfoldable pub edge : ℕ → ℕ

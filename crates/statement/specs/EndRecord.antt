@@ -151,4 +151,5 @@ module _ (t : Bytes) (h : StatementHead) (p : ℕ) (cells′ froms′ parts part
           position = g .position;
           stand = λ b. body .stand b ∙ sym (g .holds);
           kept = body .kept;
+          sections = body .sections;
         }

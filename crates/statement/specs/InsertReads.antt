@@ -122,4 +122,4 @@ module _ (t : Bytes) (n : Word) (p : ℕ) (cells cells₁ froms parts parts₁ :
         body-last t (insertHead n) p cells₃ froms parts parts₃ (someSection 9) (SectionRead t 9 c₂ cells₂ cells₃ parts₂ parts₃) (insertOf 1 n (first .value) (x .value)) Ast.insert p₂ l₂ c₂ 0
         (come ∙ inner-ok (namesBehind (first .value)) _ _ _ _ _ (x .is)) (λ c₃ rs l w.
         let y = stays-end (stays-on v w l (unfold startOf in omega arith)) in
-        (λ b. unfold bodyAt insertOf in rw (y .0 .0 .1 b, y .0 .1 b, y .1 b), y .0 .0 .0)) r₂ h
+        (λ b. unfold bodyAt insertOf in rw (y .0 .0 .1 b, y .0 .1 b, y .1 b), y .0 .0 .0)) (λ c₃ rs l m w e. record { same = λ x k b kind o. cc }) r₂ h

@@ -6,9 +6,10 @@ use mathlib.Core.List.{List}
 use lib.ListN.{set}
 use Rattle.rules.specs.Lists.{Bytes}
 use Rattle.numbers.specs.Kept.{Kept, kept-all, kept-on, kept-first, kept-set-behind}
-use Rattle.ast.specs.Table.{rowSize}
+use Rattle.ast.specs.Table.{rowSize, statementRows}
 use Rattle.entries.specs.Entries.{Entry}
 use Rattle.sections.specs.Layout.{startOf, sectionAt}
+use Rattle.sections.specs.Access.{limitKind}
 use Rattle.sections.specs.Contracts.{endOf, SectionRead}
 
 pub start-end : (kind : ℕ) → startOf kind ≤ endOf kind
@@ -28,8 +29,8 @@ module _ {c n : ℕ} {cells parts : List ℕ} {P : List ℕ → List ℕ → Typ
   stays-end = h .holds cells parts (kept-all 0 _ _) (kept-all 0 _ _)
 
   -- where a part behind them is stored
-  pub stays-set : (i v : ℕ) → n ≤ i → P cells (set parts i v)
-  stays-set i v l = h .holds cells (set parts i v) (kept-all 0 _ _) (kept-set-behind _ _ _ 0 _ l)
+  pub stays-set : (x : List ℕ) → Kept 0 (rowSize * c) cells x → (i v : ℕ) → n ≤ i → P x (set parts i v)
+  stays-set x k i v l = h .holds x (set parts i v) k (kept-set-behind _ _ _ 0 _ l)
 
   -- where a reading stores behind them
   pub stays-more : {c′ n′ : ℕ} {cells′ parts′ : List ℕ} → Kept 0 (rowSize * c) cells cells′ → Kept 0 n parts parts′
@@ -47,3 +48,8 @@ module _ {c n : ℕ} {cells parts : List ℕ} {P : List ℕ → List ℕ → Typ
     where
       go : Stays c′ (endOf kind) cells′ parts′ P
       go = stays-more (s .cells-kept) (kept-first n (s .parts-kept) l) m (omega (arith, start-end kind))
+
+-- the sections of a SELECT are the same whatever stands behind the rows of the statement
+pub record SectionsStay (t : Bytes) (cells parts : List ℕ) : Type 0 where
+  pub same : (x : List ℕ) → Kept 0 (rowSize * statementRows) cells x → (b : Bytes) (kind : ℕ) → kind ≤ limitKind
+      → sectionAt b t x parts kind ≡ sectionAt b t cells parts kind

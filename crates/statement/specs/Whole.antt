@@ -18,7 +18,7 @@ use Rattle.rules.specs.Ast.{Statement}
 use Rattle.rules.specs.Sizes.{statementSize}
 use Rattle.rules.specs.Places.{wordAt}
 use Rattle.rules.specs.Reader.{stop, fit, keyOf, restOf, lineHere, oneOf, apply, _>>=_, lineNumber, valueOf}
-use Rattle.rules.specs.ReadStatement.{StatementHead, statementHeads, statementHere, statementRecords, readStatement}
+use Rattle.rules.specs.ReadStatement.{StatementHead, selectHead, createHead, dropHead, deleteHead, insertHead, updateHead, otherHead, statementHeads, statementHere, statementRecords, readStatement}
 use Rattle.text.specs.Lines.{lineEnd, line-moves, line-most}
 use Rattle.text.specs.Reading.{place, place-start, place-next}
 use Rattle.text.specs.Answers.{wrongAt, limitAt, bind-ok, bind-no}
@@ -29,12 +29,16 @@ use Rattle.read_expression.specs.Reading.{here, Position}
 use Rattle.statement.specs.Layout.{statementAt}
 use Rattle.statement.specs.Bodies.{sectionsOf}
 use Rattle.statement.specs.RulesBodies.{records-are, statement-cells}
+use Rattle.statement.specs.Stays.{SectionsStay}
+use Rattle.statement.specs.Access.{kindNumber, kindOf}
 use Rattle.statement.specs.FirstRecord.{headOf, firstSaid, said-none, said-some}
 use Rattle.statement.specs.BodyReads.{bodyAt, BodyTook, BodyBy}
 use Rattle.statement.specs.EndRecord.{ended, WholeRead}
 use Rattle.statement.specs.declared.first.First.{First}
 use Rattle.read_expression.specs.declared.reading.Read as Rd
 use Rattle.read_expression.specs.declared.reading.Read.the-variants as R
+use Rattle.statement.specs.declared.access.Kind.{Kind}
+use Rattle.statement.specs.declared.access.Kind.the-variants as K
 use Rattle.statement.specs.declared.Outcome.{Outcome}
 use Rattle.statement.specs.declared.Outcome.the-variants as O
 
@@ -54,19 +58,39 @@ Counts m (O.Done n) = n ≡ m
 Counts m (O.Wrong l) = Unit {0}
 Counts m (O.Limit l) = Unit {0}
 
+-- what is stored behind the rows of a SELECT that was read changes none of its sections
+unfoldable pub SelectStays : (t : Bytes) (cells parts : List ℕ) → Outcome → Type 0
+SelectStays t cells parts (O.Done n) = K.Select ≡ kindOf (kindNumber parts) → SectionsStay t cells parts
+SelectStays t cells parts (O.Wrong l) = Unit {0}
+SelectStays t cells parts (O.Limit l) = Unit {0}
+
 -- what the outcome says
 abbrev pub Answers : (t : Bytes) (cells froms parts : List ℕ) → Outcome → Type 0
-Answers t cells froms parts r = ((b : Bytes) → statementOf b t cells froms parts r ≡ statementAnswer t) × ((b : Bytes) → Counts (statementSize (statementAt b t cells froms parts)) r)
+Answers t cells froms parts r = ((b : Bytes) → statementOf b t cells froms parts r ≡ statementAnswer t) × ((b : Bytes) → Counts (statementSize (statementAt b t cells froms parts)) r) × SelectStays t cells parts r
 
 pub too-long : (t : Bytes) (cells froms parts : List ℕ) → mostBytes < length t → Answers t cells froms parts (O.Limit 0)
-unfolding statementOf statementAnswer Counts
-too-long t cells froms parts h = (λ b. sym (rw (statementAnswer, lt-ltb mostBytes (length t) h)), λ b. tt)
+unfolding statementOf statementAnswer Counts SelectStays
+too-long t cells froms parts h = (λ b. sym (rw (statementAnswer, lt-ltb mostBytes (length t) h)), λ b. tt, tt)
 
 -- a statement by its kind, its line, its name and its flag
 statement-body : (b t : Bytes) (cells froms parts : List ℕ) (kind line a n flag : ℕ) → getD parts 0 0 ≡ kind → getD parts 1 0 ≡ line → getD parts 2 0 ≡ a → getD parts 3 0 ≡ n → getD parts 4 0 ≡ flag
     → statementAt b t cells froms parts ≡ bodyAt b t cells froms parts (headOf kind (wordAt b t a n) (isOne flag)) line
 unfolding statementAt headOf
 statement-body b t cells froms parts kind line a n flag e₀ e₁ e₂ e₃ e₄ = rw (e₀, e₁, e₂, e₃, e₄) (unfold bodyAt in sym (coded-map (λ h. bodyAt b t cells froms parts h line) _ _ 1 kind))
+
+-- a first record, by its kind
+unfoldable headBy : Word → Bool → Kind → StatementHead
+headBy n y K.Select = selectHead
+headBy n y K.Create = createHead n
+headBy n y K.Drop = dropHead n y
+headBy n y K.Delete = deleteHead n
+headBy n y K.Insert = insertHead n
+headBy n y K.Update = updateHead n
+headBy n y K.Other = otherHead
+
+select-head : (k : ℕ) (n : Word) (y : Bool) → K.Select ≡ kindOf k → headOf k n y ≡ selectHead
+unfolding headOf headBy kindOf
+select-head k n y e = sym (coded-map (headBy n y) _ _ 1 k) ∙ ap (headBy n y) (sym e)
 
 -- THE FIRST RECORD
 module _ (t : Bytes) where
@@ -93,8 +117,8 @@ module _ (t : Bytes) where
 
 module _ (t : Bytes) (f : First) (g : (c : Bytes) → firstSaid c t f ≡ oneOf statementHeads (lineHere (here t 0 1 0 0))) (short : length t ≤ mostBytes) where
   pub wrong-first : (cells froms parts : List ℕ) → f .kind ≡ 0 → Answers t cells froms parts (O.Wrong 1)
-  unfolding statementOf Counts wrongAt valueOf
-  wrong-first cells froms parts e = (λ b. sym (answer-is t short ∙ ap valueOf (first-wrong t (sym (g b) ∙ said-none b t f e))), λ b. tt)
+  unfolding statementOf Counts SelectStays wrongAt valueOf
+  wrong-first cells froms parts e = (λ b. sym (answer-is t short ∙ ap valueOf (first-wrong t (sym (g b) ∙ said-none b t f e))), λ b. tt, tt)
 
   -- what it says, of the catalog b
   abbrev head : Bytes → StatementHead
@@ -115,11 +139,15 @@ module _ (t : Bytes) (f : First) (g : (c : Bytes) → firstSaid c t f ≡ oneOf 
 
     -- THE NUMBERS
     module _ (cells′ froms′ parts parts₁ parts′ : List ℕ) (w : parts₁ ≡ sets parts 0 (f .kind ∷ 1 ∷ f .a ∷ f .b ∷ f .flag ∷ [])) (room : 5 ≤ length parts) where
-      header-is : Kept 0 8 parts₁ parts′ → (b : Bytes) → statementAt b t cells′ froms′ parts′ ≡ bodyAt b t cells′ froms′ parts′ (head b) 1
-      header-is k b = statement-body b t cells′ froms′ parts′ _ _ _ _ _ (first 0 (omega arith)) (first 1 (omega arith)) (first 2 (omega arith)) (first 3 (omega arith)) (first 4 (omega arith))
-        where
-          first : (i : ℕ) → i < 5 → getD parts′ i 0 ≡ getD (f .kind ∷ 1 ∷ f .a ∷ f .b ∷ f .flag ∷ drop 5 parts) i 0
-          first i l = k .same i (omega arith) (omega arith) ∙ ap (λ s. getD s i 0) (w ∙ sets-eq (f .kind ∷ 1 ∷ f .a ∷ f .b ∷ f .flag ∷ []) parts 0 room)
+      module _ (k : Kept 0 8 parts₁ parts′) where
+        first : (i : ℕ) → i < 5 → getD parts′ i 0 ≡ getD (f .kind ∷ 1 ∷ f .a ∷ f .b ∷ f .flag ∷ drop 5 parts) i 0
+        first i l = k .same i (omega arith) (omega arith) ∙ ap (λ s. getD s i 0) (w ∙ sets-eq (f .kind ∷ 1 ∷ f .a ∷ f .b ∷ f .flag ∷ []) parts 0 room)
+
+        header-is : (b : Bytes) → statementAt b t cells′ froms′ parts′ ≡ bodyAt b t cells′ froms′ parts′ (head b) 1
+        header-is b = statement-body b t cells′ froms′ parts′ _ _ _ _ _ (first 0 (omega arith)) (first 1 (omega arith)) (first 2 (omega arith)) (first 3 (omega arith)) (first 4 (omega arith))
+
+        kind-is : kindNumber parts′ ≡ f .kind
+        kind-is = first 0 (omega arith)
 
       module _ (r : Rd.Read) (p : ℕ) (line : p ≡ lineEnd t 0) (whole : (n : Word) (y : Bool) → WholeRead t (headOf (f .kind) n y) p cells′ froms′ parts₁ parts′ r) where
         head-by : (b : Bytes) → WholeRead t (head b) (lineEnd t 0) cells′ froms′ parts₁ parts′ r
@@ -129,12 +157,12 @@ module _ (t : Bytes) (f : First) (g : (c : Bytes) → firstSaid c t f ≡ oneOf 
         come b = first-right t _ (head-is b)
 
         pub statement-wrong : (x : ℕ) → r ≡ R.Wrong x → Answers t cells′ froms′ parts′ (O.Wrong x)
-        unfolding statementOf Counts BodyBy wrongAt valueOf
-        statement-wrong x z = (λ b. sym (answer-is t short ∙ ap valueOf (come b ∙ (rw z at (head-by b)))), λ b. tt)
+        unfolding statementOf Counts SelectStays BodyBy wrongAt valueOf
+        statement-wrong x z = (λ b. sym (answer-is t short ∙ ap valueOf (come b ∙ (rw z at (head-by b)))), λ b. tt, tt)
 
         pub statement-limit : (x : ℕ) → r ≡ R.Limit x → Answers t cells′ froms′ parts′ (O.Limit x)
-        unfolding statementOf Counts BodyBy limitAt valueOf
-        statement-limit x z = (λ b. sym (answer-is t short ∙ ap valueOf (come b ∙ (rw z at (head-by b)))), λ b. tt)
+        unfolding statementOf Counts SelectStays BodyBy limitAt valueOf
+        statement-limit x z = (λ b. sym (answer-is t short ∙ ap valueOf (come b ∙ (rw z at (head-by b)))), λ b. tt, tt)
 
         module _ (p′ l′ c′ : ℕ) (z : r ≡ R.Done p′ l′ c′) (b : Bytes) where
           took : BodyTook (sectionsOf (head b) 1 >>= ended) t (head b) (lineEnd t 0) cells′ froms′ parts₁ parts′ p′ l′ c′
@@ -148,8 +176,11 @@ module _ (t : Bytes) (f : First) (g : (c : Bytes) → firstSaid c t f ≡ oneOf 
           records = come b ∙ took .is
 
         pub statement-read : (p′ l′ c′ : ℕ) → r ≡ R.Done p′ l′ c′ → Answers t cells′ froms′ parts′ (O.Done c′)
-        unfolding statementOf Counts valueOf
+        unfolding statementOf Counts SelectStays valueOf
         statement-read p′ l′ c′ z = (
           λ b. ap ok (value-is p′ l′ c′ z b) ∙ sym (answer-is t short ∙ ap valueOf (records p′ l′ c′ z b)),
           λ b. statement-cells t _ p′ l′ c′ _ (records p′ l′ c′ z b) ∙ ap statementSize (sym (value-is p′ l′ c′ z b)),
+          λ e.
+              let x = took p′ l′ c′ z [] in
+              x .sections (select-head (f .kind) _ _ (e ∙ ap kindOf (kind-is (x .kept)))),
         )

@@ -23,7 +23,7 @@ const NAME_LENGTH: usize = 3;
 
 const FLAG: usize = 4;
 
-const FROM_ROWS: usize = 2367;
+pub const FROM_ROWS: usize = 2367;
 
 pub enum Kind {
     Select,

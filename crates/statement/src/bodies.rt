@@ -16,6 +16,7 @@ ghost use Rattle.statement.specs.FirstRecord.{headOf};
 ghost use Rattle.statement.specs.Clauses.{run, RunRead};
 ghost use Rattle.statement.specs.BodyReads.{Room, BodyRead};
 ghost use Rattle.statement.specs.InsertReads.{NamesRead};
+use crate::access::FROM_ROWS;
 use crate::first::CREATE;
 use crate::first::DELETE;
 use crate::first::INSERT;
@@ -24,31 +25,21 @@ use crate::first::UPDATE;
 use from::Froms;
 use from::read_froms;
 use read_expression::reading::Read;
+use sections::entry::COLUMN;
+use sections::entry::COLUMNS;
+use sections::entry::ITEM;
+use sections::entry::NAME;
+use sections::entry::ROW;
+use sections::entry::SET;
+use sections::entry::WHERE;
 use sections::read_section;
 use sections::read_some;
-
-// The kinds of sections that are read by name.
-const ITEM: u32 = 0;
-
-const WHERE: u32 = 1;
-
-const COLUMNS: u32 = 7;
-
-const NAME: u32 = 8;
-
-const ROW: u32 = 9;
-
-const SET: u32 = 10;
-
-const COLUMN: u32 = 11;
 
 // The sections from `where` on to `limit`.
 const CLAUSES: u32 = 6;
 
-// The part that says how many `columns` there are, and the one that says how many FROM rows.
+// The part that says how many `columns` there are.
 const COLUMNS_COUNT: usize = 8;
-
-const FROM_COUNT: usize = 2367;
 
 // The sections of n kinds in a row, from a kind on.
 fn read_run(
@@ -91,7 +82,7 @@ fn read_select(t: &[u8], p: usize, cells: &mut [u32], froms: &mut [u32], parts: 
                 Froms::Limit(x) => Read::Limit(x),
                 Froms::Done(e, m, d, n) => {
                     let r = read_run(t, e, m, d, WHERE, CLAUSES, cells, parts);
-                    parts[FROM_COUNT] = n;
+                    parts[FROM_ROWS] = n;
                     r
                 }
             }

@@ -15,7 +15,7 @@ ghost use Rattle.read_expression.specs.Reading.{Position, Given};
 ghost use Rattle.statement.specs.FirstRecord.{headOf};
 ghost use Rattle.statement.specs.BodyReads.{Room};
 ghost use Rattle.statement.specs.EndRecord.{ended, Is, WholeRead};
-ghost use Rattle.statement.specs.Whole.{statementOf, statementAnswer, Counts};
+ghost use Rattle.statement.specs.Whole.{statementOf, statementAnswer, Counts, SelectStays};
 use crate::bodies::read_body;
 use crate::first::first_record;
 use crate::first::put_first;
@@ -82,7 +82,7 @@ pub fn read_statement(
     froms: &mut [u32; FROM_NUMBERS],
     parts: &mut [u32; PART_NUMBERS],
 ) -> Outcome
-    ensures { λ r. ⌜ ((b : Bytes) → statementOf b (now (statement .entry)) (now (cells .exit)) (now (froms .exit)) (now (parts .exit)) r ≡ statementAnswer (now (statement .entry))) × ((b : Bytes) → Counts (statementSize (statementAt b (now (statement .entry)) (now (cells .exit)) (now (froms .exit)) (now (parts .exit)))) r) ⌝ }
+    ensures { λ r. ⌜ ((b : Bytes) → statementOf b (now (statement .entry)) (now (cells .exit)) (now (froms .exit)) (now (parts .exit)) r ≡ statementAnswer (now (statement .entry))) × ((b : Bytes) → Counts (statementSize (statementAt b (now (statement .entry)) (now (cells .exit)) (now (froms .exit)) (now (parts .exit)))) r) × SelectStays (now (statement .entry)) (now (cells .exit)) (now (parts .exit)) r ⌝ }
 {
     if (text::MOST_BYTES as usize) < statement.len() {
         return Outcome::Limit(0);

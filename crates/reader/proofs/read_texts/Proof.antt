@@ -80,7 +80,7 @@ returns-5 : tie.Need-returns-5
 returns-5 c =
     let s = c .before .before .before in
     let k = c .before .before .before .before .before .before .before .before .before .before .before in
-    statement-wrong (record { short = c .before .before .before .before .before .before .before .before .before .before .before .before .before .before .if1 .left; shortStatement = c .before .before .before .before .before .before .before .before .before .before .before .before .before .if2 .left; is = k .read-catalog .ensures _ }) (c .before .before .before .before .before .before .before .enum-told .given .1) (record { is = s .read-statement .ensures .0 _; size = s .read-statement .ensures .1 _ }) (c .before .s .given .1)
+    statement-wrong (record { short = c .before .before .before .before .before .before .before .before .before .before .before .before .before .before .if1 .left; shortStatement = c .before .before .before .before .before .before .before .before .before .before .before .before .before .if2 .left; is = k .read-catalog .ensures _ }) (c .before .before .before .before .before .before .before .enum-told .given .1) (record { is = s .read-statement .ensures .0 _; size = s .read-statement .ensures .1 _; stays = s .read-statement .ensures .2 }) (c .before .s .given .1)
 
 same-length-4 : tie.Need-same-length-4
 same-length-4 c = search needs
@@ -89,7 +89,7 @@ returns-6 : tie.Need-returns-6
 returns-6 c =
     let s = c .before .before .before in
     let k = c .before .before .before .before .before .before .before .before .before .before .before in
-    statement-limit (record { short = c .before .before .before .before .before .before .before .before .before .before .before .before .before .before .if1 .left; shortStatement = c .before .before .before .before .before .before .before .before .before .before .before .before .before .if2 .left; is = k .read-catalog .ensures _ }) (c .before .before .before .before .before .before .before .enum-told .given .1) (record { is = s .read-statement .ensures .0 _; size = s .read-statement .ensures .1 _ }) (c .before .s2 .given .1)
+    statement-limit (record { short = c .before .before .before .before .before .before .before .before .before .before .before .before .before .before .if1 .left; shortStatement = c .before .before .before .before .before .before .before .before .before .before .before .before .before .if2 .left; is = k .read-catalog .ensures _ }) (c .before .before .before .before .before .before .before .enum-told .given .1) (record { is = s .read-statement .ensures .0 _; size = s .read-statement .ensures .1 _; stays = s .read-statement .ensures .2 }) (c .before .s2 .given .1)
 
 same-length-5 : tie.Need-same-length-5
 same-length-5 c = search needs
@@ -98,7 +98,7 @@ returns-7 : tie.Need-returns-7
 returns-7 c =
     let s = c .before .before .before .before .before .before .before in
     let k = c .before .before .before .before .before .before .before .before .before .before .before .before .before .before .before in
-    rw (c .taken .ensures) (texts-read (record { short = c .before .before .before .before .before .before .before .before .before .before .before .before .before .before .before .before .before .before .if1 .left; shortStatement = c .before .before .before .before .before .before .before .before .before .before .before .before .before .before .before .before .before .if2 .left; is = k .read-catalog .ensures _ }) (c .before .before .before .before .before .before .before .before .before .before .before .enum-told .given .1) (record { is = s .read-statement .ensures .0 _; size = s .read-statement .ensures .1 _ }) (c .before .before .before .before .before .s3 .given .1))
+    rw (c .taken .ensures) (texts-read (record { short = c .before .before .before .before .before .before .before .before .before .before .before .before .before .before .before .before .before .before .if1 .left; shortStatement = c .before .before .before .before .before .before .before .before .before .before .before .before .before .before .before .before .before .if2 .left; is = k .read-catalog .ensures _ }) (c .before .before .before .before .before .before .before .before .before .before .before .enum-told .given .1) (record { is = s .read-statement .ensures .0 _; size = s .read-statement .ensures .1 _; stays = s .read-statement .ensures .2 }) (c .before .before .before .before .before .s3 .given .1))
 
 pub read-texts-spec : {M : Type 1} → statement M
 read-texts-spec =
