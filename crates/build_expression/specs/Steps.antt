@@ -1,11 +1,12 @@
 -- What one step appends: the cell or the cells of a column, a literal or an operator, or a refusal.
 use Prim.Native.Nat.{ℕ, _+_, _-_, pred}
+use native.Mathlib.Omega.{arith}
 use native.Mathlib.Numerals.{sub-one}
 use mathlib.Core.Path.{_≡_, refl, sym, ap, _∙_}
 use mathlib.Core.Bool.{true, false}
 use mathlib.Core.List.{List, [], _∷_}
 use lib.ListN.{length}
-use Rattle.rules.specs.Refusals.{Reason, refusalNumber, _>>=_, refuse, refuseIf, invalidIs}
+use Rattle.rules.specs.Refusals.{refusalNumber, _>>=_, refuse, refuseIf, invalidIs}
 use Rattle.rules.specs.Schema.{Value}
 use Rattle.rules.specs.Ast.{Unary, Binary, plain, ge, le, ne}
 use Rattle.rules.specs.Cells.{added, operator}
@@ -15,18 +16,33 @@ use Rattle.rules.specs.BuildExpression.{found, isNullOrNan}
 use Rattle.plan.specs.Cells.{Puts, Operated}
 use Rattle.plan.specs.Emits.{Emits, accepts, refuses}
 use Rattle.plan.specs.declared.cells.Written.the-variants as W
+use Rattle.build_expression.specs.Positions.{positionOf}
 use Rattle.build_expression.specs.Rows.{columnStep, literalStep, unaryStep, isStep, binaryStep}
+use Rattle.build_expression.specs.declared.position.Position.{Position}
+use Rattle.build_expression.specs.declared.position.Position.the-variants.{At, Refused}
 
-module _ (n l : ℕ) (f : Found) (area area′ : List ℕ) where
-  pub column-emits : (i : ℕ) → f ≡ at i → Puts n (C.column i ∷ []) area area′
+-- a column by its position p
+module _ (n l : ℕ) (f : Found) (area area′ : List ℕ) (p : Position) (h : p ≡ positionOf (found l f)) where
+  pub column-emits : (i : ℕ) → p ≡ At i → Puts n (C.column i ∷ []) area area′
       → Emits (columnStep n l f) n area area′ (W.Done (n + 1))
-  unfolding columnStep found _>>=_
-  column-emits i e p = accepts (n + 1) p refl (rw e)
+  unfolding columnStep found _>>=_ positionOf refuse
+  column-emits i e s = go f refl (sym e ∙ h)
+    where
+      go : (b : Found) → f ≡ b → At i ≡ positionOf (found l b) → Emits (columnStep n l f) n area area′ (W.Done (n + 1))
+      go (at j) g y = let z : j ≡ i = cc in accepts (n + 1) s refl (rw (g, z))
+      go (missing w) g y = absurd (let z : _≡_ {A = ℕ} 0 1 = cc in omega arith)
 
-  pub column-stops : (w : Reason) (x : ℕ) → f ≡ missing w → x ≡ refusalNumber w → length area′ ≡ length area
-      → Emits (columnStep n l f) n area area′ (W.Refused x l)
-  unfolding columnStep found _>>=_ refuse
-  column-stops w x e h g = refuses w l x l g h refl (rw e)
+  pub column-stops : (x y : ℕ) → p ≡ Refused x y → length area′ ≡ length area
+      → Emits (columnStep n l f) n area area′ (W.Refused x y)
+  unfolding columnStep found _>>=_ positionOf refuse
+  column-stops x y e k = go f refl (sym e ∙ h)
+    where
+      go : (b : Found) → f ≡ b → Refused x y ≡ positionOf (found l b) → Emits (columnStep n l f) n area area′ (W.Refused x y)
+      go (at j) g z = absurd (let v : _≡_ {A = ℕ} 0 1 = cc in omega arith)
+      go (missing w) g z =
+          let u : x ≡ refusalNumber w = cc in
+          let v : y ≡ l = cc in
+          refuses w l x y k u v (rw g)
 
 pub literal-emits : (n : ℕ) (v : Value) (area area′ : List ℕ) → Puts n (C.constant v ∷ []) area area′
     → Emits (literalStep n v) n area area′ (W.Done (n + 1))

@@ -16,6 +16,8 @@ ghost use Rattle.build_expression.specs.Builds.{Unmatched, Begins};
 ghost use Rattle.build_expression.specs.Calls.{rootOf};
 use crate::Begun;
 use crate::Operator;
+use crate::position::Position;
+use crate::position::position_of;
 use ast::row;
 use ast::row::Kind;
 use plan::cells;
@@ -28,16 +30,6 @@ use scope::matches::lookup_aggregate;
 use text::places::holds_at;
 
 // Document 01's numbers.
-const UNKNOWN_QUALIFIER: u32 = 7;
-
-const UNKNOWN_COLUMN: u32 = 8;
-
-const AMBIGUOUS_COLUMN: u32 = 9;
-
-const CONSTANT_ONLY: u32 = 10;
-
-const NOT_AGGREGATED: u32 = 11;
-
 const UNSUPPORTED_STAR: u32 = 12;
 
 const UNKNOWN_FUNCTION: u32 = 13;
@@ -50,16 +42,13 @@ fn found(f: Found, line: u32, area: &mut [u32], n: u32) -> Written
     requires { ⌜ Room n 1 (now area) ⌝ }
     ensures { λ x. ⌜ Emits (columnStep n line (foundOf f)) n (now (area .entry)) (now (area .exit)) x ⌝ }
 {
-    match f {
-        Found::At(i) => {
+    let p = position_of(f, line);
+    match p {
+        Position::At(i) => {
             cells::column(area, n, i);
             Written::Done(n + 1)
         }
-        Found::UnknownQualifier => Written::Refused(UNKNOWN_QUALIFIER, line),
-        Found::UnknownColumn => Written::Refused(UNKNOWN_COLUMN, line),
-        Found::Ambiguous => Written::Refused(AMBIGUOUS_COLUMN, line),
-        Found::ConstantOnly => Written::Refused(CONSTANT_ONLY, line),
-        Found::NotAggregated => Written::Refused(NOT_AGGREGATED, line),
+        Position::Refused(number, l) => Written::Refused(number, l),
     }
 }
 

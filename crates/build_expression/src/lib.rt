@@ -1,6 +1,7 @@
 // Expressions resolved over a scope and appended to the plan as cells (planner.rs, build_expression).
 mod leaves; // leaves.rt: what is built of a record before its operands
 mod operators; // operators.rt: what is appended behind them
+pub mod position; // position.rt: a column that was looked up
 
 ghost use Prim.Native.Nat.{_*_};
 ghost use lib.ListN.{take};

@@ -1,14 +1,13 @@
 -- DELETE: the plan at the end, and its answer.
 use Prim.Native.Nat.{ℕ, _+_, _*_, _≤_}
 use native.Mathlib.Omega.{arith}
-use mathlib.Core.Path.{_≡_, refl, sym, ap, _∙_}
+use mathlib.Core.Path.{_≡_, refl, sym, _∙_}
 use mathlib.Core.List.{List, [], _∷_, _++_}
-use mathlib.Core.Option.{Option, none, some}
+use mathlib.Core.Option.{Option, none}
 use lib.ListN.{length, take}
-use Rattle.rules.specs.Refusals.{ok, refused, refuse, unknownTable}
+use Rattle.rules.specs.Refusals.{ok, refuse, unknownTable}
 use Rattle.rules.specs.Lists.{Bytes}
-use Rattle.rules.specs.Lines.{Word}
-use Rattle.rules.specs.Places.{bytesAt, wordAt}
+use Rattle.rules.specs.Places.{bytesAt}
 use Rattle.rules.specs.Schema.{Table, namedBy, mustGetTable}
 use Rattle.rules.specs.Limits.{mostCells}
 use Rattle.rules.specs.Ast.{Expr}
@@ -23,26 +22,26 @@ use Rattle.rules.specs.BuildExpression.{clauseExpr}
 use Rattle.rules.specs.BuildStatement.{tableScope, buildDelete}
 use Rattle.rules.specs.Sizes.{clauseSize}
 use Rattle.claims.specs.Within.{delete-few}
+use Rattle.claims.specs.Words.Within.{StatementName}
 use Rattle.appends.specs.Area.{cellsNumbers, areaOf}
 use Rattle.appends.specs.Statements.Delete.{delete-table, delete-where, delete-step}
-use Rattle.ast.specs.Table.{treeAt}
 use Rattle.schema.specs.Layout.{tableAt, catalogAt}
 use Rattle.schema.specs.Search.{tableFrom, foundTable}
 use Rattle.schema.specs.declared.Found.{Found}
 use Rattle.schema.specs.declared.Found.the-variants.{At, Nothing}
 use Rattle.sections.specs.Access.{whereKind}
 use Rattle.sections.specs.Expressions.{outsideRow}
-use Rattle.scope.specs.Scopes.{labelsOf, tableNumbers, scopeOf}
+use Rattle.scope.specs.Scopes.{labelsOf, tableNumbers}
 use Rattle.scope.specs.FromTable.{FromTable}
 use Rattle.scope.specs.declared.Scope.{Scope}
 use Rattle.statement.specs.Layout.{deleteOf}
 use Rattle.statement.specs.Access.{lineAt, nameAddress, nameLength}
 use Rattle.statement.specs.EntryAccess.{clauseAt, clauseOf}
 use Rattle.statement.specs.declared.access.Clause.{Clause}
-use Rattle.plan.specs.Layout.{cellsEnd, scanSize, ownSize, deleteCode, planSize, mostPlanCells, nodesSize}
+use Rattle.plan.specs.Layout.{cellsEnd, ownSize, deleteCode, planSize, mostPlanCells, nodesSize}
 use Rattle.plan.specs.Appended.{Appended}
 use Rattle.plan.specs.Cells.{Room}
-use Rattle.plan.specs.Emits.{Emits, accepted, emits-same}
+use Rattle.plan.specs.Emits.{Emits, accepted}
 use Rattle.plan.specs.Finished.{finished}
 use Rattle.plan.specs.Exit.{pieces, delete-exit}
 use Rattle.plan.specs.declared.cells.Written.{Written}
@@ -50,9 +49,10 @@ use Rattle.plan.specs.declared.cells.Written.the-variants.{Done, Refused}
 use Rattle.build_statement.specs.Plans.{Plans}
 use Rattle.build_statement.specs.Kinds.{Free, ReadyFor, nameOf, deleteAt}
 use Rattle.build_statement.specs.Ends.{span-at, finish-room, plan-count, planned, not-planned, refused-at}
-use Rattle.build_statement.specs.Tables.{tableNamed, unknownNumber, unknown-number, must-not, must-have, table-scope}
+use Rattle.build_statement.specs.Tables.{tableNamed, unknownNumber, unknown-number}
 use Rattle.build_statement.specs.Clauses.{emitGiven, Filters, taken, not-taken, stopped}
-use Rattle.build_statement.specs.Scans.{Scanned, scan-record, scan-in-use, scan-all, where-is, where-room}
+use Rattle.build_statement.specs.Scans.{Scanned, scan-record, scan-in-use, scan-all, where-room}
+use Rattle.build_statement.specs.Filtered.{not-there, there, filtered}
 
 -- THE END: m cells stand in the area, and area′ is the plan's, of the i-th table under the name that is the n bytes at a
 pub record DeleteEnds (c q : Bytes) (tables : List ℕ) (i a n m : ℕ) (area area′ : List ℕ) : Type 0 where
@@ -107,15 +107,16 @@ module _ (c q : Bytes) (tables cells parts : List ℕ) {area nodes : List ℕ}
     (h : ReadyFor c q tables (Ast.delete (deleteAt c q cells parts)) area nodes) (a n : ℕ) (ha : a ≡ nameAddress parts)
     (hn : n ≡ nameLength parts) (r : Found)
     (f : foundTable c q tables r ≡ tableFrom 0 (catalogAt c q tables) (bytesAt c q a n)) where
-  name-is : wordAt c q a n ≡ nameOf c q parts
-  name-is = λ j. wordAt c q (ha j) (hn j)
+  named : StatementName c q (nameOf c q parts)
+  unfolding deleteOf
+  named = h .within .parts .0
 
   pub delete-unknown : {y : ℕ} → r ≡ Nothing → y ≡ lineAt parts
       → Plans (buildDelete (catalogAt c q tables) (deleteAt c q cells parts)) area area (Refused unknownNumber y)
   unfolding deleteOf refuse
   delete-unknown e ey = not-planned unknownTable (lineAt parts) _ _ refl unknown-number ey
       (delete-table (catalogAt c q tables) (deleteAt c q cells parts) _
-      (rw name-is at (must-not c q tables a n r f (lineAt parts) e)))
+      (not-there c q tables cells parts (h .within) named a n ha hn r f e))
 
   module _ {w : Clause} (hw : w ≡ clauseAt parts whereKind) (s : length cells ≤ outsideRow) where
     few : clauseSize (deleteAt c q cells parts .filter) ≤ mostCells
@@ -134,12 +135,11 @@ module _ (c q : Bytes) (tables cells parts : List ℕ) {area nodes : List ℕ}
       o = clauseExpr (deleteAt c q cells parts .filter)
 
       built : Emits (emitGiven (tableScope t) o) 0 area area₁ x
-      unfolding deleteOf scopeOf
-      built = rw (where-is c q cells parts hw s, ← table-scope c q tables a n r f i e (h .within) (rw name-is (h .within .parts .0)) g (treeAt c q cells)) (b .is (S .hidden))
+      unfolding deleteOf
+      built = filtered c q tables cells parts (h .within) named a n ha hn r f i e g hw s b
 
       has : mustGetTable (catalogAt c q tables) (lineAt parts) (nameOf c q parts) ≡ ok t
-      has = ap (mustGetTable (catalogAt c q tables) (lineAt parts)) (sym name-is)
-          ∙ must-have c q tables a n r f i e (lineAt parts)
+      has = there c q tables cells parts (h .within) named a n ha hn r f i e
 
       pub delete-refused : (k l : ℕ) → x ≡ Refused k l
           → Plans (buildDelete (catalogAt c q tables) (deleteAt c q cells parts)) area area₁ x
@@ -151,9 +151,6 @@ module _ (c q : Bytes) (tables cells parts : List ℕ) {area nodes : List ℕ}
           (not-taken (tableScope t) o (p .refusal) (p .is)))
 
       module _ (m : ℕ) (z : x ≡ Done m) where
-        pub delete-free : length area₁ ≡ length area → Free area₁ nodes
-        delete-free l = record { areaRoom = omega (arith, l, h .free .areaRoom); nodesRoom = h .free .nodesRoom }
-
         pub delete-most : m ≤ mostPlanCells
         unfolding clauseSize
         delete-most =

@@ -1,6 +1,7 @@
 -- Each kind of statement by the numbers it was read to, and what is known of it and of the room for its plan.
 use Prim.Native.Nat.{ℕ, _≤_}
-use mathlib.Core.Path.{_≡_, sym, ap, _∙_}
+use native.Mathlib.Omega.{arith}
+use mathlib.Core.Path.{_≡_, ap, _∙_}
 use mathlib.Core.List.{List}
 use lib.ListN.{length}
 use Rattle.rules.specs.Limits.{leastArea}
@@ -9,16 +10,16 @@ use Rattle.rules.specs.Lines.{Word}
 use Rattle.rules.specs.Places.{wordAt}
 use Rattle.rules.specs.Refusals.{ok}
 use Rattle.rules.specs.Schema.{Catalog}
-use Rattle.rules.specs.Ast.{Delete, Update, Statement}
+use Rattle.rules.specs.Ast.{Delete, Insert, Update, Statement}
 use Rattle.rules.specs.Ast as Ast
 use Rattle.rules.specs.Plan as P
-use Rattle.rules.specs.BuildStatement.{buildDelete, buildUpdate, buildStatement}
+use Rattle.rules.specs.BuildStatement.{buildDelete, buildInsert, buildUpdate, buildStatement}
 use Rattle.claims.specs.Within.{TextsWithin}
 use Rattle.numbers.specs.Values.{isOne}
 use Rattle.schema.specs.Layout.{catalogAt}
 use Rattle.sections.specs.Layout.{sectionAt}
-use Rattle.sections.specs.Access.{whereKind, setKind}
-use Rattle.statement.specs.Layout.{deleteOf, updateOf, statementAt}
+use Rattle.sections.specs.Access.{whereKind, columnsKind, nameKind, rowKind, setKind}
+use Rattle.statement.specs.Layout.{deleteOf, insertOf, updateOf, statementAt}
 use Rattle.statement.specs.Access.{kindNumber, lineAt, nameAddress, nameLength, dropFlag, kindOf, statementOf, statement-kind}
 use Rattle.statement.specs.declared.access.Kind.the-variants as K
 use Rattle.plan.specs.Layout.{nodesSize}
@@ -28,6 +29,11 @@ use Rattle.build_statement.specs.Plans.{Ready}
 pub record Free (area nodes : List ℕ) : Type 0 where
   pub areaRoom : leastArea ≤ length area
   pub nodesRoom : length nodes ≡ nodesSize
+
+-- and there still is where the lengths are kept
+pub free-kept : {area area′ nodes nodes′ : List ℕ} → Free area nodes → length area′ ≡ length area
+    → length nodes′ ≡ length nodes → Free area′ nodes′
+free-kept f e g = record { areaRoom = omega (arith, f .areaRoom, e); nodesRoom = g ∙ f .nodesRoom }
 
 -- and the catalog's numbers and the statement s were read from the texts c and q
 pub record ReadyFor (c q : Bytes) (tables : List ℕ) (s : Statement) (area nodes : List ℕ) : Type 0 where
@@ -41,6 +47,10 @@ nameOf c q parts = wordAt c q (nameAddress parts) (nameLength parts)
 -- the statements that the numbers stand for
 abbrev pub deleteAt : Bytes → Bytes → List ℕ → List ℕ → Delete
 deleteAt c q cells parts = deleteOf (lineAt parts) (nameOf c q parts) (sectionAt c q cells parts whereKind)
+
+abbrev pub insertAt : Bytes → Bytes → List ℕ → List ℕ → Insert
+insertAt c q cells parts = insertOf (lineAt parts) (nameOf c q parts) (sectionAt c q cells parts columnsKind)
+    (sectionAt c q cells parts nameKind) (sectionAt c q cells parts rowKind)
 
 abbrev pub updateAt : Bytes → Bytes → List ℕ → List ℕ → Update
 updateAt c q cells parts =
@@ -76,6 +86,20 @@ module _ (c q : Bytes) (cells froms parts : List ℕ) where
         → buildStatement ts (statementAt c q cells froms parts) ≡ buildDelete ts (deleteAt c q cells parts)
     unfolding buildStatement
     delete-built ts = ap (buildStatement ts) delete-is
+
+  module _ (e : K.Insert ≡ kindOf (kindNumber parts)) where
+    insert-is : statementAt c q cells froms parts ≡ Ast.insert (insertAt c q cells parts)
+    unfolding statementOf
+    insert-is = statement-kind c q cells froms parts K.Insert e
+
+    pub insert-ready : {tables area nodes : List ℕ} → Ready c q tables cells froms parts area nodes
+        → ReadyFor c q tables (Ast.insert (insertAt c q cells parts)) area nodes
+    insert-ready h = ready-for _ h insert-is
+
+    pub insert-built : (ts : Catalog)
+        → buildStatement ts (statementAt c q cells froms parts) ≡ buildInsert ts (insertAt c q cells parts)
+    unfolding buildStatement
+    insert-built ts = ap (buildStatement ts) insert-is
 
   module _ (e : K.Update ≡ kindOf (kindNumber parts)) where
     update-is : statementAt c q cells froms parts ≡ Ast.update (updateAt c q cells parts)

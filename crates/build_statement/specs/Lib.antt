@@ -5,9 +5,8 @@ pub mod Drops
 pub mod Tables
 pub mod Clauses
 pub mod Scans
+pub mod Filtered
 pub mod Deletes
-pub mod Sets
 pub mod Pushes
 pub mod Create
 pub mod Columns
-pub mod Map

@@ -1,7 +1,8 @@
 -- `delete::build_delete`: the table, its filter, and the end.
 use native.Mathlib.Omega.{arith}
 use mathlib.Core.Path.{refl}
-use Rattle.build_statement.specs.Deletes.{delete-unknown, delete-where-room, delete-refused, delete-free, delete-most}
+use Rattle.build_statement.specs.Kinds.{free-kept}
+use Rattle.build_statement.specs.Deletes.{delete-unknown, delete-where-room, delete-refused, delete-most}
 use Rattle.build_statement.specs.Deletes.{delete-planned}
 use borrow.Author.Needs.{needs}
 use Rattle.build_statement.proofs.delete.build_delete.Statement.{statement}
@@ -78,11 +79,7 @@ end-delete-requires c κs =
     let at-found = c .before .before .before .before .before .before .before .before .before .before .before .before .before .before .before .before .before .before .before in
     let at-table = c .before .before .before .before .before .before .before .before .before .before .before .before .before .before .before .before .before .before .before .before .before in
     let start = c .before .before .before .before .before .before .before .before .before .before .before .before .before .before .before .before .before .before .before .before .before .before .before .before .before .before .before .before .before .before .before in (
-      delete-free (start .args .catalog .now) (start .args .statement .now) (start .args .tables .now) (start .args .cells .now) (start .args .parts .now)
-          (start .pre) _ _ (at-table .before .before .name-address .ensures) (at-table .before .name-length .ensures) _
-          (at-table .get-table .ensures) (at-scope .before .clause-at .ensures)
-          (omega (arith, start .good .1 .1 .1 .0 .1)) _ (at-found .found .given .1)
-          (at-scope .before .before .from-table .ensures) (at-where .build-where .ensures) _ (c .before .before .before .filtered .given .1) (at-where .build-where .kept .1 .1 .1 .1 .1 .1 .1 .1 .1 .0),
+      free-kept (start .pre .free) (at-where .build-where .kept .1 .1 .1 .1 .1 .1 .1 .1 .1 .0) refl,
       delete-most (start .args .catalog .now) (start .args .statement .now) (start .args .tables .now) (start .args .cells .now) (start .args .parts .now)
           (start .pre) _ _ (at-table .before .before .name-address .ensures) (at-table .before .name-length .ensures) _
           (at-table .get-table .ensures) (at-scope .before .clause-at .ensures)

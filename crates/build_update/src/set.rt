@@ -1,4 +1,4 @@
-// What UPDATE sets a column to: the set's expression, or the column's default.
+// What a column is set to: the set's expression, or the column's default.
 ghost use Prim.Native.Nat.{_+_, _*_};
 ghost use lib.ListN.{take};
 ghost use Rattle.rules.specs.Schema.{defaultAt};
@@ -7,14 +7,16 @@ ghost use Rattle.schema.specs.Layout.{tableAt};
 ghost use Rattle.statement.specs.EntryAccess.{givenOf};
 ghost use Rattle.plan.specs.Cells.{Room};
 ghost use Rattle.plan.specs.Emits.{Emits};
-ghost use Rattle.build_statement.specs.Sets.{defaultStep, Values};
-use crate::NO_DEFAULT;
+ghost use Rattle.build_update.specs.Sets.{defaultStep, Values};
 use build_expression::build_expression;
 use plan::cells::Written;
 use plan::cells::constant;
 use schema::default_at;
 use sections::entry::Entry;
 use sections::entry::first_row;
+
+// Document 01's number.
+const NO_DEFAULT: u32 = 24;
 
 // The default of the j-th column of the i-th table, or 24 at a line.
 fn build_default(

@@ -1,8 +1,8 @@
 -- `set::build_set`: the default, or the expression.
-use Rattle.build_statement.specs.Sets.{values-none, values-some, value-room}
+use Rattle.build_update.specs.Sets.{values-none, values-some, value-room}
 use borrow.Author.Needs.{needs}
-use Rattle.build_statement.proofs.set.build_set.Statement.{statement}
-use Rattle.build_statement.proofs.set.build_set.Tie as tie
+use Rattle.build_update.proofs.set.build_set.Statement.{statement}
+use Rattle.build_update.proofs.set.build_set.Tie as tie
 
 build-default-requires : tie.Need-build-default-requires
 build-default-requires c κs = search needs

@@ -1,8 +1,8 @@
 -- `set::build_default`: no default, or its constant.
 use borrow.Author.Needs.{needs}
-use Rattle.build_statement.specs.Sets.{no-default, a-default}
-use Rattle.build_statement.proofs.set.build_default.Statement.{statement}
-use Rattle.build_statement.proofs.set.build_default.Tie as tie
+use Rattle.build_update.specs.Sets.{no-default, a-default}
+use Rattle.build_update.proofs.set.build_default.Statement.{statement}
+use Rattle.build_update.proofs.set.build_default.Tie as tie
 
 default-at-requires : tie.Need-default-at-requires
 default-at-requires c κs = search needs

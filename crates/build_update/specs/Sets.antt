@@ -1,10 +1,9 @@
--- What UPDATE sets a column to: the set's expression, or the column's default.
-use Prim.Native.Nat.{ℕ, zero, suc, _+_, _*_, _≤_, _<_, pred}
+-- What a column is set to: the set's expression, or the column's default.
+use Prim.Native.Nat.{ℕ, _+_, _*_, _<_, pred}
 use native.Mathlib.Omega.{arith}
 use mathlib.Core.Path.{_≡_, refl, sym, ap, _∙_}
 use mathlib.Core.List.{List, [], _∷_}
 use mathlib.Core.Option.{Option, none, some}
-use lib.ListN.{length}
 use Rattle.rules.specs.Refusals.{Refusal, refusalNumber, ok, refused, refuse, noDefault}
 use Rattle.rules.specs.Lists.{Bytes}
 use Rattle.rules.specs.Schema.{Value, Column, defaultAt}
@@ -17,6 +16,7 @@ use Rattle.rules.specs.BuildStatement.{setBuilt}
 use Rattle.rules.specs.Sizes.{optionSize}
 use Rattle.appends.specs.Expressions.Emit.{emit}
 use Rattle.appends.specs.Lists.Entry.{emitSecond}
+use Rattle.appends.specs.Answers.{ok-same, ok-not-refused}
 use Rattle.appends.specs.Statements.Update.{set-step, set-value, set-default, set-no-default}
 use Rattle.numbers.specs.Values.{valueAt, defaultOf, default-some}
 use Rattle.ast.specs.Table.{treeAt}
@@ -27,6 +27,7 @@ use Rattle.plan.specs.Cells.{Room, Puts}
 use Rattle.plan.specs.Emits.{Emitting, Emits, accepts, refuses, emits-same}
 use Rattle.plan.specs.declared.cells.Written.{Written}
 use Rattle.plan.specs.declared.cells.Written.the-variants.{Done, Refused}
+use Rattle.build_expression.specs.Rows.{emit-within}
 use Rattle.build_expression.specs.Builds.{scopeAt, Builds}
 
 -- DEFAULTS
@@ -105,3 +106,30 @@ module _ (s : Scope) (cs : List Column) (x : Ast.Set) (n j : ℕ) (f : lookup s 
       go none v none w h =
           let k : _≡_ {A = Emitting} (refuse noDefault (x .line)) (ok (ys, m)) = rw (v, w) at h in
           absurd (let z : _≡_ {A = ℕ} 0 1 = cc in omega arith)
+
+  pub set-not-taken : (w : Refusal) → valueStep s cs (x .line) j n (x .value) ≡ refused w
+      → emitSecond (setBuilt s cs) n x ≡ refused w
+  unfolding valueStep defaultStep refuse
+  set-not-taken w h = go (x .value) refl (defaultAt cs j) refl
+    where
+      go : (v : Option Expr) → x .value ≡ v → (d : Option Value) → defaultAt cs j ≡ d
+          → emitSecond (setBuilt s cs) n x ≡ refused w
+      go (some e) v d y = set-value s cs x n j f e w v (rw v at h)
+      go none v (some d) y = ok-not-refused _ w (rw (v, y) at h)
+      go none v none y =
+          let g : _≡_ {A = Emitting} (refuse noDefault (x .line)) (refused w) = rw (v, y) at h in
+          set-no-default s cs x n j f v y ∙ ap refused (same g)
+        where
+          same : {v w : Refusal} → _≡_ {A = Emitting} (refused v) (refused w) → v ≡ w
+          same g = cc
+
+-- an accepted value is at least one cell
+pub value-some : (s : Scope) (cs : List Column) (l j n : ℕ) (v : Option Expr) (ys : List Cell) (m : ℕ)
+    → valueStep s cs l j n v ≡ ok (ys, m) → n < m
+unfolding valueStep defaultStep refuse
+value-some s cs l j n (some e) ys m h = emit-within s n e ys m h .some′
+value-some s cs l j n none ys m h = go (defaultAt cs j) h
+  where
+    go : (d : Option Value) → defaultStep n l d ≡ ok (ys, m) → n < m
+    go (some d) g = let z : n + 1 ≡ m = ap (λ p. p .1) (ok-same g) in omega (arith, z)
+    go none g = absurd (let z : _≡_ {A = ℕ} 0 1 = cc in omega arith)

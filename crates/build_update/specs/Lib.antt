@@ -1,0 +1,4 @@
+pub mod Sets
+pub mod Writes
+pub mod SoFar
+pub mod Updates
