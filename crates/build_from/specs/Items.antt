@@ -28,7 +28,8 @@ use Rattle.from.specs.Layout.{fromAt}
 use Rattle.from.specs.Access.{lineAt, kindAt, leftSide, rightSide}
 use Rattle.from.specs.declared.row.Kind.the-variants as K
 use Rattle.plan.specs.Room.{laid-in-use}
-use Rattle.build_from.specs.Sources.{Refuses, refuses-on, Laid, tableRoom, joinRoom, ItemRoom, Accepted, Builds}
+use Rattle.plan.specs.Steps.{Refuses, refuses-on}
+use Rattle.build_from.specs.Sources.{Laid, tableRoom, joinRoom, ItemRoom, Accepted, Builds}
 use Rattle.build_from.specs.Tables.{tableRow}
 use Rattle.build_from.specs.Merges.{merge-empty}
 use Rattle.build_from.specs.Predicates.{predicateIn}

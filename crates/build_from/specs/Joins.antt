@@ -34,7 +34,8 @@ use Rattle.plan.specs.Layout.{cellsEnd, nodesSize, joinSize, sourceHead}
 use Rattle.plan.specs.Appended.{Appended}
 use Rattle.plan.specs.Records.{records-first, records-on}
 use Rattle.plan.specs.Cells.{Room}
-use Rattle.build_from.specs.Sources.{Refuses, refuses-on, Stands, stands-on, Laid, joinRoom}
+use Rattle.plan.specs.Steps.{Refuses, refuses-on, Stands, stands-on}
+use Rattle.build_from.specs.Sources.{Laid, joinRoom}
 use Rattle.build_from.specs.Merges.{TwoScopes, scope-width, merge-empty, MergedScope, Merges}
 use Rattle.build_from.specs.Predicates.{predicateIn, PredicateStands, PredicateBuilt}
 use Rattle.build_from.specs.Rows.{joinAt, firstOf, secondOf, joinRow}
@@ -154,7 +155,7 @@ module _ (c q : Bytes) (cells : List ℕ) (ra rb : Answer building.Source) (o : 
         }
 
 -- RECORDS
-join-size : (a b : ℕ) (x : Option ℕ) (o : Bool) → length (recordNumbers (join a b x o)) ≡ joinSize
+pub join-size : (a b : ℕ) (x : Option ℕ) (o : Bool) → length (recordNumbers (join a b x o)) ≡ joinSize
 unfolding recordNumbers sized
 join-size a b x o = refl
 

@@ -6,3 +6,6 @@ pub mod Predicates
 pub mod Rows
 pub mod Joins
 pub mod Items
+pub mod Later
+pub mod Clause
+pub mod Parts

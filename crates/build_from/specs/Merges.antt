@@ -29,7 +29,7 @@ use Rattle.scope.specs.Merging.{MayMerge, mergingOf}
 use Rattle.scope.specs.declared.Scope.{Scope}
 use Rattle.scope.specs.declared.merging.Merging.{Merging}
 use Rattle.scope.specs.declared.merging.Merging.the-variants.{Allowed, DuplicateTable, LimitPassed}
-use Rattle.build_from.specs.Sources.{Refuses, refuses-at}
+use Rattle.plan.specs.Steps.{Refuses, refuses-at}
 use Rattle.build_from.specs.declared.merges.Both.{Both}
 
 -- scopes of FROM items with few tables

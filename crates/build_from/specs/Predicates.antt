@@ -26,7 +26,7 @@ use Rattle.plan.specs.Emits.{Emitting, writtenOf, Emits, accepted}
 use Rattle.plan.specs.declared.cells.Written.{Written}
 use Rattle.plan.specs.declared.cells.Written.the-variants.{Done, Refused}
 use Rattle.build_expression.specs.Rows.{emit-within}
-use Rattle.build_from.specs.Sources.{Refuses}
+use Rattle.plan.specs.Steps.{Refuses}
 use Rattle.build_from.specs.declared.predicates.Root.{Root}
 
 -- the predicate of row r

@@ -1,15 +1,13 @@
 -- The contract of building a FROM item: what it refuses, or the scope, cells and node records that it is; and the room
 -- that it takes.
 use Prim.Native.Nat.{ℕ, _+_, _*_, _≤_, _<_}
-use native.Mathlib.Omega.{arith}
-use mathlib.Core.Path.{_≡_, refl, sym, ap, _∙_}
-use mathlib.Core.List.{List, [], _∷_, _++_, append-assoc}
-use lib.ListN.{length, take}
-use Rattle.rules.specs.Refusals.{Reason, refusalNumber, Refusal, Answer, ok, refused, refuse}
+use mathlib.Core.Path.{_≡_}
+use mathlib.Core.List.{List}
+use lib.ListN.{length}
+use Rattle.rules.specs.Refusals.{Answer}
 use Rattle.rules.specs.Limits.{mostFromTables}
 use Rattle.rules.specs.Lists.{Bytes}
-use Rattle.rules.specs.Schema.{Catalog}
-use Rattle.rules.specs.Ast.{Expr, From, Statement}
+use Rattle.rules.specs.Ast.{From, Statement}
 use Rattle.rules.specs.Cells.{Cell}
 use Rattle.rules.specs.Nodes.{NodeRecord}
 use Rattle.rules.specs.Scope as rules
@@ -19,50 +17,14 @@ use Rattle.claims.specs.Reading.Limits.{fromTables}
 use Rattle.claims.specs.Reading.Has.{FromHas}
 use Rattle.claims.specs.Words.Within.{StatementName}
 use Rattle.claims.specs.Within.{ExprWithin, TextsWithin}
-use Rattle.appends.specs.Area.{cellsNumbers, recordsNumbers, cells-numbers-append}
 use Rattle.appends.specs.From.Laid.{SourceLaid}
 use Rattle.ast.specs.Table.{treeAt}
 use Rattle.schema.specs.Layout.{catalogAt}
 use Rattle.scope.specs.Scopes.{scopeOf, Valid, Plain}
-use Rattle.plan.specs.Layout.{cellsEnd, nodesSize}
-use Rattle.plan.specs.Appended.{Appended}
-use Rattle.plan.specs.Records.{records-append}
+use Rattle.plan.specs.Layout.{nodesSize}
 use Rattle.plan.specs.Cells.{Room}
+use Rattle.plan.specs.Steps.{Refuses, Stands}
 use Rattle.build_from.specs.declared.Source.{Source}
-
--- REFUSALS
--- a is refused with document 01's number x, at line l
-pub record Refuses {A : Type 0} (a : Answer A) (x l : ℕ) : Type 0 where
-  pub why : Refusal
-  pub is : a ≡ refused why
-  pub number : x ≡ refusalNumber (why .reason)
-  pub line : l ≡ why .line
-
-pub refuses-at : {A : Type 0} {a : Answer A} (k : Reason) (l x y : ℕ) → a ≡ refuse k l → x ≡ refusalNumber k → y ≡ l
-    → Refuses a x y
-unfolding refuse
-refuses-at k l x y e f g = record { why = _; is = e; number = f; line = g }
-
--- a refusal ends the whole
-pub refuses-on : {A B : Type 0} {a : Answer A} {b : Answer B} {x l : ℕ} → Refuses a x l
-    → ((w : Refusal) → a ≡ refused w → b ≡ refused w) → Refuses b x l
-refuses-on h f = record { why = h .why; is = f (h .why) (h .is); number = h .number; line = h .line }
-
--- WHAT STANDS in the area and among the nodes: cells from the i-th on, records behind u numbers
-pub record Stands (i u : ℕ) (area nodes : List ℕ) (cs : List Cell) (rs : List NodeRecord) (j v : ℕ)
-    (area′ nodes′ : List ℕ) : Type 0 where
-  pub cells : take (cellsEnd j) area′ ≡ take (cellsEnd i) area ++ cellsNumbers cs
-  pub records : Appended (recordsNumbers rs) u nodes v nodes′
-
--- one step after another
-pub stands-on : {i u : ℕ} {area nodes : List ℕ} {cs : List Cell} {rs : List NodeRecord} {j v : ℕ}
-    {area′ nodes′ : List ℕ} {ds : List Cell} {ts : List NodeRecord} {p w : ℕ} {area″ nodes″ : List ℕ}
-    → Stands i u area nodes cs rs j v area′ nodes′ → Stands j v area′ nodes′ ds ts p w area″ nodes″
-    → Stands i u area nodes (cs ++ ds) (rs ++ ts) p w area″ nodes″
-stands-on {i} {u} {area} {nodes} {cs} {rs} {ds = ds} {ts = ts} a b = record {
-  cells = rw (cells-numbers-append cs ds, b .cells, a .cells) (append-assoc (take (cellsEnd i) area) _ _);
-  records = records-append rs ts (a .records) (b .records);
-}
 
 -- an item with scope s and line l: its cells from the i-th on and its records from the k-th on stand there
 pub record Laid (a : Answer building.Source) (s : rules.Scope) (l i k u : ℕ) (area nodes : List ℕ) (j m v : ℕ)

@@ -35,7 +35,8 @@ use Rattle.from.specs.Access.{lineAt, nameAddress, nameLength, aliasAddress, al
 use Rattle.plan.specs.Layout.{scanSize}
 use Rattle.plan.specs.Appended.{Appended}
 use Rattle.plan.specs.Records.{records-first}
-use Rattle.build_from.specs.Sources.{Refuses, refuses-at, ItemRoom, Builds}
+use Rattle.plan.specs.Steps.{refuses-at}
+use Rattle.build_from.specs.Sources.{ItemRoom, Builds}
 use Rattle.build_from.specs.declared.Source.{Source}
 
 -- ROWS

@@ -1,4 +1,5 @@
 // FROM planned (planner.rs, build_from_clause and build_from): the scope of each item, its cells and its node records.
+pub mod clause; // clause.rt: FROM as a whole
 pub mod joins; // joins.rt: a join from its sides
 pub mod merges; // merges.rt: the scopes of a join's sides, merged
 pub mod predicates; // predicates.rt: a join's predicate
@@ -12,8 +13,8 @@ use rows::Rows;
 use rows::rows_of;
 use scope::Scope;
 
-// A FROM item: its scope, and with it the next cell, the next node and how many numbers of the nodes are in use; `number`
-// is 0, and `line` the item's. Where it is refused, document 01's number and line.
+// A FROM item, or the clause: its scope, and with it the next cell, the next node and how many numbers of the nodes are in
+// use; `number` is 0, and `line` the item's. Where it is refused, document 01's number and line.
 pub struct Source {
     pub scope: Scope,
     pub number: u32,

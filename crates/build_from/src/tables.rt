@@ -7,7 +7,7 @@ ghost use mathlib.Core.Path.{_≡_};
 ghost use Rattle.rules.specs.Area.{optionSpan};
 ghost use Rattle.ast.specs.Names.{nameAt};
 ghost use Rattle.from.specs.Access as access;
-ghost use Rattle.build_from.specs.Sources.{ItemRoom, Builds, Refuses};
+ghost use Rattle.build_from.specs.Sources.{ItemRoom, Builds};
 ghost use Rattle.build_from.specs.Tables.{tableRow, FromNamed, Scanned};
 use crate::Source;
 use from::row;
