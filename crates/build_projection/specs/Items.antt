@@ -145,6 +145,18 @@ module _ (cells parts : List ℕ) (k : ℕ) (e : Entry) (h : e ≡ numbersAt par
     unfolding sought entryItem
     sought-is b g c q = rw (g, ← h) (t c q ∙ ap (λ i. asStar (treeAt c q cells i)) f)
 
+-- item x, by its number
+module _ (cells parts : List ℕ) (x : ℕ) (s : Star) where
+  pub plain-before : x < statementRows → ((c q : Bytes) → starOf s ≡ plainStar (entryItem c q cells parts x ∷ []))
+      → (c q : Bytes) → starOf s ≡ plainStar (itemOf c q cells parts x ∷ [])
+  plain-before h t c q = rw (item-entry c q cells parts x h) (t c q)
+
+  pub plain-behind : statementRows ≤ x → ((c q : Bytes) → starOf s ≡ asStar (treeAt c q cells x))
+      → (c q : Bytes) → starOf s ≡ plainStar (itemOf c q cells parts x ∷ [])
+  unfolding starredAt
+  plain-behind h t c q =
+      rw (item-starred c q cells parts x h) (t c q ∙ sym (plain-alone (starredAt c q cells x) refl))
+
 pub sought-not : (b : Bool) → b ≡ false → (i : Item) → starOf S.Missing ≡ sought b i
 unfolding starOf sought
 sought-not b g i = rw g

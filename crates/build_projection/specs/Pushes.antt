@@ -13,7 +13,7 @@ use Rattle.rules.specs.Lists.{Bytes, concat}
 use Rattle.rules.specs.Lines.{Word}
 use Rattle.rules.specs.Ast.{Item, size}
 use Rattle.rules.specs.Cells.{Cell}
-use Rattle.rules.specs.Area.{optionSpan, itemNumbers}
+use Rattle.rules.specs.Area.{itemNumbers}
 use Rattle.rules.specs.Sizes.{total}
 use Rattle.rules.specs.BuildSelect.{itemBuilt}
 use Rattle.appends.specs.Area.{cellsNumbers, cells-numbers-append}
@@ -34,7 +34,7 @@ use Rattle.plan.specs.declared.cells.Written.the-variants as W
 use Rattle.build_expression.specs.Rows.{emit-within}
 use Rattle.build_expression.specs.Builds.{scopeAt, Builds}
 use Rattle.build_projection.specs.Items.{itemOf}
-use Rattle.build_projection.specs.Aliases.{rowOf, aliasAddress, aliasLength, item-tree}
+use Rattle.build_projection.specs.Aliases.{rowOf, item-tree}
 use Rattle.build_projection.specs.declared.projection.Pushed.{Pushed}
 use Rattle.build_projection.specs.declared.projection.Pushed.the-variants as P
 
@@ -80,7 +80,7 @@ pub record ItemsPut (c q : Bytes) (t parts xs ms ts items : List ℕ) (n : ℕ) 
   pub is : (h : ℕ) → AllAs (emitFirsts (itemBuilt (scopeAt c q t xs ms ts h)) n (map (itemOf c q t parts) items))
       n area area′ k nodes nodes′ r
 
--- there is room for all items' cells and parts, and their aliases are as long as it is said
+-- there is room for all items' cells and parts
 unfoldable pub itemsSize : Bytes → Bytes → List ℕ → List ℕ → List ℕ → ℕ
 itemsSize c q t parts items = total (λ x. size (itemOf c q t parts x .expr)) items
 
@@ -88,8 +88,6 @@ pub record ItemsFit (c q : Bytes) (t parts items : List ℕ) (n : ℕ) (area : L
   pub few : length items ≤ mostColumns
   pub room : Room n (3 * itemsSize c q t parts items) area
   pub space : k + itemSize * length items ≤ length nodes
-  pub aliases : (i : ℕ) → i < length items → optionSpan (itemOf c q t parts (getD items i 0) .alias)
-      ≡ aliasAddress parts (getD items i 0) ∷ aliasLength parts (getD items i 0) ∷ []
 
 -- ONE ITEM
 done-told : (a : Emitting) (m : ℕ) → W.Done m ≡ writtenOf a → (cs : List Cell) × (a ≡ ok (cs, m))

@@ -11,7 +11,7 @@ ghost use Rattle.rules.specs.Views.{asStar};
 ghost use Rattle.rules.specs.Items.{plainStar};
 ghost use Rattle.ast.specs.Table.{statementRows, starredRows, tableSize, treeAt};
 ghost use Rattle.scope.specs.Scopes.{upTo};
-ghost use Rattle.build_projection.specs.Items.{starOf, entryItem, itemsAt, sought, single};
+ghost use Rattle.build_projection.specs.Items.{starOf, entryItem, itemOf, itemsAt, sought, single};
 ghost use Rattle.build_projection.specs.Steps.{ItemListed};
 ghost use Rattle.build_projection.specs.Contracts.{ItemsExpanded, ItemsBuilt};
 ghost use Rattle.sections.specs.Access.{itemKind, numbersAt};
@@ -76,6 +76,16 @@ fn plain_entry(cells: &[u32], parts: &[u32], k: u32) -> Star
         return Star::Missing;
     }
     star_at(cells, first_row(e))
+}
+
+// The star that item x is, where it has no alias.
+pub fn plain_item(cells: &[u32], parts: &[u32], x: u32) -> Star
+    ensures { λ s. ⌜ ((c q : Bytes) → starOf s ≡ plainStar (itemOf c q (now (cells .entry)) (now (parts .entry)) x ∷ [])) ⌝ }
+{
+    if x < STATEMENT_ROWS {
+        return plain_entry(cells, parts, x);
+    }
+    star_at(cells, x as usize)
 }
 
 // The first star that has no alias.

@@ -1,10 +1,8 @@
 // The items of a projection: their cells, and their parts of its node record (planner.rs, build_select).
 ghost use mathlib.Core.Path.{_≡_};
-ghost use mathlib.Core.List.{[], _∷_};
 ghost use Prim.Native.Nat.{_+_, _*_, _≤_};
 ghost use lib.ListN.{length, take};
 ghost use Rattle.rules.specs.Ast.{size};
-ghost use Rattle.rules.specs.Area.{optionSpan};
 ghost use Rattle.plan.specs.Cells.{Room};
 ghost use Rattle.plan.specs.Layout.{itemSize};
 ghost use Rattle.build_projection.specs.Items.{itemOf};
@@ -18,6 +16,7 @@ use sections::entry::ITEM;
 use sections::entry::entry_at;
 use sections::entry::first_row;
 use statement::access::name_start;
+use text::lengths::length_at;
 
 // The next cell and how many numbers of the nodes are in use; or a refusal's number and line.
 pub enum Pushed {
@@ -36,8 +35,8 @@ pub fn item_row(parts: &[u32], x: u32) -> usize
     x as usize
 }
 
-// The place of its alias, 0 0 for none.
-fn alias_address(parts: &[u32], x: u32) -> u32
+// The address of its alias, and how many bytes of it there are; 0 0 for none.
+pub fn alias_address(parts: &[u32], x: u32) -> u32
     ensures { λ r. ⌜ r ≡ aliasAddress (now (parts .entry)) x ⌝ }
 {
     if x < STATEMENT_ROWS {
@@ -47,12 +46,13 @@ fn alias_address(parts: &[u32], x: u32) -> u32
     0
 }
 
-fn alias_length(parts: &[u32], x: u32) -> u32
-    ensures { λ r. ⌜ r ≡ aliasLength (now (parts .entry)) x ⌝ }
+pub fn alias_length(catalog: &[u8], statement: &[u8], parts: &[u32], x: u32) -> u32
+    ensures { λ r. ⌜ r ≡ aliasLength (now (catalog .entry)) (now (statement .entry)) (now (parts .entry)) x ⌝ }
 {
     if x < STATEMENT_ROWS {
         let e = entry_at(parts, ITEM, x);
-        return e.length;
+        let a = name_start(e);
+        return length_at(catalog, statement, a, e.length);
     }
     0
 }
@@ -76,8 +76,6 @@ fn put_item<'a>(
 ) -> Pushed
     requires { ⌜ Room n (3 * size (itemOf (now catalog) (now statement) (now cells) (now parts) x .expr)) (now area) ⌝ }
     requires { ⌜ k + itemSize ≤ length (now nodes) ⌝ }
-    requires { ⌜ optionSpan (itemOf (now catalog) (now statement) (now cells) (now parts) x .alias)
-        ≡ aliasAddress (now parts) x ∷ aliasLength (now parts) x ∷ [] ⌝ }
     ensures { λ r. ⌜ ItemPut (now (catalog .entry)) (now (statement .entry)) (now (cells .entry)) (now (parts .entry))
         (take width (now (labels .entry))) (take width (now (matches .entry))) (take count (now (tables .entry)))
         x n (now (area .entry)) (now (area .exit)) k (now (nodes .entry)) (now (nodes .exit)) r ⌝ }
@@ -100,7 +98,7 @@ fn put_item<'a>(
         Written::Refused(y, l) => Pushed::Refused(y, l),
         Written::Done(m) => {
             let a = alias_address(parts, x);
-            let b = alias_length(parts, x);
+            let b = alias_length(catalog, statement, parts, x);
             let j = item(nodes, k, m - 1, a, b);
             Pushed::Done(m, j)
         }

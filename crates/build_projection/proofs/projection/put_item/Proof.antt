@@ -2,7 +2,7 @@
 use mathlib.Core.Path.{refl, sym, ap, _∙_}
 use native.Mathlib.Omega.{arith}
 use Rattle.build_projection.specs.Items.{itemOf}
-use Rattle.build_projection.specs.Aliases.{item-tree}
+use Rattle.build_projection.specs.Aliases.{item-tree, alias-span}
 use Rattle.build_projection.specs.Pushes.{put-refused, put-some, put-done}
 use borrow.Author.Needs.{needs}
 use Rattle.build_projection.proofs.projection.put_item.Statement.{statement}
@@ -68,7 +68,7 @@ same-length-3 c = search needs
 returns-2 : tie.Need-returns-2
 returns-2 c = put-done (c .before .before .before .before .before .before .before .before .before .before .before .build-expression .ensures) _ _ (c .before .before .before .before .before .before .before .before .before .before .before .before .before .item-row .ensures) _ (c .before .before .before .before .before .before .before .built2 .given .1)
     (c .before .before .item .ensures (itemOf (c .before .before .before .before .before .before .before .before .before .before .before .before .before .before .before .before .before .before .before .before .before .before .before .args .catalog .now) (c .before .before .before .before .before .before .before .before .before .before .before .before .before .before .before .before .before .before .before .before .before .before .before .args .statement .now) (c .before .before .before .before .before .before .before .before .before .before .before .before .before .before .before .before .before .before .before .before .before .before .before .args .cells .now) (c .before .before .before .before .before .before .before .before .before .before .before .before .before .before .before .before .before .before .before .before .before .before .before .args .parts .now) (c .before .before .before .before .before .before .before .before .before .before .before .before .before .before .before .before .before .before .before .before .before .before .before .args .x) .alias)
-    (rw (c .before .before .before .before .before .alias-address .ensures, c .before .before .before .before .alias-length .ensures) (c .before .before .before .before .before .before .before .before .before .before .before .before .before .before .before .before .before .before .before .before .before .before .before .pre .1 .1)))
+    (rw (c .before .before .before .before .before .alias-address .ensures, c .before .before .before .before .alias-length .ensures) (alias-span (c .before .before .before .before .before .before .before .before .before .before .before .before .before .before .before .before .before .before .before .before .before .before .before .args .catalog .now) (c .before .before .before .before .before .before .before .before .before .before .before .before .before .before .before .before .before .before .before .before .before .before .before .args .statement .now) (c .before .before .before .before .before .before .before .before .before .before .before .before .before .before .before .before .before .before .before .before .before .before .before .args .cells .now) (c .before .before .before .before .before .before .before .before .before .before .before .before .before .before .before .before .before .before .before .before .before .before .before .args .parts .now) (c .before .before .before .before .before .before .before .before .before .before .before .before .before .before .before .before .before .before .before .before .before .before .before .args .x))))
 
 pub put-item-spec : {M : Type 1} → statement M
 put-item-spec =

@@ -36,10 +36,7 @@ shared-slice-read-put-item c = search needs
 put-item-requires : tie.Need-put-item-requires Inv-loop μ-loop
 put-item-requires c κs = (
   room-here (c .before .before .before .before .loop .inv) (c .before .before .before .loop-test .taken),
-  (
-    space-here (c .before .before .before .before .loop .inv) (c .before .before .before .loop-test .taken),
-    c .before .before .before .before .before .before .before .before .before .before .before .before .before .before .before .pre .aliases (c .before .before .before .before .loop .i) (c .before .before .before .loop-test .taken),
-  ),
+  space-here (c .before .before .before .before .loop .inv) (c .before .before .before .loop-test .taken),
 )
 
 -- src/projection.rt:153:29

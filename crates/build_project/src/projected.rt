@@ -1,0 +1,71 @@
+// The scope of a projection's items (planner.rs, Scope::project).
+ghost use mathlib.Core.Path.{_≡_};
+ghost use mathlib.Core.Bool.{not};
+ghost use Prim.Native.Nat.{ℕ};
+ghost use lib.ListN.{take};
+ghost use Rattle.rules.specs.Lists.{isEmpty};
+ghost use Rattle.rules.specs.Ast.{Expr};
+ghost use Rattle.scope.specs.Scopes.{matchesOf};
+ghost use Rattle.build_project.specs.Ready.{ItemsReady};
+ghost use Rattle.build_project.specs.Projected.{ScopeProjected};
+use super::labels::item_labels;
+use super::labels::item_rows;
+use scope::COLUMNS;
+use scope::Scope;
+use scope::lookup::first_matches;
+
+// Whether something is matched to the first columns.
+fn is_matched(matches: &[u16], width: u32) -> bool
+    ensures { λ r. ⌜ ((e : ℕ → Expr) → r ≡ not (isEmpty (matchesOf e 0 (take width (now (matches .entry)))))) ⌝ }
+{
+    let ms = first_matches(matches, width as usize);
+    let mut i: usize = 0;
+    while i < ms.len() {
+        if ms[i] != 0 {
+            return true;
+        }
+        i += 1;
+    }
+    false
+}
+
+// The columns of the items over the same tables; over groups and aggregates, each matched to its expression.
+pub fn project_scope(
+    catalog: &[u8],
+    statement: &[u8],
+    cells: &[u32],
+    parts: &[u32],
+    items: &[u32],
+    scope: Scope,
+) -> Scope
+    requires { ⌜ ItemsReady (now catalog) (now statement) (now cells) (now parts) (now items) scope ⌝ }
+    ensures { λ r. ⌜ ScopeProjected (now (catalog .entry)) (now (statement .entry)) (now (cells .entry)) (now (parts .entry))
+        (now (items .entry)) scope r ⌝ }
+{
+    let mut labels = [0u32; COLUMNS];
+    item_labels(
+        catalog,
+        statement,
+        cells,
+        parts,
+        items,
+        &scope.labels,
+        &scope.matches,
+        scope.width,
+        &scope.tables,
+        scope.count,
+        &mut labels,
+    );
+    if is_matched(&scope.matches, scope.width) {
+        let mut rows = [0usize; COLUMNS];
+        item_rows(parts, items, &mut rows);
+        return scope.project_items(
+            catalog,
+            statement,
+            cells,
+            &labels[..items.len()],
+            &rows[..items.len()],
+        );
+    }
+    scope.project(&labels[..items.len()])
+}
