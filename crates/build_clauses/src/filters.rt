@@ -1,0 +1,175 @@
+// WHERE and HAVING: a filter behind the node before it.
+ghost use mathlib.Core.Path.{_≡_};
+ghost use mathlib.Core.Bool.{not};
+ghost use Prim.Native.Nat.{ℕ, _*_};
+ghost use lib.ListN.{take};
+ghost use Rattle.rules.specs.Lists.{isEmpty};
+ghost use Rattle.rules.specs.Ast.{Expr, size};
+ghost use Rattle.rules.specs.Sizes.{clauseSize};
+ghost use Rattle.ast.specs.Table.{treeAt};
+ghost use Rattle.scope.specs.Scopes.{matchesOf};
+ghost use Rattle.statement.specs.EntryAccess.{clauseOf};
+ghost use Rattle.plan.specs.Layout.{filterSize};
+ghost use Rattle.plan.specs.Cells.{Room};
+ghost use Rattle.build_clauses.specs.Follows.{Follows};
+ghost use Rattle.build_clauses.specs.Filters.{Filtered, WhereBuilt, HavingBuilt};
+use build_expression::build_expression;
+use plan::cells::Written;
+use plan::nodes::filter;
+use plan::refusals::HAVING_WITHOUT_AGGREGATE;
+use plan::steps::Step;
+use scope::lookup::first_matches;
+use statement::access::Clause;
+
+// Whether an expression is matched to one of the first columns.
+fn is_matched(matches: &[u16], width: u32) -> bool
+    ensures { λ r. ⌜ ((e : ℕ → Expr) → r ≡ not (isEmpty (matchesOf e 0 (take width (now (matches .entry)))))) ⌝ }
+{
+    let ms = first_matches(matches, width as usize);
+    let mut i: usize = 0;
+    while i < ms.len() {
+        if ms[i] != 0 {
+            return true;
+        }
+        i += 1;
+    }
+    false
+}
+
+// The rows for which the expression at row r holds.
+fn build_filter<'a>(
+    catalog: &[u8],
+    statement: &[u8],
+    cells: &[u32],
+    r: usize,
+    labels: &'a [u32],
+    matches: &'a [u16],
+    width: u32,
+    tables: &'a [u32],
+    count: u32,
+    area: &mut [u32],
+    n: u32,
+    nodes: &mut [u32],
+    m: u32,
+    k: usize,
+) -> Step
+    requires { ⌜ Room n (3 * size (treeAt (now catalog) (now statement) (now cells) r)) (now area) ⌝ }
+    requires { ⌜ Follows filterSize m k (now nodes) ⌝ }
+    ensures { λ x. ⌜ Filtered (now (catalog .entry)) (now (statement .entry)) (now (cells .entry))
+        (take width (now (labels .entry))) (take width (now (matches .entry))) (take count (now (tables .entry)))
+        r n m k (now (area .entry)) (now (nodes .entry)) (now (area .exit)) (now (nodes .exit)) x ⌝ }
+{
+    let built = build_expression(
+        catalog,
+        statement,
+        cells,
+        r,
+        labels,
+        matches,
+        width,
+        tables,
+        count,
+        area,
+        n,
+    );
+    match built {
+        Written::Refused(x, l) => Step::Refused(x, l),
+        Written::Done(p) => {
+            let j = filter(nodes, k, m - 1, p - 1);
+            Step::Done(p, m + 1, j)
+        }
+    }
+}
+
+// WHERE over FROM's scope.
+pub fn build_where<'a>(
+    catalog: &[u8],
+    statement: &[u8],
+    cells: &[u32],
+    clause: Clause,
+    labels: &'a [u32],
+    matches: &'a [u16],
+    width: u32,
+    tables: &'a [u32],
+    count: u32,
+    area: &mut [u32],
+    n: u32,
+    nodes: &mut [u32],
+    m: u32,
+    k: usize,
+) -> Step
+    requires { ⌜ Room n (3 * clauseSize (clauseOf (now catalog) (now statement) (now cells) clause)) (now area) ⌝ }
+    requires { ⌜ Follows filterSize m k (now nodes) ⌝ }
+    ensures { λ x. ⌜ WhereBuilt (now (catalog .entry)) (now (statement .entry)) (now (cells .entry)) clause
+        (take width (now (labels .entry))) (take width (now (matches .entry))) (take count (now (tables .entry)))
+        n m k (now (area .entry)) (now (nodes .entry)) (now (area .exit)) (now (nodes .exit)) x ⌝ }
+{
+    match clause {
+        Clause::Missing => Step::Done(n, m, k),
+        Clause::Stands(_, r) => build_filter(
+            catalog,
+            statement,
+            cells,
+            r,
+            labels,
+            matches,
+            width,
+            tables,
+            count,
+            area,
+            n,
+            nodes,
+            m,
+            k,
+        ),
+    }
+}
+
+// HAVING, which wants a group or an aggregate.
+pub fn build_having<'a>(
+    catalog: &[u8],
+    statement: &[u8],
+    cells: &[u32],
+    clause: Clause,
+    labels: &'a [u32],
+    matches: &'a [u16],
+    width: u32,
+    tables: &'a [u32],
+    count: u32,
+    area: &mut [u32],
+    n: u32,
+    nodes: &mut [u32],
+    m: u32,
+    k: usize,
+) -> Step
+    requires { ⌜ Room n (3 * clauseSize (clauseOf (now catalog) (now statement) (now cells) clause)) (now area) ⌝ }
+    requires { ⌜ Follows filterSize m k (now nodes) ⌝ }
+    ensures { λ x. ⌜ HavingBuilt (now (catalog .entry)) (now (statement .entry)) (now (cells .entry)) clause
+        (take width (now (labels .entry))) (take width (now (matches .entry))) (take count (now (tables .entry)))
+        n m k (now (area .entry)) (now (nodes .entry)) (now (area .exit)) (now (nodes .exit)) x ⌝ }
+{
+    match clause {
+        Clause::Missing => Step::Done(n, m, k),
+        Clause::Stands(line, r) => {
+            if !is_matched(matches, width) {
+                return Step::Refused(HAVING_WITHOUT_AGGREGATE, line);
+            }
+            build_filter(
+                catalog,
+                statement,
+                cells,
+                r,
+                labels,
+                matches,
+                width,
+                tables,
+                count,
+                area,
+                n,
+                nodes,
+                m,
+                k,
+            )
+        }
+    }
+}
