@@ -1,0 +1,10 @@
+pub mod Sizes
+pub mod History
+pub mod Rooms
+pub mod Held
+pub mod States
+pub mod Ends
+pub mod Later
+pub mod Groups
+pub mod Items
+pub mod Sources
