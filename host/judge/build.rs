@@ -1,4 +1,5 @@
-//! Lets the tests know what is at hand: the Rust planner's sources, the proved operators, the proved reading, the program.
+//! Lets the tests know what is at hand: the Rust planner's sources, the proved operators, the proved reading, the
+//! proved planner, the program.
 
 use std::env;
 use std::path::Path;
@@ -15,6 +16,7 @@ fn main() {
         ("planner", named("DEP_TOYDB_PLANNER_AVAILABLE")),
         ("operators", named("DEP_VALUE_HOST_AVAILABLE")),
         ("reading", named("DEP_READER_HOST_AVAILABLE")),
+        ("planning", named("DEP_PLANNER_AVAILABLE")),
         ("program", runs && Path::new(PROGRAM).is_file()),
     ] {
         println!("cargo::rustc-check-cfg=cfg({cfg})");

@@ -1,36 +1,57 @@
-//! Command-line arguments: words, and options `--name NUMBER`.
+//! Command-line arguments: words, options `--name NUMBER` and options `--name WORD,WORD..`.
 
 use std::collections::BTreeMap;
 
 pub struct Arguments {
     words: Vec<String>,
-    options: BTreeMap<String, u64>,
+    numbers: BTreeMap<String, u64>,
+    lists: BTreeMap<String, Vec<String>>,
 }
 
 impl Arguments {
     /// Takes a command's arguments apart. Options other than the allowed ones are refused.
     pub fn new(arguments: Vec<String>, allowed: &[&str]) -> Result<Self, String> {
-        let mut words = Vec::new();
-        let mut options = BTreeMap::new();
+        Arguments::with_lists(arguments, allowed, &[])
+    }
+
+    /// Takes a command's arguments apart, where some options have numbers and others lists of words.
+    pub fn with_lists(arguments: Vec<String>, numbers: &[&str], lists: &[&str]) -> Result<Self, String> {
+        let mut taken = Arguments { words: Vec::new(), numbers: BTreeMap::new(), lists: BTreeMap::new() };
         let mut arguments = arguments.into_iter();
         while let Some(argument) = arguments.next() {
             let Some(name) = argument.strip_prefix("--") else {
-                words.push(argument);
+                taken.words.push(argument);
                 continue;
             };
-            if !allowed.contains(&name) {
+            let wanted = if lists.contains(&name) { "words" } else { "a number" };
+            if !lists.contains(&name) && !numbers.contains(&name) {
                 return Err(format!("no option --{name} here"));
             }
-            let value = arguments.next().ok_or(format!("--{name} wants a number"))?;
-            let number = value.parse().map_err(|_| format!("--{name} wants a number, not {value:?}"))?;
-            options.insert(name.to_string(), number);
+            let value = arguments.next().ok_or(format!("--{name} wants {wanted}"))?;
+            if lists.contains(&name) {
+                taken.lists.insert(name.to_string(), value.split(',').map(str::to_string).collect());
+            } else {
+                let number = value.parse().map_err(|_| format!("--{name} wants {wanted}, not {value:?}"))?;
+                taken.numbers.insert(name.to_string(), number);
+            }
         }
-        Ok(Arguments { words, options })
+        Ok(taken)
     }
 
     /// An option's number, or what it is where it is not given.
     pub fn option(&self, name: &str, otherwise: u64) -> u64 {
-        self.options.get(name).copied().unwrap_or(otherwise)
+        self.numbers.get(name).copied().unwrap_or(otherwise)
+    }
+
+    /// An option's words, each of which must be a known one.
+    pub fn list(&self, name: &str, known: &[&'static str]) -> Result<Option<Vec<&'static str>>, String> {
+        let Some(words) = self.lists.get(name) else {
+            return Ok(None);
+        };
+        let find = |word: &String| known.iter().copied().find(|known| known == word);
+        let named =
+            |word| find(word).ok_or(format!("--{name} wants words of {}, not {word:?}", known.join(",")));
+        words.iter().map(named).collect::<Result<_, _>>().map(Some)
     }
 
     /// The words, which must be as many as are named.

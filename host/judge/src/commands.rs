@@ -3,10 +3,11 @@
 use std::fs;
 use std::path::{Path, PathBuf};
 
-use judge::compare::{Tally, Verdict, compare};
+use judge::compare::{STATEMENTS, Tally, Verdict, compare, compare_exactly};
 use judge::folder;
-use judge::generate::{Case, case, damaged, limits, pairs};
+use judge::generate::{Case, limits, pairs};
 use judge::list::{self, Answered};
+use judge::planning;
 use judge::predict::predict;
 use judge::program::Program;
 use judge::reading;
@@ -15,6 +16,7 @@ use judge::shrink::shrink;
 use judge::values;
 
 use crate::arguments::Arguments;
+use crate::numbers::Numbers;
 
 const USAGE: &str = "commands:
   compare [--seed S] [--first N] [--count N]             predictions with the Rust planner
@@ -27,6 +29,8 @@ const USAGE: &str = "commands:
   replay FILE                                            the fixed list with the Rust planner
   values [--seed S] [--first N] [--count N]              the proved operators with the Rust's, on pairs of values
   reading [--seed S] [--first N] [--count N]             the proved reading with the host's own, on damaged texts
+  planned [--seed S] [--first N] [--count N] [--statements WORD,WORD..]    the proved planner with both
+  damaged [--seed S] [--first N] [--count N]             the proved planner with both, on damaged texts
   bench [--count N]                                      the proved reading beside splitting the same texts";
 
 pub fn run(mut arguments: Vec<String>) -> Result<bool, String> {
@@ -39,7 +43,7 @@ pub fn run(mut arguments: Vec<String>) -> Result<bool, String> {
             let arguments = Arguments::new(arguments, &["seed", "first", "count"])?;
             let numbers = Numbers::of(&arguments, 100_000);
             let [] = arguments.words([])?;
-            compare_predictions(numbers)
+            Ok(compare_predictions(numbers))
         }
         "cases" => {
             let arguments = Arguments::new(arguments, &["seed", "first", "count", "bytes"])?;
@@ -90,6 +94,22 @@ pub fn run(mut arguments: Vec<String>) -> Result<bool, String> {
             let [] = arguments.words([])?;
             Ok(compare_reading(numbers))
         }
+        "planned" => {
+            let arguments = Arguments::with_lists(arguments, &["seed", "first", "count"], &["statements"])?;
+            let numbers = Numbers::of(&arguments, 100_000);
+            let statements = arguments.list("statements", &STATEMENTS)?;
+            let [] = arguments.words([])?;
+            match statements {
+                Some(statements) => compare_plans(numbers.seed, numbers.cases_of(statements)),
+                None => compare_plans(numbers.seed, numbers.cases()),
+            }
+        }
+        "damaged" => {
+            let arguments = Arguments::new(arguments, &["seed", "first", "count"])?;
+            let numbers = Numbers::of(&arguments, 100_000);
+            let [] = arguments.words([])?;
+            compare_plans(numbers.seed, numbers.damaged_cases())
+        }
         "bench" => {
             let arguments = Arguments::new(arguments, &["count"])?;
             let count = arguments.option("count", 2_000);
@@ -97,32 +117,6 @@ pub fn run(mut arguments: Vec<String>) -> Result<bool, String> {
             time_reading(u32::try_from(count).map_err(|_| format!("--count {count} is too large"))?)
         }
         _ => Err(format!("no command {command}\n{USAGE}")),
-    }
-}
-
-/// A run of case numbers under a seed.
-#[derive(Clone, Copy)]
-struct Numbers {
-    seed: u64,
-    first: u64,
-    count: u64,
-}
-
-impl Numbers {
-    fn of(arguments: &Arguments, count: u64) -> Self {
-        Numbers {
-            seed: arguments.option("seed", 1),
-            first: arguments.option("first", 0),
-            count: arguments.option("count", count),
-        }
-    }
-
-    fn all(self) -> std::ops::Range<u64> {
-        self.first..self.first.saturating_add(self.count)
-    }
-
-    fn cases(self) -> impl Iterator<Item = (u64, Case)> {
-        self.all().map(move |number| (number, case(self.seed, number)))
     }
 }
 
@@ -146,20 +140,32 @@ fn show(name: &str, case: &Case, message: &str) {
 /// How many of the cases that differ are shown.
 const SHOWN: usize = 10;
 
-fn compare_predictions(numbers: Numbers) -> Result<bool, String> {
-    let verdict = |case: &Case| compare(case, &predict(&case.catalog, &case.statement).listing);
+/// Comes to a verdict on each case, and shows those that differ, made small.
+fn judge_cases(cases: impl Iterator<Item = (u64, Case)>, verdict: impl Fn(u64, &Case) -> Verdict) -> bool {
     let mut tally = Tally::default();
-    for (number, case) in numbers.cases() {
-        let found = verdict(&case);
+    for (number, case) in cases {
+        let found = verdict(number, &case);
         tally.add(&found);
         if matches!(found, Verdict::Differ(_)) && tally.differ <= SHOWN {
-            let smallest = shrink(&case, |case| matches!(verdict(case), Verdict::Differ(_)));
-            if let Verdict::Differ(message) = verdict(&smallest) {
+            let smallest = shrink(&case, |case| matches!(verdict(number, case), Verdict::Differ(_)));
+            if let Verdict::Differ(message) = verdict(number, &smallest) {
                 show(&format!("case {number}, made small,"), &smallest, &message);
             }
         }
     }
-    Ok(report(&tally))
+    report(&tally)
+}
+
+fn compare_predictions(numbers: Numbers) -> bool {
+    judge_cases(numbers.cases(), |_, case| compare(case, &predict(&case.catalog, &case.statement).listing))
+}
+
+/// Judges what the planner makes of each case.
+fn compare_plans(seed: u64, cases: impl Iterator<Item = (u64, Case)>) -> Result<bool, String> {
+    if !planner::AVAILABLE {
+        return Err("`rt staticlib planner` was not run".to_string());
+    }
+    Ok(judge_cases(cases, |number, case| planning::compare(case, seed, number)))
 }
 
 fn make_folder(folder: &Path) -> Result<(), String> {
@@ -209,25 +215,11 @@ fn write_sample(folder: &Path, seed: u64, each: usize) -> Result<bool, String> {
     Ok(true)
 }
 
-/// Compares what was printed of a case with the prediction, byte by byte, and with the Rust planner.
-fn judge(case: &Case, printed: &[u8]) -> Verdict {
-    let expected = predict(&case.catalog, &case.statement).listing;
-    match compare(case, printed) {
-        Verdict::Differ(message) => Verdict::Differ(message),
-        _ if expected != printed => Verdict::Differ(format!(
-            "printed {}\n   predicted {}",
-            printed.escape_ascii(),
-            expected.escape_ascii()
-        )),
-        verdict => verdict,
-    }
-}
-
 /// Judges printed answers and shows those that differ.
 fn judge_all<'a>(printed: impl Iterator<Item = (String, &'a Case, &'a [u8])>) -> Result<bool, String> {
     let mut tally = Tally::default();
     for (name, case, printed) in printed {
-        let verdict = judge(case, printed);
+        let verdict = compare_exactly(case, printed);
         tally.add(&verdict);
         if let Verdict::Differ(message) = verdict
             && tally.differ <= SHOWN
@@ -267,7 +259,7 @@ fn write_list(folder: &Path, file: &Path) -> Result<bool, String> {
     let mut answers = Vec::new();
     for filed in folder::read(folder)? {
         let listing = filed.listing.ok_or(format!("case {} has no listing", filed.number))?;
-        if let Verdict::Differ(message) = judge(&filed.case, &listing) {
+        if let Verdict::Differ(message) = compare_exactly(&filed.case, &listing) {
             show(&format!("case {}", filed.number), &filed.case, &message);
             return Ok(false);
         }
@@ -308,9 +300,8 @@ fn compare_values(numbers: Numbers) -> bool {
 fn compare_reading(numbers: Numbers) -> bool {
     let mut reader = reader::Reader::default();
     let mut tally = reading::Tally::default();
-    for number in numbers.all() {
-        let verdict = reading::compare(&mut reader, &damaged(numbers.seed, number));
-        tally.add(&format!("damaged case {number}"), verdict);
+    for (number, case) in numbers.damaged_cases() {
+        tally.add(&format!("damaged case {number}"), reading::compare(&mut reader, &case));
     }
     println!("{tally}");
     tally.shown.iter().for_each(|message| println!("differs: {message}"));

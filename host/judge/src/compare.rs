@@ -8,6 +8,7 @@ use texts::{Expr, ExprKind, Operator, Refusal, Statement, Texts, read};
 
 use crate::generate::Case;
 use crate::listing::{self, Printed};
+use crate::predict::predict;
 
 /// What a comparison comes to.
 #[derive(Clone, Debug, PartialEq)]
@@ -18,6 +19,9 @@ pub enum Verdict {
     Apart(Kind, Reason),
     Differ(String),
 }
+
+/// The words of the statements that are planned.
+pub const STATEMENTS: [&str; 6] = ["select", "create", "drop", "delete", "insert", "update"];
 
 /// What was printed: a plan of a kind of statement, or a refusal by number.
 #[derive(Clone, Copy, Debug, PartialEq, Eq, PartialOrd, Ord)]
@@ -43,7 +47,6 @@ pub enum Reason {
 impl Kind {
     /// The kind of a printed answer, by its first line.
     fn of(printed: &[u8]) -> Option<Kind> {
-        const STATEMENTS: [&str; 6] = ["select", "create", "drop", "delete", "insert", "update"];
         let head = printed.split(|&b| b == b'\n').next()?;
         let mut fields = head.split(|&b| b == b'\t');
         let (word, kind) = (fields.next()?, std::str::from_utf8(fields.next()?).ok()?);
@@ -73,6 +76,20 @@ impl fmt::Display for Reason {
             Reason::TooLarge => "the Rust's tree is too large",
             Reason::NoSources => "no sources",
         })
+    }
+}
+
+/// Compares what was printed of a case with the prediction, byte by byte, and with the Rust planner's answer.
+pub fn compare_exactly(case: &Case, printed: &[u8]) -> Verdict {
+    let expected = predict(&case.catalog, &case.statement).listing;
+    match compare(case, printed) {
+        Verdict::Differ(message) => Verdict::Differ(message),
+        _ if expected != printed => Verdict::Differ(format!(
+            "printed {}\n   predicted {}",
+            printed.escape_ascii(),
+            expected.escape_ascii()
+        )),
+        verdict => verdict,
     }
 }
 
@@ -165,6 +182,13 @@ impl Tally {
     /// The cases that agree.
     pub fn agreed(&self) -> usize {
         self.agree.values().sum()
+    }
+
+    /// The cases of a kind that do not differ.
+    pub fn count(&self, kind: Kind) -> usize {
+        let apart =
+            self.apart.iter().filter(|((of, _), _)| *of == kind).map(|(_, count)| count).sum::<usize>();
+        self.agree.get(&kind).copied().unwrap_or_default() + apart
     }
 }
 

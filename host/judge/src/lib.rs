@@ -5,6 +5,7 @@ pub mod folder;
 pub mod generate;
 pub mod list;
 pub mod listing;
+pub mod planning;
 pub mod predict;
 pub mod program;
 pub mod random;

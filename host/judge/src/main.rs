@@ -2,6 +2,7 @@
 
 mod arguments;
 mod commands;
+mod numbers;
 
 use std::process::ExitCode;
 

@@ -25,6 +25,13 @@ pub struct Case {
     pub statement: Vec<u8>,
 }
 
+impl Case {
+    /// The statement's first word, which is that of its kind.
+    pub fn word(&self) -> &[u8] {
+        self.statement.split(|&b| b == b'\t' || b == b'\n').next().unwrap_or_default()
+    }
+}
+
 /// The case of a number under a seed.
 pub fn case(seed: u64, number: u64) -> Case {
     let mut maker = Maker::new(Random::new(seed, number));
