@@ -1,3 +1,4 @@
 pub mod Outcomes
 pub mod Kinds
 pub mod Reads
+pub mod Demands
