@@ -1,8 +1,8 @@
 // The hidden columns of a SELECT (planner.rs, build_select_hidden): what HAVING and ORDER BY call for and the items lack.
-pub mod walk; // walk.rt: the rows that a walk visits
-pub mod later; // later.rt: those of HAVING and ORDER BY
-pub mod lacking; // lacking.rt: the column that a row calls for
-pub mod hide; // hide.rt: the columns of all rows
+mod walk; // walk.rt: the rows that a walk visits
+mod later; // later.rt: those of HAVING and ORDER BY
+mod lacking; // lacking.rt: the column that a row calls for
+mod hide; // hide.rt: the columns of all rows
 
 ghost use lib.ListN.{take};
 ghost use Rattle.build_hidden.specs.Contracts.{Hideable, HiddenBuilt};

@@ -272,7 +272,7 @@ module _ {c q : Bytes} {cells parts items : List ℕ} {scope : Scope} {n m k : �
           matched = grouped-matched;
           few = projection-few;
           table = h .read .table;
-          aliases = aliases-fit c q (h .select) (h .past .from .node) itemsHere (h .written .short) (h .written .parts)
+          aliases = aliases-fit c q (h .select) (h .past .from .node) itemsHere (h .within .short) (h .within .parts)
               (h .past .items);
         };
         later = λ gs. omega (arith, ap (total size) (read-later (h .read) gs), rooms.later-few after);

@@ -77,7 +77,7 @@ module _ {c q : Bytes} {cells parts : List ℕ} {scope : Scope} {n m k : ℕ} {a
   ready : Ready c q cells parts (tableNumbers scope) (labelsOf scope)
   unfolding selectAt selectOf
   ready = record {
-    sections = h .stay;
+    sections = λ x e l kind o. h .stay .same x e c kind o;
     few = omega (arith, map-length toItem (sectionAt c q cells parts itemKind), h .past .limited .items);
     qualified = h .qualified;
   }
@@ -119,7 +119,7 @@ module _ {c q : Bytes} {cells parts : List ℕ} {scope : Scope} {n m k : ℕ} {a
             ∙ sym (plain-scope (treeAt c q cells′) c q scope (h .plain));
       };
       plain = h .plain;
-      written = h .written;
+      within = h .within;
       held = h .held;
     }
 
@@ -176,7 +176,7 @@ module _ {c q : Bytes} {cells parts items : List ℕ} {scope : Scope} {n m k : �
         read = h .read;
         scoped = h .scoped;
         plain = h .plain;
-        written = h .written;
+        within = h .within;
         held = on .held;
       }
 

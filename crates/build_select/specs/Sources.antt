@@ -18,6 +18,7 @@ use Rattle.scope.specs.Scopes.{scopeOf}
 use Rattle.from.specs.Layout.{fromsAt}
 use Rattle.statement.specs.Layout.{selectOf}
 use Rattle.statement.specs.Access.{fromRows, selectAt}
+use Rattle.statement.specs.Stays.{SectionsStay}
 use Rattle.plan.specs.Steps.{Refuses, refuses-on}
 use Rattle.plan.specs.declared.cells.Written.{Written}
 use Rattle.plan.specs.declared.cells.Written.the-variants as W
@@ -26,14 +27,14 @@ use Rattle.build_from.specs.declared.Source.{Source}
 use Rattle.build_statement.specs.Plans.{Plans}
 use Rattle.build_statement.specs.Kinds.{Free}
 use Rattle.build_select.specs.Held.{plans-refused, plans-after}
-use Rattle.build_select.specs.States.{SectionsStay, FromState}
+use Rattle.build_select.specs.States.{FromState}
 
 -- the numbers stand for a catalog and a SELECT that were read from the texts c and q, whose sections stay as they are when
 -- rows behind the statement's are written, and there is room for a plan
 pub record SelectReady (c q : Bytes) (tables cells froms parts area nodes : List ℕ) : Type 0 where
   pub within : TextsWithin c q (catalogAt c q tables) (Ast.select (selectAt c q cells froms parts))
   pub table : length cells ≡ tableSize
-  pub stay : SectionsStay c q cells parts
+  pub stay : SectionsStay q cells parts
   pub free : Free area nodes
 
 module _ {c q : Bytes} {tables cells froms parts area nodes : List ℕ}
@@ -69,7 +70,7 @@ module _ {c q : Bytes} {tables cells froms parts area nodes : List ℕ}
             plain = a .plain;
             labels = a .labelled;
             qualified = a .qualified;
-            written = record { short = h .within .shortStatement; parts = select-parts (h .within) };
+            within = record { short = h .within .shortStatement; parts = select-parts (h .within) };
             table = h .table;
             stay = h .stay;
             held = record {

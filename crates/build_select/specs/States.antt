@@ -30,6 +30,7 @@ use Rattle.sections.specs.Layout.{sectionAt}
 use Rattle.sections.specs.Access.{itemKind, whereKind, groupKind, havingKind, orderKind, offsetKind, limitKind}
 use Rattle.statement.specs.Layout.{selectOf, mapEntries, toItem, toGroup, toKey, toClause}
 use Rattle.statement.specs.Access.{selectAt}
+use Rattle.statement.specs.Stays.{SectionsStay}
 use Rattle.statement.specs.EntryAccess.{clauseAt, clauseOf, clause-is}
 use Rattle.statement.specs.declared.access.Clause.{Clause}
 use Rattle.build_projection.specs.Items.{itemOf}
@@ -52,28 +53,23 @@ pub clause-read : (c q : Bytes) (cells parts : List ℕ) (kind : ℕ) {w : Claus
     → w ≡ clauseAt parts kind → toClause (sectionAt c q cells parts kind) ≡ clauseOf c q cells w
 clause-read c q cells parts kind {w} l e = clause-is parts kind c q cells (omega (arith, l)) w e
 
--- rows behind the statement's change none of its sections
-abbrev pub SectionsStay : Bytes → Bytes → List ℕ → List ℕ → Type 0
-SectionsStay c q cells parts = (x : List ℕ) → Kept 0 (rowSize * statementRows) cells x → length x ≡ tableSize
-    → (kind : ℕ) → kind ≤ limitKind → sectionAt c q x parts kind ≡ sectionAt c q cells parts kind
-
 -- the SELECT as it was read, by a table in which rows behind the statement's were written
-pub read-kept : {c q : Bytes} {cells parts : List ℕ} (froms : List ℕ) {x : List ℕ} → SectionsStay c q cells parts
+pub read-kept : {c q : Bytes} {cells parts : List ℕ} (froms : List ℕ) {x : List ℕ} → SectionsStay q cells parts
     → Kept 0 (rowSize * statementRows) cells x → length x ≡ tableSize → Read c q x parts (selectAt c q cells froms parts)
 unfolding selectAt selectOf
-read-kept froms {x} s k l = record {
+read-kept {c} froms {x} s k l = record {
   table = l;
-  items = ap (mapEntries toItem) (sym (s x k l itemKind (omega arith)));
-  filter = ap toClause (sym (s x k l whereKind (omega arith)));
-  group = ap (mapEntries toGroup) (sym (s x k l groupKind (omega arith)));
-  having = ap toClause (sym (s x k l havingKind (omega arith)));
-  order = ap (mapEntries toKey) (sym (s x k l orderKind (omega arith)));
-  offset = ap toClause (sym (s x k l offsetKind (omega arith)));
-  limit = ap toClause (sym (s x k l limitKind (omega arith)));
+  items = ap (mapEntries toItem) (sym (s .same x k c itemKind (omega arith)));
+  filter = ap toClause (sym (s .same x k c whereKind (omega arith)));
+  group = ap (mapEntries toGroup) (sym (s .same x k c groupKind (omega arith)));
+  having = ap toClause (sym (s .same x k c havingKind (omega arith)));
+  order = ap (mapEntries toKey) (sym (s .same x k c orderKind (omega arith)));
+  offset = ap toClause (sym (s .same x k c offsetKind (omega arith)));
+  limit = ap toClause (sym (s .same x k c limitKind (omega arith)));
 }
 
 -- the SELECT d was read from the text q
-pub record Written (c q : Bytes) (d : Select) : Type 0 where
+pub record SelectWithin (c q : Bytes) (d : Select) : Type 0 where
   pub short : length q ≤ mostBytes
   pub parts : SelectHas (ExprWithin c q) (StatementName c q) d
 
@@ -94,9 +90,9 @@ pub record FromState (c q : Bytes) (cells parts : List ℕ) (scope : Scope) (n m
   pub plain : Plain scope
   pub labels : P.labels (stage .node) ≡ columnsOf c q (tableNumbers scope) (labelsOf scope)
   pub qualified : All IsQualified (columnsOf c q (tableNumbers scope) (labelsOf scope))
-  pub written : Written c q (selectAt c q cells froms parts)
+  pub within : SelectWithin c q (selectAt c q cells froms parts)
   pub table : length cells ≡ tableSize
-  pub stay : SectionsStay c q cells parts
+  pub stay : SectionsStay q cells parts
   pub held : Held (stage .node) n m k area nodes
 
 -- the items, by the numbers items
@@ -110,7 +106,7 @@ pub record ItemsState (c q : Bytes) (cells parts items : List ℕ) (scope : Scop
   pub read : Read c q cells parts select
   pub scoped : Scoped c q cells (stage .scope) scope
   pub plain : Plain scope
-  pub written : Written c q select
+  pub within : SelectWithin c q select
   pub held : Held (stage .node) n m k area nodes
 
 -- WHERE: the numbers items stand for the SELECT's items
@@ -123,7 +119,7 @@ pub record WhereState (c q : Bytes) (cells parts items : List ℕ) (scope : Scop
   pub read : Read c q cells parts select
   pub scoped : Scoped c q cells (stage .scope) scope
   pub plain : Plain scope
-  pub written : Written c q select
+  pub within : SelectWithin c q select
   pub held : Held (stage .node) n m k area nodes
 
 -- the projection

@@ -14,6 +14,7 @@ use Rattle.ast.specs.Table.{tableSize}
 use Rattle.schema.specs.Layout.{catalogAt}
 use Rattle.statement.specs.Layout.{statementAt}
 use Rattle.statement.specs.Access.{kindNumber, lineAt, kindOf, selectAt, statementOf, statement-kind}
+use Rattle.statement.specs.Stays.{SectionsStay}
 use Rattle.statement.specs.declared.access.Kind.the-variants as K
 use Rattle.plan.specs.declared.cells.Written.{Written}
 use Rattle.plan.specs.declared.cells.Written.the-variants as W
@@ -21,13 +22,12 @@ use Rattle.build_statement.specs.Plans.{Ready, Plans}
 use Rattle.build_statement.specs.Kinds.{Free}
 use Rattle.build_statement.specs.Ends.{not-planned}
 use Rattle.build_select.specs.Held.{plans-after}
-use Rattle.build_select.specs.States.{SectionsStay}
 use Rattle.build_select.specs.Sources.{SelectReady}
 
 -- the numbers stand for a catalog and a statement that were read from the texts c and q
 pub record StatementReady (c q : Bytes) (tables cells froms parts : List ℕ) : Type 0 where
   pub within : TextsWithin c q (catalogAt c q tables) (statementAt c q cells froms parts)
-  pub stay : K.Select ≡ kindOf (kindNumber parts) → SectionsStay c q cells parts
+  pub stay : K.Select ≡ kindOf (kindNumber parts) → SectionsStay q cells parts
 
 -- with room for a plan
 pub ready : {c q : Bytes} {tables cells froms parts area nodes : List ℕ} → StatementReady c q tables cells froms parts

@@ -1,6 +1,6 @@
 -- What reading both texts hands on: where they are accepted, the answer, what the slices stand for and all that holds
 -- of it; where they are refused, the refusal.
-use Prim.Native.Nat.{ℕ, _*_, _≤_}
+use Prim.Native.Nat.{ℕ, _≤_}
 use native.Mathlib.Omega.{arith}
 use mathlib.Core.Path.{_≡_, refl}
 use mathlib.Core.Bool.{Bool, true, false}
@@ -20,12 +20,9 @@ use Rattle.rules.specs.ReadCatalog.{readCatalog}
 use Rattle.rules.specs.ReadStatement.{readStatement}
 use Rattle.claims.specs.Answers.{Ensures, known, ensured}
 use Rattle.claims.specs.Within.{TextsWithin, texts-within}
-use Rattle.numbers.specs.Kept.{Kept}
-use Rattle.ast.specs.Table.{rowSize, statementRows, tableSize}
 use Rattle.schema.specs.Layout.{catalogAt}
-use Rattle.sections.specs.Layout.{sectionAt}
-use Rattle.sections.specs.Access.{limitKind}
 use Rattle.statement.specs.Layout.{statementAt}
+use Rattle.statement.specs.Stays.{SectionsStay}
 use Rattle.statement.specs.Access as access
 use Rattle.statement.specs.declared.access.Kind.the-variants as K
 use Rattle.reader.specs.Texts.{kindOf, notOther, bothOf, readTexts}
@@ -125,10 +122,8 @@ module _ {c q : Bytes} {tables cells froms parts : List ℕ} where
 
   -- what is stored behind the rows of a SELECT changes none of its sections
   pub select-stays : {k n m : ℕ} → TextsRead c q tables cells froms parts (T.Read k n m)
-      → K.Select ≡ access.kindOf (access.kindNumber parts)
-      → (x : List ℕ) → Kept 0 (rowSize * statementRows) cells x → length x ≡ tableSize
-      → (kind : ℕ) → kind ≤ limitKind → sectionAt c q x parts kind ≡ sectionAt c q cells parts kind
-  select-stays h e x g l kind o = h .stays _ (texts-accepted h .read) e .same x g c kind o
+      → K.Select ≡ access.kindOf (access.kindNumber parts) → SectionsStay q cells parts
+  select-stays h e = h .stays _ (texts-accepted h .read) e
 
   pub texts-refused : {k t l : ℕ} → TextsRead c q tables cells froms parts (T.Refused k t l) → TextsRefused c q k t l
   unfolding textsOf
