@@ -16,6 +16,8 @@ use ast::row;
 use ast::rows;
 use ast::walk;
 use build_expression::build_expression;
+use numbers::refusals::ARGUMENT_COUNT;
+use numbers::refusals::NESTED_AGGREGATE;
 use plan::cells;
 use plan::cells::Written;
 
@@ -28,11 +30,6 @@ const BOOL: u32 = 2;
 
 // The number of `count` in the plan.
 const COUNT: u32 = 2;
-
-// Document 01's numbers.
-const ARGUMENT_COUNT: u32 = 14;
-
-const NESTED_AGGREGATE: u32 = 15;
 
 // Which aggregate the record at row r calls, if any.
 pub fn called(catalog: &[u8], statement: &[u8], table: &[u32], r: usize) -> Named

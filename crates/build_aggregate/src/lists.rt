@@ -16,12 +16,10 @@ use crate::function::code;
 use ast::aggregates::Named;
 use ast::row;
 use build_expression::build_expression;
+use numbers::refusals::UNKNOWN_FUNCTION;
 use plan::cells::Written;
 use plan::parts::function;
 use plan::pushes::push;
-
-// Document 01's number for a call of what is not an aggregate.
-const UNKNOWN_FUNCTION: u32 = 13;
 
 // How many numbers a function has in the record.
 pub const FUNCTION_SIZE: usize = 2;

@@ -13,14 +13,12 @@ use crate::lists::FUNCTION_SIZE;
 use crate::lists::build_functions;
 use crate::lists::build_groups;
 use ast::row;
+use numbers::refusals::LIMIT_PASSED;
 use plan::cells::Written;
 use plan::parts::begin_aggregate;
 use plan::parts::end;
 use plan::parts::end_groups;
 use scope::COLUMNS;
-
-// Document 01's number for more than the most columns.
-const LIMIT_PASSED: u32 = 3;
 
 // The i-th of the groups' and the functions' rows.
 fn row_at(groups: &[usize], functions: &[usize], i: usize) -> usize

@@ -6,10 +6,10 @@ use expression::constants::build_constant_value;
 use expression::number;
 use expression::planned::Natural;
 use expression::planned::to_natural;
+use numbers::refusals::INVALID_LIMIT;
+use numbers::refusals::INVALID_OFFSET;
 use plan::nodes::limit;
 use plan::nodes::offset;
-use plan::refusals::INVALID_LIMIT;
-use plan::refusals::INVALID_OFFSET;
 use plan::steps::Step;
 use statement::access::Clause;
 

@@ -20,6 +20,8 @@ use crate::position::Position;
 use crate::position::position_of;
 use ast::row;
 use ast::row::Kind;
+use numbers::refusals::UNKNOWN_FUNCTION;
+use numbers::refusals::UNSUPPORTED_STAR;
 use plan::cells;
 use plan::cells::Written;
 use scope::lookup::Found;
@@ -28,11 +30,6 @@ use scope::lookup::lookup;
 use scope::matches::Matched;
 use scope::matches::lookup_aggregate;
 use text::places::holds_at;
-
-// Document 01's numbers.
-const UNSUPPORTED_STAR: u32 = 12;
-
-const UNKNOWN_FUNCTION: u32 = 13;
 
 // The code of `sqrt`.
 const SQRT: u32 = 12;

@@ -10,11 +10,9 @@ ghost use Rattle.plan.specs.Cells.{Room};
 ghost use Rattle.plan.specs.Emits.{Emits};
 ghost use Rattle.build_expression.specs.Rows.{unaryStep, isStep, binaryStep};
 use ast::row;
+use numbers::refusals::INVALID_IS;
 use plan::cells;
 use plan::cells::Written;
-
-// Document 01's number for `is` with neither a null nor a NaN.
-const INVALID_IS: u32 = 29;
 
 // A unary operator by its code, where m is the next cell.
 pub fn unary(area: &mut [u32], m: u32, code: u32) -> Written

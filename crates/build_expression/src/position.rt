@@ -3,18 +3,12 @@ ghost use mathlib.Core.Path.{_≡_};
 ghost use Rattle.rules.specs.BuildExpression as rules;
 ghost use Rattle.scope.specs.Lookup.{foundOf};
 ghost use Rattle.build_expression.specs.Positions.{positionOf};
+use numbers::refusals::AMBIGUOUS_COLUMN;
+use numbers::refusals::CONSTANT_ONLY;
+use numbers::refusals::NOT_AGGREGATED;
+use numbers::refusals::UNKNOWN_COLUMN;
+use numbers::refusals::UNKNOWN_QUALIFIER;
 use scope::lookup::Found;
-
-// Document 01's numbers.
-const UNKNOWN_QUALIFIER: u32 = 7;
-
-const UNKNOWN_COLUMN: u32 = 8;
-
-const AMBIGUOUS_COLUMN: u32 = 9;
-
-const CONSTANT_ONLY: u32 = 10;
-
-const NOT_AGGREGATED: u32 = 11;
 
 // A column's position; or document 01's number of a refusal, and its line.
 pub enum Position {

@@ -1,12 +1,10 @@
 // The scopes of a join's sides, merged.
 ghost use Rattle.build_from.specs.Merges.{TwoScopes, Merges};
+use numbers::refusals::DUPLICATE_TABLE;
+use numbers::refusals::LIMIT_PASSED;
 use scope::Scope;
 use scope::merging::Merging;
 use scope::merging::may_merge;
-
-const LIMIT_PASSED: u32 = 3;
-
-const DUPLICATE_TABLE: u32 = 6;
 
 // The scope of both, or document 01's number, which is 0 where they are merged.
 pub struct Both {

@@ -11,13 +11,12 @@ ghost use Rattle.build_from.specs.Sources.{ItemRoom, Builds};
 ghost use Rattle.build_from.specs.Tables.{tableRow, FromNamed, Scanned};
 use crate::Source;
 use from::row;
+use numbers::refusals::UNKNOWN_TABLE;
 use plan::nodes;
 use schema::Found;
 use schema::get_table;
 use scope::Scope;
 use text::lengths::length_at;
-
-const UNKNOWN_TABLE: u32 = 5;
 
 // The scope of the catalog's i-th table under the alias of row r, or its name.
 fn named_scope(tables: &[u32], froms: &[u32], r: u32, i: u32) -> Scope

@@ -16,6 +16,7 @@ use crate::map::column_map;
 use crate::own::put_own;
 use crate::rows::Listed;
 use crate::rows::build_node;
+use numbers::refusals::UNKNOWN_TABLE;
 use plan::cells::Written;
 use plan::finish::INSERT;
 use plan::finish::finish;
@@ -23,9 +24,6 @@ use schema::Found;
 use schema::get_table;
 use statement::access;
 use text::lengths::length_at;
-
-// Document 01's number.
-const UNKNOWN_TABLE: u32 = 5;
 
 // How many names INSERT has at most.
 const MOST_NAMES: usize = 64;

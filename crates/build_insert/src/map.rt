@@ -10,15 +10,12 @@ ghost use Rattle.sections.specs.Layout.{sectionAt};
 ghost use Rattle.sections.specs.Access.{nameKind};
 ghost use Rattle.build_insert.specs.Map as map;
 use numbers::number;
+use numbers::refusals::REPEATED_INSERT_COLUMN;
+use numbers::refusals::UNKNOWN_INSERT_COLUMN;
 use schema::Found;
 use schema::column_at;
 use sections::entry;
 use statement::access::name_start;
-
-// Document 01's numbers.
-const UNKNOWN_COLUMN: u32 = 22;
-
-const REPEATED_COLUMN: u32 = 23;
 
 // A column's position in its table (the Rust's cindex).
 pub struct TablePosition(pub u32);
@@ -92,11 +89,11 @@ fn map_names(
         let a = name_start(e);
         let found = column_at(catalog, statement, tables, i, a, e.length);
         let Found::At(j) = found else {
-            return Mapped::Refused(UNKNOWN_COLUMN, e.line);
+            return Mapped::Refused(UNKNOWN_INSERT_COLUMN, e.line);
         };
         let column = TablePosition(j);
         if is_mapped(columns, v, column) {
-            return Mapped::Refused(REPEATED_COLUMN, e.line);
+            return Mapped::Refused(REPEATED_INSERT_COLUMN, e.line);
         }
         map_value(columns, ValuePosition(v), column);
         v += 1;

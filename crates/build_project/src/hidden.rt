@@ -7,15 +7,13 @@ ghost use Rattle.build_project.specs.Hidden.{ColumnsPut};
 ghost use Rattle.build_project.specs.Ends.{EndReady, ProjectionEnded};
 use super::projected::project_scope;
 use build_hidden::build_select_hidden;
+use numbers::refusals::LIMIT_PASSED;
 use plan::cells::column;
 use plan::parts::end;
 use plan::parts::item;
 use scope::COLUMNS;
 use scope::Scope;
 use stage::Stage;
-
-// Document 01's number.
-const LIMIT_PASSED: u32 = 3;
 
 // The columns at some positions: their cells from the n-th on, and their parts of a record behind k numbers of the nodes.
 // Gives how many numbers are in use then.

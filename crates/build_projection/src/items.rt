@@ -20,6 +20,8 @@ use ast::row::Kind;
 use ast::row::kind_of;
 use ast::row::line;
 use ast::rows::STATEMENT_ROWS;
+use numbers::refusals::LIMIT_PASSED;
+use numbers::refusals::STAR_WITHOUT_FROM;
 use scope::COLUMNS;
 use sections::entry::GROUP;
 use sections::entry::ITEM;
@@ -28,10 +30,6 @@ use sections::entry::entry_at;
 use sections::entry::first_row;
 
 // Refusals, by document 01's numbers.
-const LIMIT_PASSED: u32 = 3;
-
-const STAR_WITHOUT_FROM: u32 = 16;
-
 // How many items there are; or a refusal's number and line.
 pub enum Outcome {
     Done(u32),

@@ -29,6 +29,8 @@ use expression::constants::build_constant_value;
 use expression::planned::Numbers;
 use expression::planned::literal_numbers;
 use expression::planned::value_numbers;
+use numbers::refusals::MULTIPLE_PRIMARY_KEYS;
+use numbers::refusals::NO_PRIMARY_KEY;
 use plan::cells::Written;
 use plan::finish;
 use plan::own;
@@ -37,11 +39,6 @@ use sections::entry::Entry;
 use statement::access;
 use text::lengths::length_at;
 use value;
-
-// Document 01's numbers.
-const NO_PRIMARY_KEY: u32 = 20;
-
-const MULTIPLE_PRIMARY_KEYS: u32 = 21;
 
 // The position of a column that is a primary key, or there is none.
 pub enum KeyPosition {

@@ -4,6 +4,3 @@ pub mod create; // create.rt: CREATE TABLE
 pub mod delete; // delete.rt: DELETE
 pub mod drop; // drop.rt: DROP TABLE
 pub mod pushed; // pushed.rt: what a step that may refuse appends to the nodes' numbers
-
-// Document 01's number.
-pub const UNKNOWN_TABLE: u32 = 5;

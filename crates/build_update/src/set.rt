@@ -9,14 +9,12 @@ ghost use Rattle.plan.specs.Cells.{Room};
 ghost use Rattle.plan.specs.Emits.{Emits};
 ghost use Rattle.build_update.specs.Sets.{defaultStep, Values};
 use build_expression::build_expression;
+use numbers::refusals::NO_DEFAULT;
 use plan::cells::Written;
 use plan::cells::constant;
 use schema::default_at;
 use sections::entry::Entry;
 use sections::entry::first_row;
-
-// Document 01's number.
-const NO_DEFAULT: u32 = 24;
 
 // The default of the j-th column of the i-th table, or 24 at a line.
 fn build_default(

@@ -15,6 +15,14 @@ ghost use Rattle.ast.specs.Operands.{kindAt, operandsAt};
 ghost use Rattle.expression.specs.Answers.{mapAnswer, reasonOf, answerOf, Evaluates, constantOf};
 ghost use Rattle.expression.specs.declared.Evaluated.the-variants as Ev;
 use ast::rows;
+use numbers::refusals::CONSTANT_ONLY;
+use numbers::refusals::DIVISION_BY_ZERO;
+use numbers::refusals::INTEGER_OVERFLOW;
+use numbers::refusals::INVALID_IS;
+use numbers::refusals::NOT_WORKED_OUT;
+use numbers::refusals::UNKNOWN_FUNCTION;
+use numbers::refusals::UNSUPPORTED_STAR;
+use numbers::refusals::WRONG_OPERAND;
 use value::Value;
 use value::arithmetic;
 use value::literals;
@@ -49,14 +57,14 @@ pub fn number(n: Reason) -> u32
     ensures { λ r. ⌜ r ≡ refusals.refusalNumber (reasonOf n) ⌝ }
 {
     match n {
-        Reason::ConstantOnly => 10,
-        Reason::UnsupportedStar => 12,
-        Reason::UnknownFunction => 13,
-        Reason::Overflow => 25,
-        Reason::DividedByZero => 26,
-        Reason::WrongOperand => 27,
-        Reason::NotWorkedOut => 28,
-        Reason::InvalidIs => 29,
+        Reason::ConstantOnly => CONSTANT_ONLY,
+        Reason::UnsupportedStar => UNSUPPORTED_STAR,
+        Reason::UnknownFunction => UNKNOWN_FUNCTION,
+        Reason::Overflow => INTEGER_OVERFLOW,
+        Reason::DividedByZero => DIVISION_BY_ZERO,
+        Reason::WrongOperand => WRONG_OPERAND,
+        Reason::NotWorkedOut => NOT_WORKED_OUT,
+        Reason::InvalidIs => INVALID_IS,
     }
 }
 

@@ -6,7 +6,6 @@ pub mod nodes;
 pub mod own;
 pub mod parts;
 pub mod pushes;
-pub mod refusals;
 pub mod steps;
 
 // Numbers of the header, and of a cell.

@@ -14,13 +14,11 @@ use build_statement::create::build_create_table;
 use build_statement::delete::build_delete;
 use build_statement::drop::build_drop_table;
 use build_update::update::build_update;
+use numbers::refusals::OTHER_STATEMENT;
 use plan::cells::Written;
 use statement::access::Kind;
 use statement::access::kind_of;
 use statement::access::line;
-
-// Document 01's number of a statement that is none of the six.
-const OTHER_STATEMENT: u32 = 4;
 
 pub fn build(
     catalog: &[u8],

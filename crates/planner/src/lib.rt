@@ -13,6 +13,7 @@ ghost use Rattle.statement.specs.Layout.{statementAt};
 ghost use Rattle.planner.specs.Outcomes.{builtOf, Answers, Refused};
 ghost use Rattle.planner.specs.Kinds.{StatementReady};
 use building::build;
+use numbers::refusals::SHORT_AREA;
 use plan::NODES_SIZE;
 use plan::cells::Written;
 use plan::finish::clear;
@@ -26,10 +27,8 @@ use statement::CELL_NUMBERS;
 use statement::FROM_NUMBERS;
 use statement::PART_NUMBERS;
 
-// The least numbers of an area, and document 01's number where it has fewer.
+// The least numbers of an area.
 pub const LEAST_AREA: usize = 16384;
-
-const SHORT_AREA: u32 = 1;
 
 // Document 01's number of a refusal, its text (1 catalog, 2 statement) and line; or 0 and how many cells the plan has.
 #[repr(C)]

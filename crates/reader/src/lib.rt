@@ -4,6 +4,9 @@ ghost use Prim.Native.Nat.{_≤_};
 ghost use lib.ListN.{length};
 ghost use Rattle.schema.specs.Room.{numbersFor};
 ghost use Rattle.reader.specs.Reading.{textsBy, TextsRead};
+use numbers::refusals::LIMIT_PASSED;
+use numbers::refusals::OTHER_STATEMENT;
+use numbers::refusals::WRONG_RECORD;
 use schema::read::Read;
 use statement::CELL_NUMBERS;
 use statement::FROM_NUMBERS;
@@ -30,10 +33,10 @@ fn taken(kind: u32, line: u32, cells: u32, tables: u32) -> Texts
     ensures { λ r. ⌜ r ≡ textsBy kind line cells tables ⌝ }
 {
     if kind == 0 {
-        return Texts::Refused(4, STATEMENT, line);
+        return Texts::Refused(OTHER_STATEMENT, STATEMENT, line);
     }
     if LAST_KIND < kind {
-        return Texts::Refused(4, STATEMENT, line);
+        return Texts::Refused(OTHER_STATEMENT, STATEMENT, line);
     }
     Texts::Read(kind, cells, tables)
 }
@@ -52,20 +55,20 @@ pub fn read_texts(
     ensures { λ r. ⌜ TextsRead (now (catalog .entry)) (now (statement .entry)) (now (tables .exit)) (now (cells .exit)) (now (froms .exit)) (now (parts .exit)) r ⌝ }
 {
     if (text::MOST_BYTES as usize) < catalog.len() {
-        return Texts::Refused(3, CATALOG, 0);
+        return Texts::Refused(LIMIT_PASSED, CATALOG, 0);
     }
     if (text::MOST_BYTES as usize) < statement.len() {
-        return Texts::Refused(3, STATEMENT, 0);
+        return Texts::Refused(LIMIT_PASSED, STATEMENT, 0);
     }
     let c = schema::read::read_catalog(catalog, tables);
     match c {
-        Read::Wrong(l) => Texts::Refused(2, CATALOG, l),
-        Read::Limit(l) => Texts::Refused(3, CATALOG, l),
+        Read::Wrong(l) => Texts::Refused(WRONG_RECORD, CATALOG, l),
+        Read::Limit(l) => Texts::Refused(LIMIT_PASSED, CATALOG, l),
         Read::Done => {
             let s = read_statement(statement, cells, froms, parts);
             match s {
-                Outcome::Wrong(l) => Texts::Refused(2, STATEMENT, l),
-                Outcome::Limit(l) => Texts::Refused(3, STATEMENT, l),
+                Outcome::Wrong(l) => Texts::Refused(WRONG_RECORD, STATEMENT, l),
+                Outcome::Limit(l) => Texts::Refused(LIMIT_PASSED, STATEMENT, l),
                 Outcome::Done(n) => taken(parts[0], parts[1], n, tables[0]),
             }
         }

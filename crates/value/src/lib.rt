@@ -9,6 +9,10 @@ pub mod operands;
 ghost use mathlib.Core.Path.{_≡_};
 ghost use Rattle.rules.specs.Lists.{Bytes};
 ghost use Rattle.value.specs.Values.{workedOf, refusalOf};
+use numbers::refusals::DIVISION_BY_ZERO;
+use numbers::refusals::INTEGER_OVERFLOW;
+use numbers::refusals::NOT_WORKED_OUT;
+use numbers::refusals::WRONG_OPERAND;
 
 // A text is an address and a length (text::places).
 pub enum Value {
@@ -59,9 +63,9 @@ pub fn number(w: Worked) -> u32
 {
     match w {
         Worked::Value(_) => 0,
-        Worked::Overflow => 25,
-        Worked::DividedByZero => 26,
-        Worked::WrongOperand => 27,
-        Worked::NotWorkedOut => 28,
+        Worked::Overflow => INTEGER_OVERFLOW,
+        Worked::DividedByZero => DIVISION_BY_ZERO,
+        Worked::WrongOperand => WRONG_OPERAND,
+        Worked::NotWorkedOut => NOT_WORKED_OUT,
     }
 }

@@ -9,6 +9,10 @@ ghost use Rattle.value_host.specs.Numbers.{valueBy, kindOf, bitsOf, refu
 ghost use Rattle.value_host.specs.Codes.{unaryWorked, binaryWorked};
 use numbers::halves::high;
 use numbers::halves::low;
+use numbers::refusals::DIVISION_BY_ZERO;
+use numbers::refusals::INTEGER_OVERFLOW;
+use numbers::refusals::NOT_WORKED_OUT;
+use numbers::refusals::WRONG_OPERAND;
 use value::Value;
 use value::Worked;
 use value::arithmetic;
@@ -78,10 +82,10 @@ fn answered(w: Worked) -> Answer
             kind: kind_of(v),
             bits: bits_of(v),
         },
-        Worked::Overflow => refused(25),
-        Worked::DividedByZero => refused(26),
-        Worked::WrongOperand => refused(27),
-        Worked::NotWorkedOut => refused(28),
+        Worked::Overflow => refused(INTEGER_OVERFLOW),
+        Worked::DividedByZero => refused(DIVISION_BY_ZERO),
+        Worked::WrongOperand => refused(WRONG_OPERAND),
+        Worked::NotWorkedOut => refused(NOT_WORKED_OUT),
     }
 }
 

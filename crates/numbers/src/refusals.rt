@@ -1,5 +1,11 @@
-// Document 01's numbers of the refusals that arise in planning.
+// Document 01's numbers of the refusals.
+pub const SHORT_AREA: u32 = 1;
+
+pub const WRONG_RECORD: u32 = 2;
+
 pub const LIMIT_PASSED: u32 = 3;
+
+pub const OTHER_STATEMENT: u32 = 4;
 
 pub const UNKNOWN_TABLE: u32 = 5;
 
@@ -40,5 +46,13 @@ pub const UNKNOWN_INSERT_COLUMN: u32 = 22;
 pub const REPEATED_INSERT_COLUMN: u32 = 23;
 
 pub const NO_DEFAULT: u32 = 24;
+
+pub const INTEGER_OVERFLOW: u32 = 25;
+
+pub const DIVISION_BY_ZERO: u32 = 26;
+
+pub const WRONG_OPERAND: u32 = 27;
+
+pub const NOT_WORKED_OUT: u32 = 28;
 
 pub const INVALID_IS: u32 = 29;
