@@ -1,56 +1,22 @@
--- Names compared in the texts where they stand, and labels held to a name.
+-- Names compared by their bytes, and labels held to a name.
 use Prim.Native.Nat.{ℕ, zero, suc, _+_, _-_, _≤_, _<_}
 use native.Mathlib.Omega.{arith}
 use native.Mathlib.Numerals.{add-one}
-use mathlib.Core.Path.{_≡_, refl, ap, sym, _∙_}
+use mathlib.Core.Path.{_≡_, refl, sym, _∙_}
 use mathlib.Core.Bool.{Bool, true, false, _&&_}
 use mathlib.Core.List.{List}
-use lib.Dec.{eqb, ltb}
-use lib.ListN.{length, getD, take, drop, length-drop, drop-of-length-le}
-use lib.Seq.{getD-take, getD-drop, length-take-le, drop-cons}
-use borrow.Author.Tests.{ltb-true, ltb-false, leb-true, eqb-true, eqb-false}
-use Rattle.rules.specs.Limits.{mostBytes}
+use lib.Dec.{eqb}
+use lib.ListN.{length, getD, drop, drop-of-length-le}
+use lib.Seq.{drop-cons}
+use borrow.Author.Tests.{eqb-true, eqb-false}
 use Rattle.rules.specs.Lists.{Bytes, same, any}
 use Rattle.rules.specs.Lines.{Word}
-use Rattle.rules.specs.Places.{bytesAt, wordAt}
+use Rattle.rules.specs.Places.{wordAt}
 use Rattle.rules.specs.Equality.{sameName}
 use Rattle.rules.specs.Scope.{isNamed, isQualified, shares}
-use Rattle.text.specs.Places.{inside, bytes-catalog, bytes-statement, inside-catalog, inside-statement}
 use Rattle.text.specs.Order.{same-true, same-self}
 use Rattle.scope.specs.Labels.{slotOf, addressOf, lengthOf, nameAt, tablesOf, inSlot, labelAt}
 use Rattle.scope.specs.Labels.{label-nameless, label-slot, label-in}
-
--- PLACES
-by-text : {A : Type 0} (a : ℕ) → (a < mostBytes → A) → (mostBytes ≤ a → A) → A
-by-text {A} a f g = go (ltb a mostBytes) refl
-  where
-    go : (b : Bool) → ltb a mostBytes ≡ b → A
-    go true e = f (ltb-true _ _ e)
-    go false e = g (ltb-false _ _ e)
-
--- the last byte at a place
-pub last-catalog : (c q : Bytes) (a n : ℕ) → 0 < n → a < mostBytes
-    → getD c (a + (n - 1)) 0 ≡ getD (bytesAt c q a n) (n - 1) 0
-last-catalog c q a n h l =
-    let k : n - 1 < n = omega arith in
-    rw (bytes-catalog c q a n l, getD-take n (drop a c) (n - 1) 0 k, getD-drop a c (n - 1) 0)
-
-pub last-statement : (c q : Bytes) (a n : ℕ) → 0 < n → mostBytes ≤ a
-    → getD q (a - mostBytes + (n - 1)) 0 ≡ getD (bytesAt c q a n) (n - 1) 0
-last-statement c q a n h l =
-    let k : n - 1 < n = omega arith in
-    let b : ℕ = a - mostBytes in
-    rw (bytes-statement c q a n l, getD-take n (drop b q) (n - 1) 0 k, getD-drop b q (n - 1) 0)
-
--- a place inside its text has as many bytes as it says
-part-length : (t : Bytes) (a n : ℕ) → a + n ≤ length t → length (take n (drop a t)) ≡ n
-part-length t a n h = length-take-le n (drop a t) (rw (length-drop a t) (omega arith))
-
-pub place-length : (c q : Bytes) (a n : ℕ) → inside c q a n ≡ true → length (bytesAt c q a n) ≡ n
-place-length c q a n h = by-text a
-    (λ l. rw (bytes-catalog c q a n l) (part-length c a n (leb-true _ _ (sym (inside-catalog c q a n l) ∙ h))))
-    (λ l. rw (bytes-statement c q a n l)
-    (part-length q (a - mostBytes) n (leb-true _ _ (sym (inside-statement c q a n l) ∙ h))))
 
 -- other bytes are not the same
 differ : (xs ys : Bytes) → (xs ≡ ys → ⊥) → same xs ys ≡ false
@@ -59,17 +25,6 @@ differ xs ys h = go (same xs ys) refl
     go : (b : Bool) → same xs ys ≡ b → b ≡ false
     go true e = absurd (h (same-true xs ys e))
     go false e = refl
-
-module _ (c q : Bytes) (a n b m : ℕ) where
-  pub other-lengths : (n ≡ m → ⊥) → inside c q a n ≡ true → inside c q b m ≡ true
-      → same (bytesAt c q a n) (bytesAt c q b m) ≡ false
-  other-lengths h g k = differ _ _ (λ e. h (sym (place-length c q a n g) ∙ ap length e ∙ place-length c q b m k))
-
-  pub other-last : {x y : ℕ} → n ≡ m → x ≡ getD (bytesAt c q a n) (n - 1) 0 → y ≡ getD (bytesAt c q b n) (n - 1) 0
-      → (x ≡ y → ⊥) → same (bytesAt c q a n) (bytesAt c q b m) ≡ false
-  other-last h ex ey g = differ _ _ (λ e.
-      let z : bytesAt c q a n ≡ bytesAt c q b n = rw (sym h) at e in
-      g (ex ∙ ap (λ (l : Bytes). getD l (n - 1) 0) z ∙ sym ey))
 
 -- whichever name stands first
 same-swap : (xs ys : Bytes) → same xs ys ≡ same ys xs

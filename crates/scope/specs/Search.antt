@@ -12,7 +12,7 @@ use Rattle.rules.specs.Lists.{Bytes, any, positions, isEmpty}
 use Rattle.rules.specs.Lines.{Word}
 use Rattle.rules.specs.Ast.{Expr}
 use Rattle.rules.specs.Equality.{sameName}
-use Rattle.rules.specs.Places.{wordAt}
+use Rattle.rules.specs.Places.{bytesAt, wordAt}
 use Rattle.rules.specs.Plan.{Label}
 use Rattle.rules.specs.Scope as rules
 use Rattle.rules.specs.Scope.{theOnly, theLast, notFound, lookupNamed, isNamed, isQualified}
@@ -175,44 +175,39 @@ module _ (c q : Bytes) (xs ms ts : List ℕ) (w : Word) where
     unfolding rules.lookup scopeFrom
     some-named o e k = rw (rules.lookup, some-columns c q xs ts h)
 
-    looked-only : {r : Found} → Sought theOnly (positions (isNamed w) 0 (columnsOf c q ts xs)) ms r
+    pub looked-only : {r : Found} → Sought theOnly (positions (isNamed w) 0 (columnsOf c q ts xs)) ms r
         → Looked c q xs ms ts none w r
     unfolding lookupNamed scopeFrom
     looked-only j = record { is = λ e k. some-named none e k ∙ j .is (scopeFrom e c q xs ms ts k) e refl }
 
-    looked-no-table : {v : Word} → any (sameName v) (tablesOf c q ts) ≡ false
+    pub looked-no-table : {v : Word} → any (sameName v) (tablesOf c q ts) ≡ false
         → Looked c q xs ms ts (some v) w UnknownQualifier
     unfolding lookupNamed foundOf scopeFrom
     looked-no-table {v} g = record { is = λ e k. some-named (some v) e k ∙ rw (lookupNamed, g) }
 
-    looked-last : {v : Word} {r : Found} → any (sameName v) (tablesOf c q ts) ≡ true
+    pub looked-last : {v : Word} {r : Found} → any (sameName v) (tablesOf c q ts) ≡ true
         → Sought theLast (positions (isQualified v w) 0 (columnsOf c q ts xs)) ms r → Looked c q xs ms ts (some v) w r
     unfolding lookupNamed scopeFrom
     looked-last {v} g j = record {
       is = λ e k. some-named (some v) e k ∙ rw (lookupNamed, g) (j .is (scopeFrom e c q xs ms ts k) e refl);
     }
 
--- the same of slices ys, ns and zs that are the labels xs, the matches ms and the tables ts, and of a qualifier d
-module _ (c q : Bytes) {xs ms : List ℕ} (ts ys ns : List ℕ) (w : Word) (d : Qualifier) (ex : ys ≡ xs)
-    (en : ns ≡ ms) where
+-- of labels, matches and tables that are xs, ms and ts
+module _ (c q : Bytes) {xs ms : List ℕ} (ts ys : List ℕ) (w : Word) (d : Qualifier) (ex : ys ≡ xs) where
   pub look-empty : length ys ≡ 0 → Looked c q xs ms ts (qualifierOf c q d) w ConstantOnly
   look-empty h = rw (← ex) (looked-empty c q ys ms ts w (qualifierOf c q d) h)
 
-  module _ (h : length ys ≡ 0 → ⊥) where
-    pub look-only : {r : Found} → d ≡ Nothing
-        → ((ts : List ℕ) → Sought theOnly (positions (isNamed w) 0 (columnsOf c q ts ys)) ns r)
-        → Looked c q xs ms ts (qualifierOf c q d) w r
-    unfolding qualifierOf
-    look-only ed k = rw (← ex, ← en, ed) (looked-only c q ys ns ts w h (k ts))
+  pub look-as : {us ns : List ℕ} {r : Found} → ns ≡ ms → us ≡ ts → Looked c q ys ns us (qualifierOf c q d) w r
+      → Looked c q xs ms ts (qualifierOf c q d) w r
+  look-as en eu k = rw (← ex, ← en, ← eu) k
 
-    module _ (zs : List ℕ) {b m : ℕ} {t : Bool} (ez : zs ≡ ts) (ed : d ≡ Table b m)
-        (et : t ≡ any (sameName (wordAt c q b m)) (tablesOf c q zs)) where
-      pub look-no-table : t ≡ false → Looked c q xs ms ts (qualifierOf c q d) w UnknownQualifier
-      unfolding qualifierOf
-      look-no-table g = rw (← ex, ← ez, ed) (looked-no-table c q ys ms zs w h (sym et ∙ g))
+-- under a qualifier
+module _ {c q : Bytes} {xs ms ts : List ℕ} {w : Word} {r : Found} {d : Qualifier} where
+  pub under-nothing : d ≡ Nothing → Looked c q xs ms ts none w r → Looked c q xs ms ts (qualifierOf c q d) w r
+  unfolding qualifierOf
+  under-nothing e k = rw e k
 
-      pub look-last : {r : Found} → t ≡ true
-          → Sought theLast (positions (isQualified (wordAt c q b m) w) 0 (columnsOf c q zs ys)) ns r
-          → Looked c q xs ms ts (qualifierOf c q d) w r
-      unfolding qualifierOf
-      look-last g k = rw (← ex, ← en, ← ez, ed) (looked-last c q ys ns zs w h (sym et ∙ g) k)
+  pub under-table : {b m : ℕ} {x : Bytes} → d ≡ Table b m → x ≡ bytesAt c q b m
+      → ((v : Word) → v .bytes ≡ x → Looked c q xs ms ts (some v) w r) → Looked c q xs ms ts (qualifierOf c q d) w r
+  unfolding qualifierOf wordAt
+  under-table {b} {m} e f k = rw e (k (wordAt c q b m) (sym f))

@@ -1,17 +1,12 @@
 // A label as one number (specs/Labels.antt): its table's slot, its name's address and length.
 ghost use mathlib.Core.Path.{_≡_};
-ghost use Prim.Native.Nat.{_+_, _-_, _≤_, _<_, min};
+ghost use Prim.Native.Nat.{_+_, _≤_, _<_, min};
 ghost use Rattle.rules.specs.Limits.{mostFromTables};
 ghost use Rattle.rules.specs.Equality.{sameName};
-ghost use Rattle.rules.specs.Lists.{same};
-ghost use Rattle.rules.specs.Places.{bytesAt, wordAt};
-ghost use lib.ListN.{getD};
+ghost use Rattle.rules.specs.Lines.{Word};
 ghost use Rattle.scope.specs.Labels.{packed, slotCount, slotOf, addressOf, lengthOf, nameAt};
 ghost use Rattle.scope.specs.Slots.{shifted};
-use text::MOST_BYTES;
-use text::byte;
-use text::places::inside;
-use text::places::same_bytes;
+use text::places::holds_at;
 
 // What one slot counts, and one address; how many addresses there are.
 const SLOT: u32 = 16777216;
@@ -68,46 +63,10 @@ pub fn behind(x: u32, t: u32) -> u32
     x + t * SLOT
 }
 
-// The last of the n bytes at an address.
-fn last_byte(catalog: &[u8], statement: &[u8], a: u32, n: u32) -> u8
-    requires { ⌜ 0 < n ⌝ }
-    ensures { λ r. ⌜ r ≡ getD (bytesAt (now (catalog .entry)) (now (statement .entry)) a n) (n - 1) 0 ⌝ }
+// Whether the name of a label or a table has these bytes.
+pub fn has_name(catalog: &[u8], statement: &[u8], x: u32, name: &[u8]) -> bool
+    ensures { λ r. ⌜ ((w : Word) → w .bytes ≡ now (name .entry)
+        → r ≡ sameName (nameAt (now (catalog .entry)) (now (statement .entry)) x) w) ⌝ }
 {
-    let k = (n - 1) as usize;
-    if a < MOST_BYTES {
-        return byte(catalog, a as usize + k);
-    }
-    let b = a - MOST_BYTES;
-    byte(statement, b as usize + k)
-}
-
-// Whether the bytes at two places are the same: by their number, the last one, all.
-fn same_name(catalog: &[u8], statement: &[u8], a: u32, n: u32, b: u32, m: u32) -> bool
-    ensures { λ r. ⌜ r ≡ same
-        (bytesAt (now (catalog .entry)) (now (statement .entry)) a n)
-        (bytesAt (now (catalog .entry)) (now (statement .entry)) b m) ⌝ }
-{
-    if n != m {
-        if inside(catalog, statement, a, n) {
-            if inside(catalog, statement, b, m) {
-                return false;
-            }
-        }
-        return same_bytes(catalog, statement, a, n, b, m);
-    }
-    if 0 < n {
-        if last_byte(catalog, statement, a, n) != last_byte(catalog, statement, b, n) {
-            return false;
-        }
-    }
-    same_bytes(catalog, statement, a, n, b, m)
-}
-
-// Whether the name of a label or a table is the n bytes at an address.
-pub fn has_name(catalog: &[u8], statement: &[u8], x: u32, a: u32, n: u32) -> bool
-    ensures { λ r. ⌜ r ≡ sameName
-        (nameAt (now (catalog .entry)) (now (statement .entry)) x)
-        (wordAt (now (catalog .entry)) (now (statement .entry)) a n) ⌝ }
-{
-    same_name(catalog, statement, address(x), size(x), a, n)
+    holds_at(catalog, statement, address(x), size(x), name)
 }

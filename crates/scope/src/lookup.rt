@@ -3,7 +3,9 @@ ghost use mathlib.Core.Path.{_≡_};
 ghost use mathlib.Core.List.{List};
 ghost use Prim.Native.Nat.{ℕ, _<_};
 ghost use lib.ListN.{length, take};
+ghost use mathlib.Core.Option.{some};
 ghost use Rattle.rules.specs.Lists.{any, positions};
+ghost use Rattle.rules.specs.Lines.{Word};
 ghost use Rattle.rules.specs.Equality.{sameName};
 ghost use Rattle.rules.specs.Places.{wordAt};
 ghost use Rattle.rules.specs.Scope.{isNamed, isQualified, theOnly, theLast};
@@ -13,6 +15,8 @@ ghost use Rattle.scope.specs.Search.{Missing};
 use super::labels::has_name;
 use super::labels::slot;
 use numbers::number;
+use text::MOST_BYTES;
+use text::part;
 
 // What was looked for: its position, or why there is none.
 pub enum Found {
@@ -30,16 +34,15 @@ pub enum Qualifier {
     Table(u32, u32),
 }
 
-// Whether a label has a name.
-fn is_named(catalog: &[u8], statement: &[u8], x: u32, a: u32, n: u32) -> bool
-    ensures { λ r. ⌜ ((ts : List ℕ) → r ≡ isNamed
-        (wordAt (now (catalog .entry)) (now (statement .entry)) a n)
-        (labelAt (now (catalog .entry)) (now (statement .entry)) ts x)) ⌝ }
+// Whether a label has a name of these bytes.
+fn is_named(catalog: &[u8], statement: &[u8], x: u32, name: &[u8]) -> bool
+    ensures { λ r. ⌜ ((ts : List ℕ) (w : Word) → w .bytes ≡ now (name .entry)
+        → r ≡ isNamed w (labelAt (now (catalog .entry)) (now (statement .entry)) ts x)) ⌝ }
 {
     if x == 0 {
         return false;
     }
-    has_name(catalog, statement, x, a, n)
+    has_name(catalog, statement, x, name)
 }
 
 // Whether a label has a name and its table another.
@@ -48,35 +51,30 @@ fn is_qualified(
     statement: &[u8],
     tables: &[u32],
     x: u32,
-    b: u32,
-    m: u32,
-    a: u32,
-    n: u32,
+    table: &[u8],
+    name: &[u8],
 ) -> bool
-    ensures { λ r. ⌜ r ≡ isQualified
-        (wordAt (now (catalog .entry)) (now (statement .entry)) b m)
-        (wordAt (now (catalog .entry)) (now (statement .entry)) a n)
-        (labelAt (now (catalog .entry)) (now (statement .entry)) (now (tables .entry)) x) ⌝ }
+    ensures { λ r. ⌜ ((v w : Word) → v .bytes ≡ now (table .entry) → w .bytes ≡ now (name .entry)
+        → r ≡ isQualified v w (labelAt (now (catalog .entry)) (now (statement .entry)) (now (tables .entry)) x)) ⌝ }
 {
     let k = slot(x);
     if k == 0 {
         return false;
     }
-    if !has_name(catalog, statement, x, a, n) {
+    if !has_name(catalog, statement, x, name) {
         return false;
     }
-    has_name(catalog, statement, number(tables, k as usize - 1), b, m)
+    has_name(catalog, statement, number(tables, k as usize - 1), table)
 }
 
 // Whether one of the tables has a name.
-pub fn has_table(catalog: &[u8], statement: &[u8], tables: &[u32], b: u32, m: u32) -> bool
-    ensures { λ r. ⌜ r ≡ any
-        (sameName (wordAt (now (catalog .entry)) (now (statement .entry)) b m))
-        (tablesOf (now (catalog .entry)) (now (statement .entry)) (now (tables .entry))) ⌝ }
+pub fn has_table(catalog: &[u8], statement: &[u8], tables: &[u32], name: &[u8]) -> bool
+    ensures { λ r. ⌜ ((w : Word) → w .bytes ≡ now (name .entry)
+        → r ≡ any (sameName w) (tablesOf (now (catalog .entry)) (now (statement .entry)) (now (tables .entry)))) ⌝ }
 {
     let mut i: usize = 0;
     while i < tables.len() {
-        if has_name(catalog, statement, tables[i], b, m) {
+        if has_name(catalog, statement, tables[i], name) {
             return true;
         }
         i += 1;
@@ -104,19 +102,18 @@ fn only_named<'a>(
     statement: &[u8],
     labels: &'a [u32],
     matches: &'a [u16],
-    a: u32,
-    n: u32,
+    name: &[u8],
 ) -> Found
     requires { ⌜ length (now labels) < positionCount ⌝ }
-    ensures { λ r. ⌜ ((ts : List ℕ) → Sought theOnly
-        (positions (isNamed (wordAt (now (catalog .entry)) (now (statement .entry)) a n)) 0
+    ensures { λ r. ⌜ ((ts : List ℕ) (w : Word) → w .bytes ≡ now (name .entry) → Sought theOnly
+        (positions (isNamed w) 0
         (columnsOf (now (catalog .entry)) (now (statement .entry)) ts (now (labels .entry))))
         (now (matches .entry)) r) ⌝ }
 {
     let mut hit: u32 = 0;
     let mut i: usize = 0;
     while i < labels.len() {
-        if is_named(catalog, statement, labels[i], a, n) {
+        if is_named(catalog, statement, labels[i], name) {
             if 0 < hit {
                 return Found::Ambiguous;
             }
@@ -137,25 +134,19 @@ fn last_qualified<'a>(
     labels: &'a [u32],
     matches: &'a [u16],
     tables: &'a [u32],
-    b: u32,
-    m: u32,
-    a: u32,
-    n: u32,
+    table: &[u8],
+    name: &[u8],
 ) -> Found
     requires { ⌜ length (now labels) < positionCount ⌝ }
-    ensures { λ r. ⌜ Sought theLast
-        (positions
-        (isQualified
-        (wordAt (now (catalog .entry)) (now (statement .entry)) b m)
-        (wordAt (now (catalog .entry)) (now (statement .entry)) a n))
-        0
+    ensures { λ r. ⌜ ((v w : Word) → v .bytes ≡ now (table .entry) → w .bytes ≡ now (name .entry) → Sought theLast
+        (positions (isQualified v w) 0
         (columnsOf (now (catalog .entry)) (now (statement .entry)) (now (tables .entry)) (now (labels .entry))))
-        (now (matches .entry)) r ⌝ }
+        (now (matches .entry)) r) ⌝ }
 {
     let mut last: u32 = 0;
     let mut i: usize = 0;
     while i < labels.len() {
-        if is_qualified(catalog, statement, tables, labels[i], b, m, a, n) {
+        if is_qualified(catalog, statement, tables, labels[i], table, name) {
             last = i as u32 + 1;
         }
         i += 1;
@@ -164,6 +155,56 @@ fn last_qualified<'a>(
         return not_found(matches);
     }
     Found::At(last - 1)
+}
+
+// The column of a name whose table has a name, if there is such a table.
+fn lookup_qualified<'a>(
+    catalog: &[u8],
+    statement: &[u8],
+    labels: &'a [u32],
+    matches: &'a [u16],
+    tables: &'a [u32],
+    table: &[u8],
+    name: &[u8],
+) -> Found
+    requires { ⌜ (0 < length (now labels)) × (length (now labels) < positionCount) ⌝ }
+    ensures { λ r. ⌜ ((v w : Word) → v .bytes ≡ now (table .entry) → w .bytes ≡ now (name .entry) → Looked
+        (now (catalog .entry)) (now (statement .entry)) (now (labels .entry)) (now (matches .entry))
+        (now (tables .entry)) (some v) w r) ⌝ }
+{
+    if !has_table(catalog, statement, tables, table) {
+        return Found::UnknownQualifier;
+    }
+    last_qualified(catalog, statement, labels, matches, tables, table, name)
+}
+
+// The column that a name means under a qualifier, among some labels.
+fn lookup_named<'a>(
+    catalog: &[u8],
+    statement: &[u8],
+    labels: &'a [u32],
+    matches: &'a [u16],
+    tables: &'a [u32],
+    qualifier: Qualifier,
+    name: &[u8],
+) -> Found
+    requires { ⌜ (0 < length (now labels)) × (length (now labels) < positionCount) ⌝ }
+    ensures { λ r. ⌜ ((w : Word) → w .bytes ≡ now (name .entry) → Looked
+        (now (catalog .entry)) (now (statement .entry)) (now (labels .entry)) (now (matches .entry))
+        (now (tables .entry)) (qualifierOf (now (catalog .entry)) (now (statement .entry)) qualifier) w r) ⌝ }
+{
+    match qualifier {
+        Qualifier::Nothing => only_named(catalog, statement, labels, matches, name),
+        Qualifier::Table(b, m) => {
+            if b < MOST_BYTES {
+                let table = part(catalog, b as usize, m as usize);
+                return lookup_qualified(catalog, statement, labels, matches, tables, table, name);
+            }
+            let d = b - MOST_BYTES;
+            let table = part(statement, d as usize, m as usize);
+            lookup_qualified(catalog, statement, labels, matches, tables, table, name)
+        }
+    }
 }
 
 // The first n numbers, or as many of them as there are.
@@ -209,14 +250,12 @@ pub fn lookup<'a>(
         return Found::ConstantOnly;
     }
     let ms = first_matches(matches, width as usize);
-    match qualifier {
-        Qualifier::Nothing => only_named(catalog, statement, xs, ms, a, n),
-        Qualifier::Table(b, m) => {
-            let ts = first(tables, count as usize);
-            if !has_table(catalog, statement, ts, b, m) {
-                return Found::UnknownQualifier;
-            }
-            last_qualified(catalog, statement, xs, ms, ts, b, m, a, n)
-        }
+    let ts = first(tables, count as usize);
+    if a < MOST_BYTES {
+        let name = part(catalog, a as usize, n as usize);
+        return lookup_named(catalog, statement, xs, ms, ts, qualifier, name);
     }
+    let b = a - MOST_BYTES;
+    let name = part(statement, b as usize, n as usize);
+    lookup_named(catalog, statement, xs, ms, ts, qualifier, name)
 }

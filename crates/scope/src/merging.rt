@@ -1,6 +1,9 @@
 // Whether two scopes may be merged.
 ghost use mathlib.Core.Path.{_≡_};
 ghost use lib.ListN.{take};
+ghost use Rattle.rules.specs.Equality.{sameName};
+ghost use Rattle.rules.specs.Lists.{any};
+ghost use Rattle.rules.specs.Places.{wordAt};
 ghost use Rattle.rules.specs.Scope.{shares};
 ghost use Rattle.scope.specs.Labels.{tablesOf};
 ghost use Rattle.scope.specs.Merging.{MayMerge};
@@ -9,12 +12,29 @@ use super::labels::address;
 use super::labels::size;
 use super::lookup::first;
 use super::lookup::has_table;
+use text::MOST_BYTES;
+use text::part;
 
 // They may, or a table name is held by both, or there are too many columns.
 pub enum Merging {
     Allowed,
     DuplicateTable,
     LimitPassed,
+}
+
+// Whether one of the tables has the name at a place.
+fn has_table_at(catalog: &[u8], statement: &[u8], tables: &[u32], a: u32, n: u32) -> bool
+    ensures { λ r. ⌜ r ≡ any
+        (sameName (wordAt (now (catalog .entry)) (now (statement .entry)) a n))
+        (tablesOf (now (catalog .entry)) (now (statement .entry)) (now (tables .entry))) ⌝ }
+{
+    if a < MOST_BYTES {
+        let name = part(catalog, a as usize, n as usize);
+        return has_table(catalog, statement, tables, name);
+    }
+    let b = a - MOST_BYTES;
+    let name = part(statement, b as usize, n as usize);
+    has_table(catalog, statement, tables, name)
 }
 
 // Whether a table name is held by both.
@@ -26,7 +46,7 @@ fn shares_name(catalog: &[u8], statement: &[u8], tables: &[u32], others: &[u32])
     let mut i: usize = 0;
     while i < others.len() {
         let y = others[i];
-        if has_table(catalog, statement, tables, address(y), size(y)) {
+        if has_table_at(catalog, statement, tables, address(y), size(y)) {
             return true;
         }
         i += 1;

@@ -7,15 +7,15 @@ use Rattle.scope.proofs.lookup.is_named.Reads as reads
 use Rattle.scope.proofs.lookup.is_named.Lts as lts
 
 returns : tie.Need-returns
-returns c = λ ts. sym (named-none _ _ ts (c .before .before .before .args .x) _ (c .if1 .taken))
+returns c = λ ts w e. sym (named-none _ _ ts (c .before .before .before .before .args .x) _ (c .if1 .taken))
 
 has-name-requires : tie.Need-has-name-requires
 has-name-requires c κs = search needs
 
 returns-2 : tie.Need-returns-2
 returns-2 c =
-    λ ts. c .has-name .ensures
-    ∙ sym (named-some _ _ ts (c .before .before .before .before .args .x) _ (c .before .if1 .left))
+    λ ts w e. c .has-name .ensures w e
+    ∙ sym (named-some _ _ ts (c .before .before .before .before .before .args .x) _ (c .before .if1 .left))
 
 pub is-named-spec : {M : Type 1} → statement M
 is-named-spec =

@@ -12,7 +12,7 @@ slot-requires c κs = search needs
 
 returns : tie.Need-returns
 returns c =
-    sym (qualified-none _ _ _ (c .before .before .before .before .before .args .x) _ _
+    λ v w ev ew. sym (qualified-none _ _ _ (c .before .before .before .before .before .before .before .args .x) _ _
     (sym (c .before .slot .ensures) ∙ c .if1 .taken))
 
 has-name-requires : tie.Need-has-name-requires
@@ -20,9 +20,9 @@ has-name-requires c κs = search needs
 
 returns-2 : tie.Need-returns-2
 returns-2 c =
-    sym (qualified-other _ _ (c .before .before .before .before .before .before .before .args .tables .now)
-    (c .before .before .before .before .before .before .before .args .x) _ _ _
-    (λ e. c .before .before .if1 .left (c .before .before .before .slot .ensures ∙ e)) (c .before .has-name .ensures)
+    λ v w ev ew. sym (qualified-other _ _ (c .before .before .before .before .before .before .before .before .before .args .tables .now)
+    (c .before .before .before .before .before .before .before .before .before .args .x) _ _ _
+    (λ e. c .before .before .if1 .left (c .before .before .before .slot .ensures ∙ e)) (c .before .has-name .ensures w ew)
     (not-true _ (c .if2 .taken)))
 
 cast-number : tie.Need-cast-number
@@ -39,12 +39,12 @@ has-name-requires-2 c κs = search needs
 
 returns-3 : tie.Need-returns-3
 returns-3 c =
-    c .has-name2 .ensures
+    λ v w ev ew. c .has-name2 .ensures v ev
     ∙ sym (qualified-both _ _
-    (c .before .before .before .before .before .before .before .before .before .args .tables .now)
-    (c .before .before .before .before .before .before .before .before .before .args .x) _ _ _
+    (c .before .before .before .before .before .before .before .before .before .before .before .args .tables .now)
+    (c .before .before .before .before .before .before .before .before .before .before .before .args .x) _ _ _
     (λ e. c .before .before .before .before .if1 .left (c .before .before .before .before .before .slot .ensures ∙ e))
-    (c .before .before .before .has-name .ensures) _
+    (c .before .before .before .has-name .ensures w ew) _
     (rw (c .before .before .before .before .before .slot .ensures) at (c .before .number .ensures))
     (not-false _ (c .before .before .if2 .left)))
 

@@ -2,7 +2,8 @@ use mathlib.Core.Logic.{⊎-elim}
 use Prim.Native.Nat.{_-_, _≤_, _<_}
 use native.Mathlib.Omega.{arith}
 use lib.ListN.{length}
-use Rattle.rules.specs.Places.{wordAt}
+use mathlib.Core.Path.{_≡_}
+use Rattle.rules.specs.Lines.{Word}
 use Rattle.rules.specs.Scope.{theLast, isQualified}
 use Rattle.scope.specs.Labels.{positionCount, labelAt, columnsOf}
 use Rattle.scope.specs.Search.{Seeking, seek-begin, seek-miss, seek-next}
@@ -14,16 +15,16 @@ use Rattle.scope.proofs.lookup.last_qualified.Reads as reads
 use Rattle.scope.proofs.lookup.last_qualified.Lts as lts
 
 abbrev Inv-loop : tie.InvT-loop
-Inv-loop catalog statement labels matches tables b m a n last₀ i₀ last i =
+Inv-loop catalog statement labels matches tables table name last₀ i₀ last i =
     (i ≤ length labels) × (length labels < positionCount)
-    × Seeking theLast (isQualified (wordAt catalog statement b m) (wordAt catalog statement a n))
-    (labelAt catalog statement tables) labels i last
+    × ((v w : Word) → v .bytes ≡ table → w .bytes ≡ name
+    → Seeking theLast (isQualified v w) (labelAt catalog statement tables) labels i last)
 
 abbrev μ-loop : tie.MeasureT-loop
-μ-loop catalog statement labels matches tables b m a n last₀ i₀ last i = length labels - i
+μ-loop catalog statement labels matches tables table name last₀ i₀ last i = length labels - i
 
 loop-holds : tie.Need-loop-holds Inv-loop μ-loop
-loop-holds c = (search needs, search needs, seek-begin _ _ _ _)
+loop-holds c = (search needs, search needs, λ v w ev ew. seek-begin _ _ _ _)
 
 mul-is-qualified : tie.Need-mul-is-qualified Inv-loop μ-loop
 mul-is-qualified c = search needs
@@ -50,11 +51,11 @@ loop-again : tie.Need-loop-again Inv-loop μ-loop
 loop-again c = (
   omega arith,
   search needs,
-  ⊎-elim
-      (λ w. seek-next (c .before .before .before .before .loop .inv .2) (c .before .before .before .loop-test .taken)
-      (c .before .is-qualified .ensures) (w .0 .taken) (w .1))
-      (λ w. seek-miss (c .before .before .before .before .loop .inv .2) (c .before .before .before .loop-test .taken)
-      (c .before .is-qualified .ensures) (w .0 .left) (w .1))
+  λ v w ev ew. ⊎-elim
+      (λ z. seek-next (c .before .before .before .before .loop .inv .2 v w ev ew) (c .before .before .before .loop-test .taken)
+      (c .before .is-qualified .ensures v w ev ew) (z .0 .taken) (z .1))
+      (λ z. seek-miss (c .before .before .before .before .loop .inv .2 v w ev ew) (c .before .before .before .loop-test .taken)
+      (c .before .is-qualified .ensures v w ev ew) (z .0 .left) (z .1))
       (c .if1 .came),
 )
 
@@ -64,15 +65,15 @@ not-found-requires c κs = search needs
 returns : tie.Need-returns Inv-loop μ-loop
 unfolding columnsOf
 returns c =
-    seek-none (c .before .before .before .loop .inv .2) (c .before .before .loop-test .left) (c .before .if2 .taken)
+    λ v w ev ew. seek-none (c .before .before .before .loop .inv .2 v w ev ew) (c .before .before .loop-test .left) (c .before .if2 .taken)
     last-none (c .not-found .ensures)
 
-sub-t19 : tie.Need-sub-t19 Inv-loop μ-loop
-sub-t19 c = search needs
+sub-t17 : tie.Need-sub-t17 Inv-loop μ-loop
+sub-t17 c = search needs
 
 returns-2 : tie.Need-returns-2 Inv-loop μ-loop
 unfolding columnsOf
-returns-2 c = seek-one (c .before .before .loop .inv .2) (c .before .loop-test .left) (omega arith) last-one
+returns-2 c = λ v w ev ew. seek-one (c .before .before .loop .inv .2 v w ev ew) (c .before .loop-test .left) (omega arith) last-one
 
 pub last-qualified-spec : {M : Type 1} → statement M
 last-qualified-spec =
@@ -91,5 +92,5 @@ last-qualified-spec =
     loop-again
     not-found-requires
     returns
-    sub-t19
+    sub-t17
     returns-2)

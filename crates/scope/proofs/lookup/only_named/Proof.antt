@@ -1,9 +1,10 @@
 use mathlib.Core.Logic.{⊎-elim}
 use Prim.Native.Nat.{ℕ, _-_, _≤_, _<_}
 use native.Mathlib.Omega.{arith}
+use mathlib.Core.Path.{_≡_}
 use mathlib.Core.List.{List}
 use lib.ListN.{length}
-use Rattle.rules.specs.Places.{wordAt}
+use Rattle.rules.specs.Lines.{Word}
 use Rattle.rules.specs.Scope.{theOnly, isNamed}
 use Rattle.scope.specs.Labels.{positionCount, labelAt, columnsOf}
 use Rattle.scope.specs.Search.{Seeking, seek-begin, seek-miss, seek-first}
@@ -15,15 +16,15 @@ use Rattle.scope.proofs.lookup.only_named.Reads as reads
 use Rattle.scope.proofs.lookup.only_named.Lts as lts
 
 abbrev Inv-loop : tie.InvT-loop
-Inv-loop catalog statement labels matches a n hit₀ i₀ hit i = (i ≤ length labels) × (length labels < positionCount)
-    × ((ts : List ℕ) → Seeking theOnly (isNamed (wordAt catalog statement a n)) (labelAt catalog statement ts) labels i
-    hit)
+Inv-loop catalog statement labels matches name hit₀ i₀ hit i = (i ≤ length labels) × (length labels < positionCount)
+    × ((ts : List ℕ) (w : Word) → w .bytes ≡ name
+    → Seeking theOnly (isNamed w) (labelAt catalog statement ts) labels i hit)
 
 abbrev μ-loop : tie.MeasureT-loop
-μ-loop catalog statement labels matches a n hit₀ i₀ hit i = length labels - i
+μ-loop catalog statement labels matches name hit₀ i₀ hit i = length labels - i
 
 loop-holds : tie.Need-loop-holds Inv-loop μ-loop
-loop-holds c = (search needs, search needs, λ ts. seek-begin _ _ _ _)
+loop-holds c = (search needs, search needs, λ ts w e. seek-begin _ _ _ _)
 
 mul-is-named : tie.Need-mul-is-named Inv-loop μ-loop
 mul-is-named c = search needs
@@ -37,8 +38,8 @@ is-named-requires c κs = search needs
 returns : tie.Need-returns Inv-loop μ-loop
 unfolding columnsOf
 returns c =
-    λ ts. seek-second (c .before .before .before .before .before .loop .inv .2 ts)
-    (c .before .before .before .before .loop-test .taken) (c .before .before .is-named .ensures ts)
+    λ ts w e. seek-second (c .before .before .before .before .before .loop .inv .2 ts w e)
+    (c .before .before .before .before .loop-test .taken) (c .before .before .is-named .ensures ts w e)
     (c .before .if1 .taken) (c .if2 .taken)
 
 cast-hit : tie.Need-cast-hit Inv-loop μ-loop
@@ -57,12 +58,12 @@ loop-again : tie.Need-loop-again Inv-loop μ-loop
 loop-again c = (
   omega arith,
   search needs,
-  λ ts. ⊎-elim
-      (λ w. seek-first (c .before .before .before .before .loop .inv .2 ts) (c .before .before .before .loop-test .taken)
-      (c .before .is-named .ensures ts) (w .0 .taken)
-      (omega (arith, w .1 .left)) (w .2))
-      (λ w. seek-miss (c .before .before .before .before .loop .inv .2 ts) (c .before .before .before .loop-test .taken)
-      (c .before .is-named .ensures ts) (w .0 .left) (w .1))
+  λ ts w e. ⊎-elim
+      (λ z. seek-first (c .before .before .before .before .loop .inv .2 ts w e) (c .before .before .before .loop-test .taken)
+      (c .before .is-named .ensures ts w e) (z .0 .taken)
+      (omega (arith, z .1 .left)) (z .2))
+      (λ z. seek-miss (c .before .before .before .before .loop .inv .2 ts w e) (c .before .before .before .loop-test .taken)
+      (c .before .is-named .ensures ts w e) (z .0 .left) (z .1))
       (c .if1 .came),
 )
 
@@ -72,15 +73,15 @@ not-found-requires c κs = search needs
 returns-2 : tie.Need-returns-2 Inv-loop μ-loop
 unfolding columnsOf
 returns-2 c =
-    λ ts. seek-none (c .before .before .before .loop .inv .2 ts) (c .before .before .loop-test .left)
+    λ ts w e. seek-none (c .before .before .before .loop .inv .2 ts w e) (c .before .before .loop-test .left)
     (c .before .if3 .taken) only-none (c .not-found .ensures)
 
-sub-t17 : tie.Need-sub-t17 Inv-loop μ-loop
-sub-t17 c = search needs
+sub-t16 : tie.Need-sub-t16 Inv-loop μ-loop
+sub-t16 c = search needs
 
 returns-3 : tie.Need-returns-3 Inv-loop μ-loop
 unfolding columnsOf
-returns-3 c = λ ts. seek-one (c .before .before .loop .inv .2 ts) (c .before .loop-test .left) (omega arith) only-one
+returns-3 c = λ ts w e. seek-one (c .before .before .loop .inv .2 ts w e) (c .before .loop-test .left) (omega arith) only-one
 
 pub only-named-spec : {M : Type 1} → statement M
 only-named-spec =
@@ -100,5 +101,5 @@ only-named-spec =
     loop-again
     not-found-requires
     returns-2
-    sub-t17
+    sub-t16
     returns-3)

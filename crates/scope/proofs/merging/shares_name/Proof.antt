@@ -30,8 +30,8 @@ address-requires c κs = search needs
 size-requires : tie.Need-size-requires Inv-loop μ-loop
 size-requires c κs = search needs
 
-has-table-requires : tie.Need-has-table-requires Inv-loop μ-loop
-has-table-requires c κs = search needs
+has-table-at-requires : tie.Need-has-table-at-requires Inv-loop μ-loop
+has-table-at-requires c κs = search needs
 
 returns : tie.Need-returns Inv-loop μ-loop
 unfolding sharing
@@ -40,7 +40,7 @@ returns c =
     (c .before .before .before .before .before .before .before .before .before .before .before .args .tables .now)
     (c .before .before .before .before .before .before .before .before .before .before .before .args .others .now) _ _
     (c .before .before .before .before .before .loop-test .taken) (c .before .before .before .address .ensures)
-    (c .before .before .size .ensures) (c .before .has-table .ensures) (c .if1 .taken))
+    (c .before .before .size .ensures) (c .before .has-table-at .ensures) (c .if1 .taken))
     ∙ c .before .before .before .before .before .before .loop .inv
 
 add-i : tie.Need-add-i Inv-loop μ-loop
@@ -55,7 +55,7 @@ loop-again c =
     (c .before .before .before .before .before .before .before .before .before .before .before .args .tables .now)
     (c .before .before .before .before .before .before .before .before .before .before .before .args .others .now) _ _
     (c .before .before .before .before .before .loop-test .taken) (c .before .before .before .address .ensures)
-    (c .before .before .size .ensures) (c .before .has-table .ensures) (c .if1 .left))
+    (c .before .before .size .ensures) (c .before .has-table-at .ensures) (c .if1 .left))
     ∙ c .before .before .before .before .before .before .loop .inv
 
 returns-2 : tie.Need-returns-2 Inv-loop μ-loop
@@ -76,7 +76,7 @@ shares-name-spec =
     shared-slice-read-y
     address-requires
     size-requires
-    has-table-requires
+    has-table-at-requires
     returns
     add-i
     loop-less
