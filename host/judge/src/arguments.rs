@@ -1,28 +1,52 @@
-//! Command-line arguments: words, options `--name NUMBER` and options `--name WORD,WORD..`.
+//! Command-line arguments: words, options `--name NUMBER`, options `--name WORD,WORD..` and flags `--name`.
 
-use std::collections::BTreeMap;
+use std::collections::{BTreeMap, BTreeSet};
 
 pub struct Arguments {
     words: Vec<String>,
     numbers: BTreeMap<String, u64>,
     lists: BTreeMap<String, Vec<String>>,
+    flags: BTreeSet<String>,
 }
 
 impl Arguments {
     /// Takes a command's arguments apart. Options other than the allowed ones are refused.
     pub fn new(arguments: Vec<String>, allowed: &[&str]) -> Result<Self, String> {
-        Arguments::with_lists(arguments, allowed, &[])
+        Arguments::take(arguments, allowed, &[], &[])
     }
 
     /// Takes a command's arguments apart, where some options have numbers and others lists of words.
     pub fn with_lists(arguments: Vec<String>, numbers: &[&str], lists: &[&str]) -> Result<Self, String> {
-        let mut taken = Arguments { words: Vec::new(), numbers: BTreeMap::new(), lists: BTreeMap::new() };
+        Arguments::take(arguments, numbers, lists, &[])
+    }
+
+    /// Takes a command's arguments apart, where some options have numbers and others stand alone.
+    pub fn with_flags(arguments: Vec<String>, numbers: &[&str], flags: &[&str]) -> Result<Self, String> {
+        Arguments::take(arguments, numbers, &[], flags)
+    }
+
+    fn take(
+        arguments: Vec<String>,
+        numbers: &[&str],
+        lists: &[&str],
+        flags: &[&str],
+    ) -> Result<Self, String> {
+        let mut taken = Arguments {
+            words: Vec::new(),
+            numbers: BTreeMap::new(),
+            lists: BTreeMap::new(),
+            flags: BTreeSet::new(),
+        };
         let mut arguments = arguments.into_iter();
         while let Some(argument) = arguments.next() {
             let Some(name) = argument.strip_prefix("--") else {
                 taken.words.push(argument);
                 continue;
             };
+            if flags.contains(&name) {
+                taken.flags.insert(name.to_string());
+                continue;
+            }
             let wanted = if lists.contains(&name) { "words" } else { "a number" };
             if !lists.contains(&name) && !numbers.contains(&name) {
                 return Err(format!("no option --{name} here"));
@@ -41,6 +65,11 @@ impl Arguments {
     /// An option's number, or what it is where it is not given.
     pub fn option(&self, name: &str, otherwise: u64) -> u64 {
         self.numbers.get(name).copied().unwrap_or(otherwise)
+    }
+
+    /// Whether a flag is given.
+    pub fn flag(&self, name: &str) -> bool {
+        self.flags.contains(name)
     }
 
     /// An option's words, each of which must be a known one.

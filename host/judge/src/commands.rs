@@ -3,6 +3,7 @@
 use std::fs;
 use std::path::{Path, PathBuf};
 
+use judge::bench::Which;
 use judge::compare::{STATEMENTS, Tally, Verdict, compare, compare_exactly};
 use judge::folder;
 use judge::generate::{Case, limits, pairs};
@@ -17,6 +18,7 @@ use judge::values;
 
 use crate::arguments::Arguments;
 use crate::numbers::Numbers;
+use crate::timing;
 
 const USAGE: &str = "commands:
   compare [--seed S] [--first N] [--count N]             predictions with the Rust planner
@@ -31,7 +33,7 @@ const USAGE: &str = "commands:
   reading [--seed S] [--first N] [--count N]             the proved reading with the host's own, on damaged texts
   planned [--seed S] [--first N] [--count N] [--statements WORD,WORD..]    the proved planner with both
   damaged [--seed S] [--first N] [--count N]             the proved planner with both, on damaged texts
-  bench [--count N]                                      the proved reading beside splitting the same texts";
+  bench [--rounds N] [--median] [--check]                the proved planner's time beside toydb's and SQLite's";
 
 pub fn run(mut arguments: Vec<String>) -> Result<bool, String> {
     if arguments.is_empty() {
@@ -111,10 +113,12 @@ pub fn run(mut arguments: Vec<String>) -> Result<bool, String> {
             compare_plans(numbers.seed, numbers.damaged_cases())
         }
         "bench" => {
-            let arguments = Arguments::new(arguments, &["count"])?;
-            let count = arguments.option("count", 2_000);
+            let arguments = Arguments::with_flags(arguments, &["rounds"], &["median", "check"])?;
+            let rounds = arguments.option("rounds", timing::ROUNDS);
+            let which = if arguments.flag("median") { Which::Median } else { Which::Lowest };
+            let check = arguments.flag("check");
             let [] = arguments.words([])?;
-            time_reading(u32::try_from(count).map_err(|_| format!("--count {count} is too large"))?)
+            timing::bench(rounds, which, check)
         }
         _ => Err(format!("no command {command}\n{USAGE}")),
     }
@@ -306,12 +310,4 @@ fn compare_reading(numbers: Numbers) -> bool {
     println!("{tally}");
     tally.shown.iter().for_each(|message| println!("differs: {message}"));
     tally.differ() == 0
-}
-
-fn time_reading(count: u32) -> Result<bool, String> {
-    if !reader::AVAILABLE {
-        return Err("`rt staticlib reader_host` was not run".to_string());
-    }
-    println!("{}", reading::bench(count));
-    Ok(true)
 }

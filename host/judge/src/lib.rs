@@ -1,5 +1,6 @@
 //! Tries the planner and its rules against the Rust planner: generated cases, predictions, and comparison.
 
+pub mod bench;
 pub mod compare;
 pub mod folder;
 pub mod generate;

@@ -3,6 +3,7 @@
 mod arguments;
 mod commands;
 mod numbers;
+mod timing;
 
 use std::process::ExitCode;
 

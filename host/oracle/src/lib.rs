@@ -2,7 +2,7 @@
 //!
 //! The planner's sources are compiled as they are (see build.rs). What they need and what is not supplied has a stand-in
 //! here: the error type and its macros, the encoding, engine and execution modules. Where the sources are not at hand,
-//! [`AVAILABLE`] is false and [`answer`] and [`evaluate`] always give [`Answer::Unavailable`].
+//! [`AVAILABLE`] is false, [`answer`] and [`evaluate`] always give [`Answer::Unavailable`], and there is no [`Question`].
 
 #[cfg(planner)]
 mod ask;
@@ -15,6 +15,8 @@ mod sql;
 
 use texts::{Expr, Literal, Texts, Tree};
 
+#[cfg(planner)]
+pub use ask::Question;
 #[cfg(planner)]
 pub(crate) use error::{errdata, errinput};
 
@@ -60,4 +62,19 @@ pub fn evaluate(expr: &Expr) -> Answer<Literal> {
 #[cfg(not(planner))]
 pub fn evaluate(_: &Expr) -> Answer<Literal> {
     Answer::Unavailable
+}
+
+/// A question of which the planner's time is taken: there is none.
+#[cfg(not(planner))]
+pub struct Question(std::convert::Infallible);
+
+#[cfg(not(planner))]
+impl Question {
+    pub fn of(_: Texts) -> Option<Self> {
+        None
+    }
+
+    pub fn time(&self, _: u32) -> std::time::Duration {
+        match self.0 {}
+    }
 }

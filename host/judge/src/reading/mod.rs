@@ -1,6 +1,5 @@
 //! The proved reading of both texts held to the host's own.
 
-mod bench;
 mod tally;
 
 use reader::{Answer, Kind, Read, Reader};
@@ -8,7 +7,6 @@ use texts::{Text, read};
 
 use crate::generate::Case;
 
-pub use bench::{Bench, bench};
 pub use tally::Tally;
 
 /// What a comparison comes to.

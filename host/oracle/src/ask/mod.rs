@@ -2,6 +2,7 @@
 
 mod kind;
 mod statement;
+mod timing;
 mod tree;
 
 use std::cell::Cell;
@@ -15,6 +16,8 @@ use crate::error::{Error, Result};
 use crate::sql::engine::Catalog;
 use crate::sql::planner::{Planner, Scope};
 use crate::sql::types::Table;
+
+pub use timing::Question;
 
 struct Tables(Vec<Table>);
 
