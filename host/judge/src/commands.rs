@@ -33,7 +33,8 @@ const USAGE: &str = "commands:
   reading [--seed S] [--first N] [--count N]             the proved reading with the host's own, on damaged texts
   planned [--seed S] [--first N] [--count N] [--statements WORD,WORD..]    the proved planner with both
   damaged [--seed S] [--first N] [--count N]             the proved planner with both, on damaged texts
-  bench [--rounds N] [--median] [--check]                the proved planner's time beside toydb's and SQLite's";
+  bench [--rounds N] [--median] [--check]                the proved planner's time beside toydb's and SQLite's
+  growth                                                 how those times grow, by cells of the plan";
 
 pub fn run(mut arguments: Vec<String>) -> Result<bool, String> {
     if arguments.is_empty() {
@@ -119,6 +120,10 @@ pub fn run(mut arguments: Vec<String>) -> Result<bool, String> {
             let check = arguments.flag("check");
             let [] = arguments.words([])?;
             timing::bench(rounds, which, check)
+        }
+        "growth" => {
+            let [] = Arguments::new(arguments, &[])?.words([])?;
+            timing::growth()
         }
         _ => Err(format!("no command {command}\n{USAGE}")),
     }

@@ -1,6 +1,7 @@
 //! The commands that take times.
 
-use judge::bench::{self, Which};
+use judge::bench::growth::{self, Point};
+use judge::bench::{self, Sqlite, Which};
 
 /// How many rounds the three questions are timed.
 pub const ROUNDS: u64 = 3_000;
@@ -25,4 +26,17 @@ pub fn bench(rounds: u64, which: Which, check: bool) -> Result<bool, String> {
         missed.iter().for_each(|missed| eprintln!("{missed}"));
     }
     Ok(!check || missed.is_empty())
+}
+
+/// Prints a line a size of each series, in nanoseconds a cell of the plan.
+pub fn growth() -> Result<bool, String> {
+    linked()?;
+    eprintln!("series\tsize\tcells\tours\ttoydb\tSQLite (nanoseconds a cell of the plan, lowest)");
+    for series in growth::series() {
+        for Point { size, cells, times } in growth::grow(&series, Sqlite::find())? {
+            let times = times.map(|time| time.map_or("-".to_string(), |time| format!("{time:.1}")));
+            println!("{}\t{size}\t{cells}\t{}", series.name, times.join("\t"));
+        }
+    }
+    Ok(true)
 }

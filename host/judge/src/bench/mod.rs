@@ -1,5 +1,6 @@
 //! How long planning takes, beside those a user would pick: toydb's own planner, and SQLite's prepare.
 
+pub mod growth;
 pub mod questions;
 mod reading;
 mod sides;

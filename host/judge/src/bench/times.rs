@@ -46,7 +46,9 @@ mod tests {
     #[test]
     fn a_round_counts_by_its_runs() {
         let mut times = Times::default();
-        [40, 8, 16, 12, 4000].map(|micros| times.add(Duration::from_micros(micros), 4));
+        for micros in [40, 8, 16, 12, 4000] {
+            times.add(Duration::from_micros(micros), 4);
+        }
         assert_eq!(times.get(Which::Lowest), 2.0);
         assert_eq!(times.get(Which::Median), 4.0);
     }

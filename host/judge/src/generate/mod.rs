@@ -17,7 +17,7 @@ use texts::{Statement, Table, write_catalog, write_statement};
 use crate::random::Random;
 
 pub use known::Known;
-pub(crate) use known::Lines;
+pub(crate) use known::{Lines, catalog};
 
 /// A catalog and a statement.
 #[derive(Clone, Debug, PartialEq, Eq)]
