@@ -34,7 +34,8 @@ const USAGE: &str = "commands:
   planned [--seed S] [--first N] [--count N] [--statements WORD,WORD..]    the proved planner with both
   damaged [--seed S] [--first N] [--count N]             the proved planner with both, on damaged texts
   bench [--rounds N] [--median] [--check]                the proved planner's time beside toydb's and SQLite's
-  growth                                                 how those times grow, by cells of the plan";
+  growth                                                 how those times grow, by cells of the plan
+  page PICTURE [--runs N] [--rounds N]                   the rows of docs/PERFORMANCE.md, and its picture";
 
 pub fn run(mut arguments: Vec<String>) -> Result<bool, String> {
     if arguments.is_empty() {
@@ -124,6 +125,12 @@ pub fn run(mut arguments: Vec<String>) -> Result<bool, String> {
         "growth" => {
             let [] = Arguments::new(arguments, &[])?.words([])?;
             timing::growth()
+        }
+        "page" => {
+            let arguments = Arguments::new(arguments, &["runs", "rounds"])?;
+            let (runs, rounds) = (arguments.option("runs", 3), arguments.option("rounds", timing::ROUNDS));
+            let [picture] = arguments.words(["PICTURE"])?;
+            timing::page(runs, rounds, &PathBuf::from(picture))
         }
         _ => Err(format!("no command {command}\n{USAGE}")),
     }

@@ -1,7 +1,10 @@
 //! The commands that take times.
 
-use judge::bench::growth::{self, Point};
-use judge::bench::{self, Sqlite, Which};
+use std::fs;
+use std::path::Path;
+
+use judge::bench::growth::{self, Point, Series};
+use judge::bench::{self, Sqlite, Which, page};
 
 /// How many rounds the three questions are timed.
 pub const ROUNDS: u64 = 3_000;
@@ -28,15 +31,38 @@ pub fn bench(rounds: u64, which: Which, check: bool) -> Result<bool, String> {
     Ok(!check || missed.is_empty())
 }
 
+/// The series with the times of their sizes.
+fn grown() -> Result<Vec<(Series, Vec<Point>)>, String> {
+    let sqlite = Sqlite::find();
+    growth::series()
+        .into_iter()
+        .map(|series| growth::grow(&series, sqlite).map(|points| (series, points)))
+        .collect()
+}
+
 /// Prints a line a size of each series, in nanoseconds a cell of the plan.
 pub fn growth() -> Result<bool, String> {
     linked()?;
     eprintln!("series\tsize\tcells\tours\ttoydb\tSQLite (nanoseconds a cell of the plan, lowest)");
-    for series in growth::series() {
-        for Point { size, cells, times } in growth::grow(&series, Sqlite::find())? {
+    for (series, points) in grown()? {
+        for Point { size, cells, times } in points {
             let times = times.map(|time| time.map_or("-".to_string(), |time| format!("{time:.1}")));
             println!("{}\t{size}\t{cells}\t{}", series.name, times.join("\t"));
         }
     }
+    Ok(true)
+}
+
+/// Prints the rows of the tables in docs/PERFORMANCE.md, and writes its picture.
+pub fn page(runs: u64, rounds: u64, picture: &Path) -> Result<bool, String> {
+    linked()?;
+    let runs = (0..runs.max(1)).map(|_| bench::bench(rounds)).collect::<Result<Vec<_>, _>>()?;
+    page::questions(&runs).iter().for_each(|row| println!("{row}"));
+    let grown = grown()?;
+    println!();
+    grown.iter().for_each(|(series, points)| println!("{}", page::growth(series, points)));
+    let version = Sqlite::find().map_or("not installed".to_string(), Sqlite::version);
+    eprintln!("SQLite: {version}");
+    fs::write(picture, bench::picture(&grown)).map_err(|error| format!("{}: {error}", picture.display()))?;
     Ok(true)
 }

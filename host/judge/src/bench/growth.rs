@@ -142,7 +142,7 @@ pub struct Point {
     pub times: [Option<f64>; 3],
 }
 
-/// A side that takes longer than this once is not timed, nor at greater sizes.
+/// A side that takes longer than this, twice, is not timed, nor at greater sizes.
 const LONGEST: Duration = Duration::from_millis(50);
 
 /// Times the questions of a series, all sides turn by turn.
@@ -153,7 +153,7 @@ pub fn grow(series: &Series, sqlite: Option<Sqlite>) -> Result<Vec<Point>, Strin
         sides::check(&format!("{} {size}", series.name), &case)?;
         let mut sides = [Some(sides::ours(&case)), sides::toydb(&case), sides::sqlite(&case, sqlite)];
         for (side, timed) in sides.iter_mut().zip(&mut timed) {
-            *timed = *timed && side.as_mut().is_some_and(|side| side(1) <= LONGEST);
+            *timed = *timed && side.as_mut().is_some_and(|side| side(1).min(side(1)) <= LONGEST);
             side.take_if(|_| !*timed);
         }
         let cells = cells(&case)?;

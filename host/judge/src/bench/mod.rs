@@ -1,6 +1,8 @@
 //! How long planning takes, beside those a user would pick: toydb's own planner, and SQLite's prepare.
 
 pub mod growth;
+pub mod page;
+mod picture;
 pub mod questions;
 mod reading;
 mod sides;
@@ -8,10 +10,9 @@ mod sql;
 mod sqlite;
 mod times;
 
-use std::fmt;
-
 use sides::Side;
 
+pub use picture::picture;
 pub use sides::database;
 pub use sqlite::Sqlite;
 pub use times::{Times, Which};
@@ -90,7 +91,7 @@ impl Line {
     }
 
     /// The line as it is printed.
-    pub fn show(&self, which: Which) -> impl fmt::Display {
+    pub fn show(&self, which: Which) -> String {
         let number = |number: &Option<f64>| number.map_or("-".to_string(), |number| format!("{number:.3}"));
         let numbers: Vec<_> = self.numbers(which).iter().map(number).collect();
         format!("{}\t{}", self.name, numbers.join("\t"))
@@ -108,5 +109,39 @@ impl Line {
             None => Some(format!("{}: nothing to compare with", self.name)),
         };
         toydb.into_iter().chain(sqlite.and_then(|ratio| above(ratio, SQLITE_GOAL))).collect()
+    }
+}
+
+#[cfg(test)]
+mod tests {
+    use std::time::Duration;
+
+    use super::*;
+
+    fn times(micros: u64) -> Times {
+        let mut times = Times::default();
+        times.add(Duration::from_micros(micros), 1);
+        times
+    }
+
+    fn line(ours: u64, toydb: Option<u64>, sqlite: Option<u64>) -> Line {
+        let goal = TOYDB_GOAL;
+        Line { name: "first", ours: times(ours), toydb: toydb.map(times), sqlite: sqlite.map(times), goal }
+    }
+
+    #[test]
+    fn a_line_has_its_numbers_between_tabs() {
+        let shown = line(20, Some(100), Some(80)).show(Which::Lowest);
+        assert_eq!(shown, "first\t20.000\t100.000\t0.200\t80.000\t0.250");
+        assert_eq!(line(20, None, None).show(Which::Median), "first\t20.000\t-\t-\t-\t-");
+    }
+
+    #[test]
+    fn a_ratio_above_its_goal_is_missed() {
+        assert!(line(20, Some(100), Some(20)).missed().is_empty());
+        assert!(line(20, Some(100), None).missed().is_empty());
+        assert_eq!(line(21, Some(100), Some(21)).missed(), ["first: 0.210 is above 0.2"]);
+        assert_eq!(line(20, Some(100), Some(16)).missed(), ["first: 1.250 is above 1.0"]);
+        assert_eq!(line(20, None, None).missed(), ["first: nothing to compare with"]);
     }
 }

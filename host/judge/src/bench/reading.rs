@@ -30,6 +30,7 @@ pub fn split() -> Side {
     })
 }
 
+#[inline(never)]
 fn split_text(text: &[u8]) {
     for line in text.split(|&b| b == b'\n') {
         for field in line.split(|&b| b == b'\t') {
