@@ -30,8 +30,14 @@ pub fn split() -> Side {
     })
 }
 
+/// Where its loop happens to be placed makes up to a quarter of its time, so it has the place where it is fastest.
 #[inline(never)]
 fn split_text(text: &[u8]) {
+    // SAFETY: it places the code behind it, 16 bytes past a multiple of 64, and does nothing.
+    #[cfg(target_arch = "x86_64")]
+    unsafe {
+        std::arch::asm!(".p2align 6", ".nops 16", options(nomem, nostack, preserves_flags));
+    }
     for line in text.split(|&b| b == b'\n') {
         for field in line.split(|&b| b == b'\t') {
             black_box(field);
