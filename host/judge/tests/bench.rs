@@ -53,12 +53,14 @@ fn questions_are_of_the_form_they_are_named_for() {
 
 #[test]
 #[cfg_attr(not(planning), ignore = "`rt staticlib planner` was not run")]
+#[cfg_attr(all(planning, not(planner)), ignore = "the Rust planner's sources are not at hand")]
 fn growing_questions_are_planned_as_the_rust_planner_does() {
     for series in series() {
         for (size, case) in series.cases() {
             match compare(&case, 22, size as u64) {
                 Verdict::Agree(Kind::Planned("select")) => {}
-                Verdict::Apart(Kind::Planned("select"), Reason::NoSources | Reason::TooLarge) => {}
+                // The Rust's tree of many chained `ge`.
+                Verdict::Apart(Kind::Planned("select"), Reason::TooLarge) if series.name == "ge" => {}
                 verdict => panic!("{} {size}: {verdict:?}", series.name),
             }
         }
