@@ -23,3 +23,4 @@ pub mod Items
 pub mod New
 pub mod Aggregates
 pub mod AddAggregates
+pub mod UsedMatches

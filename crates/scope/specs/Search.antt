@@ -2,11 +2,11 @@
 use Prim.Native.Nat.{ℕ, zero, suc, _+_, _-_, _≤_, _<_}
 use native.Mathlib.Omega.{arith}
 use native.Mathlib.Numerals.{add-one}
-use mathlib.Core.Path.{_≡_, refl, sym, _∙_}
+use mathlib.Core.Path.{_≡_, refl, sym, ap, _∙_}
 use mathlib.Core.Bool.{Bool, true, false}
 use mathlib.Core.List.{List, [], _∷_, _++_, map}
 use mathlib.Core.Option.{Option, none, some}
-use lib.ListN.{length, getD, drop, drop-of-length-le}
+use lib.ListN.{length, getD, take, drop, drop-of-length-le}
 use lib.Seq.{drop-cons}
 use Rattle.rules.specs.Lists.{Bytes, any, positions, isEmpty}
 use Rattle.rules.specs.Lines.{Word}
@@ -115,10 +115,60 @@ module _ {F : rules.Scope → List ℕ → rules.Found} {t : Label → Bool} {f 
   unfolding foundOf
   seek-one l z e = record { is = λ s d g. sym (k .rest s) ∙ rw (hits-one h z, positions-end t f xs i l) (e s (h - 1)) }
 
-last-only : (s : rules.Scope) (h i : ℕ) (r : List ℕ) → theLast s (hits h ++ (i ∷ r)) ≡ theLast s (i ∷ r)
-unfolding hits theLast
-last-only s zero i r = refl
-last-only s (suc h) i r = refl
+-- FROM THE END
+split-step : (b : Bool) (k : ℕ) (ps qs rs : List ℕ) → ps ≡ qs ++ rs
+    → _≡_ {A = List ℕ} (elim b [ true ↦ k ∷ ps | false ↦ ps ]) (elim b [ true ↦ k ∷ qs | false ↦ qs ] ++ rs)
+split-step true k ps qs rs h = ap (λ (r : List ℕ). k ∷ r) h
+split-step false k ps qs rs h = h
+
+positions-split : (t : Label → Bool) (f : ℕ → Label) (xs : List ℕ) (i k : ℕ)
+    → positions t k (map f xs) ≡ positions t k (map f (take i xs)) ++ positions t (k + i) (map f (drop i xs))
+unfolding positions
+positions-split t f xs zero k = let e : k + 0 ≡ k = omega arith in rw e
+positions-split t f [] (suc i) k = refl
+positions-split t f (x ∷ xs) (suc i) k =
+    let e : k + suc i ≡ suc k + i = omega arith in
+    rw e (split-step (t (f x)) k _ _ _ (positions-split t f xs i (suc k)))
+
+last-behind : (s : rules.Scope) (ps : List ℕ) (j : ℕ) → theLast s (ps ++ (j ∷ [])) ≡ rules.at j
+unfolding theLast
+last-behind s [] j = refl
+last-behind s (p ∷ []) j = refl
+last-behind s (p ∷ (p′ ∷ ps)) j = last-behind s (p′ ∷ ps) j
+
+-- none of the labels from i on has the name
+pub record NoneBehind (t : Label → Bool) (f : ℕ → Label) (xs : List ℕ) (i : ℕ) : Type 0 where
+  pub is : positions t i (map f (drop i xs)) ≡ []
+
+pub none-behind : (t : Label → Bool) (f : ℕ → Label) (xs : List ℕ) → NoneBehind t f xs (length xs)
+none-behind t f xs = record { is = positions-end t f xs (length xs) (omega arith) }
+
+hit-last : (t : Label → Bool) (f : ℕ → Label) (xs : List ℕ) (i : ℕ) → NoneBehind t f xs (i + 1) → i < length xs
+    → t (f (getD xs i 0)) ≡ true → positions t 0 (map f xs) ≡ positions t 0 (map f (take i xs)) ++ (i ∷ [])
+hit-last t f xs i k l e =
+    let z : 0 + i ≡ i = omega arith in
+    positions-split t f xs i 0 ∙ rw (z, positions-hit t f xs i l e, k .is)
+
+-- the one before the i-th
+module _ {t : Label → Bool} {f : ℕ → Label} {xs : List ℕ} {i : ℕ} {b : Bool} (k : NoneBehind t f xs i) (l : 0 < i)
+    (m : i ≤ length xs) (e : b ≡ t (f (getD xs (i - 1) 0))) where
+  next-behind : NoneBehind t f xs (i - 1 + 1)
+  next-behind = let z : i - 1 + 1 ≡ i = omega arith in rw z k
+
+  pub behind-miss : b ≡ false → NoneBehind t f xs (i - 1)
+  behind-miss g = record { is = positions-miss t f xs (i - 1) (omega arith) (sym e ∙ g) ∙ next-behind .is }
+
+  pub behind-hit : {ms : List ℕ} → b ≡ true → Sought theLast (positions t 0 (map f xs)) ms (At (i - 1))
+  unfolding foundOf
+  behind-hit g = record {
+    is = λ s d y. ap (theLast s) (hit-last t f xs (i - 1) next-behind (omega arith) (sym e ∙ g)) 
+        ∙ last-behind s (positions t 0 (map f (take (i - 1) xs))) (i - 1);
+  }
+
+pub behind-none : {t : Label → Bool} {f : ℕ → Label} {xs ms : List ℕ} {r : Found} → NoneBehind t f xs 0 → Missing ms r
+    → Sought theLast (positions t 0 (map f xs)) ms r
+unfolding theLast
+behind-none k m = record { is = λ s d g. rw (k .is) (m .is s d g) }
 
 -- a second hit
 module _ {t : Label → Bool} {f : ℕ → Label} {xs : List ℕ} {i h : ℕ} {b : Bool} where
@@ -129,14 +179,6 @@ module _ {t : Label → Bool} {f : ℕ → Label} {xs : List ℕ} {i h : ℕ} {b
   seek-second k l e g z =
       record { is = λ s d y. sym (k .rest s) ∙ rw (hits-one h z, positions-hit t f xs i l (sym e ∙ g)) }
 
-  pub seek-next : {h′ : ℕ} → Seeking theLast t f xs i h → i < length xs → b ≡ t (f (getD xs i 0)) → b ≡ true
-      → h′ ≡ i + 1
-      → Seeking theLast t f xs (i + 1) h′
-  unfolding hits
-  seek-next k l e g y = rw y (record {
-    rest = λ s. rw (add-one i) (rw (positions-hit t f xs i l (sym e ∙ g), last-only s h i, add-one i) at (k .rest s));
-  })
-
 pub only-none : (s : rules.Scope) → theOnly s [] ≡ notFound s
 unfolding theOnly
 only-none s = refl
@@ -144,14 +186,6 @@ only-none s = refl
 pub only-one : (s : rules.Scope) (j : ℕ) → theOnly s (j ∷ []) ≡ rules.at j
 unfolding theOnly
 only-one s j = refl
-
-pub last-none : (s : rules.Scope) → theLast s [] ≡ notFound s
-unfolding theLast
-last-none s = refl
-
-pub last-one : (s : rules.Scope) (j : ℕ) → theLast s (j ∷ []) ≡ rules.at j
-unfolding theLast
-last-one s j = refl
 
 -- THE WHOLE
 no-columns : (c q : Bytes) (xs ts : List ℕ) → length xs ≡ 0 → columnsOf c q ts xs ≡ []

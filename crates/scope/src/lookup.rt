@@ -12,6 +12,7 @@ ghost use Rattle.rules.specs.Scope.{isNamed, isQualified, theOnly, theLast};
 ghost use Rattle.scope.specs.Labels.{positionCount, labelAt, tablesOf, columnsOf};
 ghost use Rattle.scope.specs.Lookup.{qualifierOf, Sought, Looked};
 ghost use Rattle.scope.specs.Search.{Missing};
+ghost use Rattle.scope.specs.UsedMatches.{usedMatches};
 use super::labels::has_name;
 use super::labels::slot;
 use numbers::number;
@@ -143,18 +144,14 @@ fn last_qualified<'a>(
         (columnsOf (now (catalog .entry)) (now (statement .entry)) (now (tables .entry)) (now (labels .entry))))
         (now (matches .entry)) r) ⌝ }
 {
-    let mut last: u32 = 0;
-    let mut i: usize = 0;
-    while i < labels.len() {
+    let mut i = labels.len();
+    while 0 < i {
+        i -= 1;
         if is_qualified(catalog, statement, tables, labels[i], table, name) {
-            last = i as u32 + 1;
+            return Found::At(i as u32);
         }
-        i += 1;
     }
-    if last == 0 {
-        return not_found(matches);
-    }
-    Found::At(last - 1)
+    not_found(matches)
 }
 
 // The column of a name whose table has a name, if there is such a table.
@@ -225,6 +222,21 @@ pub fn first_matches(s: &[u16], n: usize) -> &[u16]
         return &s[..n];
     }
     s
+}
+
+// The matches of the first `width` columns; none where no column is matched.
+pub fn used_matches(matches: &[u16], width: u32) -> &[u16]
+    ensures { λ r. ⌜ now r ≡ usedMatches (take width (now (matches .entry))) ⌝ }
+{
+    let ms = first_matches(matches, width as usize);
+    let mut i: usize = 0;
+    while i < ms.len() {
+        if ms[i] != 0 {
+            return ms;
+        }
+        i += 1;
+    }
+    &ms[..0]
 }
 
 // The column that a name means, in a scope whose arrays are lent.

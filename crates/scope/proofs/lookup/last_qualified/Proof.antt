@@ -1,30 +1,30 @@
-use mathlib.Core.Logic.{⊎-elim}
-use Prim.Native.Nat.{_-_, _≤_, _<_}
+-- `last_qualified`: from the end, the first that has both names.
+use Prim.Native.Nat.{_+_, _-_, _≤_, _<_}
 use native.Mathlib.Omega.{arith}
-use lib.ListN.{length}
 use mathlib.Core.Path.{_≡_}
+use lib.ListN.{length}
 use Rattle.rules.specs.Lines.{Word}
-use Rattle.rules.specs.Scope.{theLast, isQualified}
+use Rattle.rules.specs.Scope.{isQualified}
 use Rattle.scope.specs.Labels.{positionCount, labelAt, columnsOf}
-use Rattle.scope.specs.Search.{Seeking, seek-begin, seek-miss, seek-next}
-use Rattle.scope.specs.Search.{seek-none, seek-one, last-none, last-one}
+use Rattle.scope.specs.Search.{NoneBehind, none-behind, behind-miss, behind-hit, behind-none}
 use borrow.Author.Needs.{needs}
 use Rattle.scope.proofs.lookup.last_qualified.Statement.{statement}
 use Rattle.scope.proofs.lookup.last_qualified.Tie as tie
-use Rattle.scope.proofs.lookup.last_qualified.Reads as reads
-use Rattle.scope.proofs.lookup.last_qualified.Lts as lts
 
 abbrev Inv-loop : tie.InvT-loop
-Inv-loop catalog statement labels matches tables table name last₀ i₀ last i =
+Inv-loop catalog statement labels matches tables table name i₀ i = 
     (i ≤ length labels) × (length labels < positionCount)
     × ((v w : Word) → v .bytes ≡ table → w .bytes ≡ name
-    → Seeking theLast (isQualified v w) (labelAt catalog statement tables) labels i last)
+    → NoneBehind (isQualified v w) (labelAt catalog statement tables) labels i)
 
 abbrev μ-loop : tie.MeasureT-loop
-μ-loop catalog statement labels matches tables table name last₀ i₀ last i = length labels - i
+μ-loop catalog statement labels matches tables table name i₀ i = i
 
 loop-holds : tie.Need-loop-holds Inv-loop μ-loop
-loop-holds c = (search needs, search needs, λ v w ev ew. seek-begin _ _ _ _)
+loop-holds c = (search needs, search needs, λ v w ev ew. none-behind _ _ _)
+
+sub-i : tie.Need-sub-i Inv-loop μ-loop
+sub-i c = search needs
 
 mul-is-qualified : tie.Need-mul-is-qualified Inv-loop μ-loop
 mul-is-qualified c = search needs
@@ -35,14 +35,14 @@ shared-slice-read-is-qualified c = search needs
 is-qualified-requires : tie.Need-is-qualified-requires Inv-loop μ-loop
 is-qualified-requires c κs = search needs
 
-cast-last : tie.Need-cast-last Inv-loop μ-loop
-cast-last c = search needs
+cast-t14 : tie.Need-cast-t14 Inv-loop μ-loop
+cast-t14 c = search needs
 
-add-last : tie.Need-add-last Inv-loop μ-loop
-add-last c = search needs
-
-add-i : tie.Need-add-i Inv-loop μ-loop
-add-i c = search needs
+returns : tie.Need-returns Inv-loop μ-loop
+unfolding columnsOf
+returns c =
+    λ v w ev ew. behind-hit (c .before .before .before .before .loop .inv .2 v w ev ew) (omega arith) (c .before .before .before .before .loop .inv .0)
+    (c .before .is-qualified .ensures v w ev ew) (c .if1 .taken)
 
 loop-less : tie.Need-loop-less Inv-loop μ-loop
 loop-less c = search needs
@@ -51,29 +51,19 @@ loop-again : tie.Need-loop-again Inv-loop μ-loop
 loop-again c = (
   omega arith,
   search needs,
-  λ v w ev ew. ⊎-elim
-      (λ z. seek-next (c .before .before .before .before .loop .inv .2 v w ev ew) (c .before .before .before .loop-test .taken)
-      (c .before .is-qualified .ensures v w ev ew) (z .0 .taken) (z .1))
-      (λ z. seek-miss (c .before .before .before .before .loop .inv .2 v w ev ew) (c .before .before .before .loop-test .taken)
-      (c .before .is-qualified .ensures v w ev ew) (z .0 .left) (z .1))
-      (c .if1 .came),
+  λ v w ev ew. behind-miss (c .before .before .before .before .loop .inv .2 v w ev ew) (omega arith) (c .before .before .before .before .loop .inv .0)
+      (c .before .is-qualified .ensures v w ev ew) (c .if1 .left),
 )
 
 not-found-requires : tie.Need-not-found-requires Inv-loop μ-loop
 not-found-requires c κs = search needs
 
-returns : tie.Need-returns Inv-loop μ-loop
-unfolding columnsOf
-returns c =
-    λ v w ev ew. seek-none (c .before .before .before .loop .inv .2 v w ev ew) (c .before .before .loop-test .left) (c .before .if2 .taken)
-    last-none (c .not-found .ensures)
-
-sub-t17 : tie.Need-sub-t17 Inv-loop μ-loop
-sub-t17 c = search needs
-
 returns-2 : tie.Need-returns-2 Inv-loop μ-loop
 unfolding columnsOf
-returns-2 c = λ v w ev ew. seek-one (c .before .before .loop .inv .2 v w ev ew) (c .before .loop-test .left) (omega arith) last-one
+returns-2 c =
+    λ v w ev ew.
+    let z : c .before .before .loop .i ≡ 0 = omega arith in
+    behind-none (rw z at (c .before .before .loop .inv .2 v w ev ew)) (c .not-found .ensures)
 
 pub last-qualified-spec : {M : Type 1} → statement M
 last-qualified-spec =
@@ -82,15 +72,13 @@ last-qualified-spec =
     Inv-loop
     μ-loop
     loop-holds
+    sub-i
     mul-is-qualified
     shared-slice-read-is-qualified
     is-qualified-requires
-    cast-last
-    add-last
-    add-i
+    cast-t14
+    returns
     loop-less
     loop-again
     not-found-requires
-    returns
-    sub-t17
     returns-2)
