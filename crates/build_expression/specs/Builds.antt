@@ -4,7 +4,7 @@ use Prim.Native.Nat.{ℕ, suc, _+_, _*_, _<_}
 use mathlib.Core.Path.{_≡_, _∙_}
 use mathlib.Core.List.{List}
 use mathlib.Core.Option.{none}
-use lib.ListN.{length}
+use lib.ListN.{length, take}
 use Rattle.rules.specs.Lists.{Bytes}
 use Rattle.rules.specs.Codes.{unaryCode}
 use Rattle.rules.specs.Ast.{Unary, size}
@@ -14,6 +14,7 @@ use Rattle.ast.specs.Table.{rowSize, binaryAt, treeAt}
 use Rattle.ast.specs.Row.{lineAt, operatorAt, rowLiteral, firstOperand, secondOperand}
 use Rattle.scope.specs.Scopes.{matchesOf, scopeFrom}
 use Rattle.scope.specs.Matches.{matched-from}
+use Rattle.scope.specs.UsedMatches.{usedMatches, used-again, used-scope}
 use Rattle.plan.specs.Emits.{Emitting, Emits, joined}
 use Rattle.plan.specs.declared.cells.Written.{Written}
 use Rattle.build_expression.specs.Rows.{unaryStep, isStep, binaryStep}
@@ -29,6 +30,14 @@ scopeAt c q t xs ms ts h = scopeFrom (treeAt c q t) c q xs ms ts h
 -- the tree at row r is built from the n-th cell on, whatever is hidden
 pub record Builds (c q : Bytes) (t xs ms ts : List ℕ) (r n : ℕ) (area area′ : List ℕ) (x : Written) : Type 0 where
   pub is : (h : ℕ) → Emits (emit (scopeAt c q t xs ms ts h) n (treeAt c q t r)) n area area′ x
+
+-- the matches us are those that ms has, or none where nothing is matched
+pub used-builds : {c q : Bytes} {t xs us ts : List ℕ} {r n : ℕ} {area area′ : List ℕ} {x : Written} (w : ℕ) (ms : List ℕ)
+    → us ≡ usedMatches (take w ms) → Builds c q t xs (take w us) ts r n area area′ x
+    → Builds c q t xs (take w ms) ts r n area area′ x
+used-builds {c} {q} {t} {xs} {us} {ts} w ms e b = record {
+  is = λ h. rw (e, used-again w ms, used-scope (treeAt c q t) c q xs (take w ms) ts h) at (b .is h);
+}
 
 -- it is matched to no column
 pub record Unmatched (c q : Bytes) (t ms : List ℕ) (r : ℕ) : Type 0 where

@@ -11,6 +11,7 @@ ghost use Rattle.plan.specs.Cells.{Room};
 ghost use Rattle.build_expression.specs.Builds.{Builds};
 use ast::rows;
 use plan::cells::Written;
+use scope::lookup::used_matches;
 
 // A record whose operands are to be built: a unary operator by its code, `is`, or a binary operator.
 pub enum Operator {
@@ -26,7 +27,7 @@ pub enum Begun {
 }
 
 // The cells of the tree at row r from the n-th on: a match first, then the operands, the left one first.
-pub fn build_expression<'a>(
+fn build_tree<'a>(
     catalog: &[u8],
     statement: &[u8],
     table: &[u32],
@@ -62,7 +63,7 @@ pub fn build_expression<'a>(
         Begun::Operands(operator) => {
             let left = r + 1;
             let right = rows::next(table, left);
-            let first = build_expression(
+            let first = build_tree(
                 catalog,
                 statement,
                 table,
@@ -82,7 +83,7 @@ pub fn build_expression<'a>(
                 Operator::Unary(code) => operators::unary(area, m, code),
                 Operator::Is => operators::is(table, r, area, m),
                 Operator::Binary => {
-                    let second = build_expression(
+                    let second = build_tree(
                         catalog,
                         statement,
                         table,
@@ -103,4 +104,39 @@ pub fn build_expression<'a>(
             }
         }
     }
+}
+
+// The same, where no match is looked for if nothing is matched.
+pub fn build_expression<'a>(
+    catalog: &[u8],
+    statement: &[u8],
+    table: &[u32],
+    r: usize,
+    labels: &'a [u32],
+    matches: &'a [u16],
+    width: u32,
+    tables: &'a [u32],
+    count: u32,
+    area: &mut [u32],
+    n: u32,
+) -> Written
+    requires { ⌜ Room n (3 * size (treeAt (now catalog) (now statement) (now table) r)) (now area) ⌝ }
+    ensures { λ x. ⌜ Builds (now (catalog .entry)) (now (statement .entry)) (now (table .entry))
+        (take width (now (labels .entry))) (take width (now (matches .entry))) (take count (now (tables .entry)))
+        r n (now (area .entry)) (now (area .exit)) x ⌝ }
+{
+    let used = used_matches(matches, width);
+    build_tree(
+        catalog,
+        statement,
+        table,
+        r,
+        labels,
+        used,
+        width,
+        tables,
+        count,
+        area,
+        n,
+    )
 }

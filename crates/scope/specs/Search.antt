@@ -161,7 +161,7 @@ module _ {t : Label → Bool} {f : ℕ → Label} {xs : List ℕ} {i : ℕ} {b :
   pub behind-hit : {ms : List ℕ} → b ≡ true → Sought theLast (positions t 0 (map f xs)) ms (At (i - 1))
   unfolding foundOf
   behind-hit g = record {
-    is = λ s d y. ap (theLast s) (hit-last t f xs (i - 1) next-behind (omega arith) (sym e ∙ g)) 
+    is = λ s d y. ap (theLast s) (hit-last t f xs (i - 1) next-behind (omega arith) (sym e ∙ g))
         ∙ last-behind s (positions t 0 (map f (take (i - 1) xs))) (i - 1);
   }
 

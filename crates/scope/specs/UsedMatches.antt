@@ -2,13 +2,11 @@
 use Prim.Native.Nat.{ℕ, zero, suc, _+_, _≤_, _<_}
 use native.Mathlib.Omega.{arith}
 use native.Mathlib.Numerals.{add-one}
-use mathlib.Core.Path.{_≡_, refl, sym, _∙_}
+use mathlib.Core.Path.{_≡_, refl, sym}
 use mathlib.Core.Bool.{Bool, true, false}
 use mathlib.Core.List.{List, [], _∷_}
-use lib.Dec.{eqb}
-use lib.ListN.{length, getD, drop, drop-of-length-le}
-use lib.Seq.{drop-cons}
-use borrow.Author.Tests.{eqb-true, ne-eqb}
+use lib.ListN.{length, getD, take, drop, length-take, drop-of-length-le}
+use lib.Seq.{drop-cons, take-all}
 use Rattle.rules.specs.Lists.{Bytes, any}
 use Rattle.rules.specs.Ast.{Expr}
 use Rattle.scope.specs.Scopes.{matchesOf, scopeFrom}
@@ -43,6 +41,14 @@ pub used-scope : (e : ℕ → Expr) (c q : Bytes) (xs ms ts : List ℕ) (h : ℕ
     → scopeFrom e c q xs (usedMatches ms) ts h ≡ scopeFrom e c q xs ms ts h
 unfolding scopeFrom
 used-scope e c q xs ms ts h = rw (same-matches e ms)
+
+pub used-again : (n : ℕ) (ms : List ℕ) → take n (usedMatches (take n ms)) ≡ usedMatches (take n ms)
+unfolding usedMatches
+used-again n ms = go (someMatch (take n ms))
+  where
+    go : (b : Bool) → take {A = ℕ} n (elim b [ true ↦ take n ms | false ↦ [] ]) ≡ elim b [ true ↦ take n ms | false ↦ [] ]
+    go true = take-all n (take n ms) (omega (arith, length-take n ms))
+    go false = take-all n [] (omega arith)
 
 -- IN A LOOP
 module _ (ms : List ℕ) (i : ℕ) where

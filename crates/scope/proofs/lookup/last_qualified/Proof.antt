@@ -12,7 +12,7 @@ use Rattle.scope.proofs.lookup.last_qualified.Statement.{statement}
 use Rattle.scope.proofs.lookup.last_qualified.Tie as tie
 
 abbrev Inv-loop : tie.InvT-loop
-Inv-loop catalog statement labels matches tables table name i₀ i = 
+Inv-loop catalog statement labels matches tables table name i₀ i =
     (i ≤ length labels) × (length labels < positionCount)
     × ((v w : Word) → v .bytes ≡ table → w .bytes ≡ name
     → NoneBehind (isQualified v w) (labelAt catalog statement tables) labels i)
