@@ -7,10 +7,11 @@ mod put; // put.rt: bytes and fields
 
 ghost use Prim.Native.Nat.{_-_};
 ghost use mathlib.Core.Path.{_≡_};
+ghost use lib.ListN.{drop};
 ghost use Rattle.rules.specs.Print.{showLines};
 ghost use Rattle.listing.specs.Lines.{Lines};
 ghost use Rattle.listing.specs.Own.{headerLine, areaLines, showArea};
-ghost use Rattle.listing.specs.Listed.{Holds, refusalLine};
+ghost use Rattle.listing.specs.Listed.{Told, Holds, refusalLine};
 use cells::put_cells;
 use cells::tail;
 use nodes::put_nodes;
@@ -21,10 +22,28 @@ use put::put_bytes;
 use put::put_number;
 use put::put_word;
 
-// How many bytes the listing has, or that it is not shorter than the buffer.
+// The bytes of a window: what is listed of a plan at once.
+pub const WINDOW: usize = 65536;
+
+pub type Window = [u8; WINDOW];
+
+// How many bytes are listed in the window, with none behind them; or that the window is full and there may be more.
 pub enum Listed {
     Bytes(usize),
-    NoRoom,
+    Full,
+}
+
+// The answer, from how many bytes of the window are left.
+fn told(left: usize) -> Listed
+    ensures { λ r. ⌜ Told left r ⌝ }
+{
+    if left == 0 {
+        return Listed::Full;
+    }
+    if left < WINDOW {
+        return Listed::Bytes(WINDOW - left);
+    }
+    Listed::Bytes(0)
 }
 
 // The number of the last of n nodes.
@@ -37,10 +56,10 @@ fn last(n: u32) -> u32
     n - 1
 }
 
-fn put_header(out: &mut [u8], area: &[u32]) -> usize
-    ensures { λ r. ⌜ Lines (now (out .entry)) (now (out .exit)) 0 (headerLine (now (area .entry))) r ⌝ }
+fn put_header(out: &mut [u8], at: usize, area: &[u32]) -> usize
+    ensures { λ r. ⌜ Lines (now (out .entry)) (now (out .exit)) at (headerLine (now (area .entry))) r ⌝ }
 {
-    let a = put_bytes(out, 0, b"plan");
+    let a = put_bytes(out, at, b"plan");
     let b = put_word(
         out,
         a,
@@ -52,47 +71,44 @@ fn put_header(out: &mut [u8], area: &[u32]) -> usize
     put_byte(out, e, b'\n')
 }
 
-// The lines of an area, as many of their bytes as fit.
-fn put_area(out: &mut [u8], catalog: &[u8], statement: &[u8], area: &[u32]) -> usize
-    ensures { λ r. ⌜ Lines (now (out .entry)) (now (out .exit)) 0 (areaLines (now (catalog .entry)) (now (statement .entry)) (now (area .entry))) r ⌝ }
+// The lines of an area.
+fn put_area(out: &mut [u8], at: usize, catalog: &[u8], statement: &[u8], area: &[u32]) -> usize
+    ensures { λ r. ⌜ Lines (now (out .entry)) (now (out .exit)) at (areaLines (now (catalog .entry)) (now (statement .entry)) (now (area .entry))) r ⌝ }
 {
     let k = number(area, 1);
     let n = last(number(area, 3));
     let own = tail(area, number(area, 4) as usize);
-    let a = put_header(out, area);
+    let a = put_header(out, at, area);
     let b = put_cells(out, a, catalog, statement, area);
     let d = put_nodes(out, b, catalog, statement, area);
     put_own(out, d, catalog, statement, k, n, own)
 }
 
-// The listing of an area, at the start of `out`.
-pub fn list(catalog: &[u8], statement: &[u8], area: &[u32], out: &mut [u8]) -> Listed
-    ensures { λ r. ⌜ Holds (showArea (now (catalog .entry)) (now (statement .entry)) (now (area .entry))) (now (out .exit)) r ⌝ }
+// The listing of an area from its byte `from` on, as much of it as the window has room for.
+pub fn list(catalog: &[u8], statement: &[u8], area: &[u32], from: u32, out: &mut Window) -> Listed
+    ensures { λ r. ⌜ Holds (drop from (showArea (now (catalog .entry)) (now (statement .entry)) (now (area .entry)))) (now (out .exit)) r ⌝ }
 {
-    let n = put_area(out, catalog, statement, area);
-    if n < out.len() {
-        return Listed::Bytes(n);
-    }
-    Listed::NoRoom
+    let at = from as usize + WINDOW;
+    let left = put_area(out, at, catalog, statement, area);
+    told(left)
 }
 
-fn put_refusal(out: &mut [u8], number: u32, text: u32, line: u32) -> usize
-    ensures { λ r. ⌜ Lines (now (out .entry)) (now (out .exit)) 0 (refusalLine number text line) r ⌝ }
+fn put_refusal(out: &mut [u8], at: usize, number: u32, text: u32, line: u32) -> usize
+    ensures { λ r. ⌜ Lines (now (out .entry)) (now (out .exit)) at (refusalLine number text line) r ⌝ }
 {
-    let a = put_bytes(out, 0, b"refused");
+    let a = put_bytes(out, at, b"refused");
     let b = put_number(out, a, number);
     let d = put_word(out, b, b" catalog statement ", text);
     let e = put_number(out, d, line);
     put_byte(out, e, b'\n')
 }
 
-// The line of a refusal by its number, its text's number and its line, at the start of `out`.
-pub fn list_refusal(number: u32, text: u32, line: u32, out: &mut [u8]) -> Listed
-    ensures { λ r. ⌜ Holds (showLines (refusalLine number text line)) (now (out .exit)) r ⌝ }
+// The line of a refusal by its number, its text's number and its line, from its byte `from` on, as much of it as the window
+// has room for.
+pub fn list_refusal(number: u32, text: u32, line: u32, from: u32, out: &mut Window) -> Listed
+    ensures { λ r. ⌜ Holds (drop from (showLines (refusalLine number text line))) (now (out .exit)) r ⌝ }
 {
-    let n = put_refusal(out, number, text, line);
-    if n < out.len() {
-        return Listed::Bytes(n);
-    }
-    Listed::NoRoom
+    let at = from as usize + WINDOW;
+    let left = put_refusal(out, at, number, text, line);
+    told(left)
 }

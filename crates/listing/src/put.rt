@@ -1,4 +1,6 @@
-// Bytes and fields put into `out` from `at` on, as many as fit; each function answers the position behind them.
+// Bytes and fields put into the window `out` from the position `at` on; each function answers the position behind them. A
+// position is how many bytes there are from it to the window's end: bytes before the window, and those behind it, are passed
+// over.
 ghost use mathlib.Core.Path.{_≡_};
 ghost use mathlib.Core.List.{[], _∷_};
 ghost use lib.ListN.{getD};
@@ -13,11 +15,15 @@ use text::MOST_BYTES;
 pub fn put_byte(out: &mut [u8], at: usize, b: u8) -> usize
     ensures { λ r. ⌜ Put (now (out .entry)) (now (out .exit)) at (b ∷ []) r ⌝ }
 {
-    if at < out.len() {
-        out[at] = b;
-        return at + 1;
+    if at == 0 {
+        return 0;
     }
-    at
+    if at <= out.len() {
+        let i = out.len() - at;
+        out[i] = b;
+        return at - 1;
+    }
+    at - 1
 }
 
 pub fn put_bytes(out: &mut [u8], at: usize, b: &[u8]) -> usize

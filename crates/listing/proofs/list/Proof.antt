@@ -1,26 +1,23 @@
--- `list`: by whether the lines fit.
+-- `list`: the lines of the area, from the window's first byte on.
 use borrow.Author.Needs.{needs}
+use mathlib.Core.Path.{refl}
 use Rattle.listing.specs.Own.{showArea}
-use Rattle.listing.specs.Listed.{fitted, no-room}
+use Rattle.listing.specs.Listed.{held}
 use Rattle.listing.proofs.list.Statement.{statement}
 use Rattle.listing.proofs.list.Tie as tie
+
+add-at : tie.Need-add-at
+add-at c = search needs
 
 put-area-requires : tie.Need-put-area-requires
 put-area-requires c κs = search needs
 
-same-length : tie.Need-same-length
-same-length c = search needs
+told-requires : tie.Need-told-requires
+told-requires c κs = search needs
 
 returns : tie.Need-returns
 unfolding showArea
-returns c = fitted (c .before .before .before .put-area .ensures .put) (c .if1 .taken)
-
-same-length-2 : tie.Need-same-length-2
-same-length-2 c = search needs
-
-returns-2 : tie.Need-returns-2
-unfolding showArea
-returns-2 c = no-room (c .before .before .before .put-area .ensures .put) (c .if1 .left)
+returns c = held _ (search needs) refl (c .before .put-area .ensures .put) _ (c .told .ensures)
 
 pub list-spec : {M : Type 1} → statement M
-list-spec = tie.close (tie.spec put-area-requires same-length returns same-length-2 returns-2)
+list-spec = tie.close (tie.spec add-at put-area-requires told-requires returns)

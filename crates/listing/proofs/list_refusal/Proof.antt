@@ -1,24 +1,21 @@
--- `list_refusal`: by whether the line fits.
+-- `list_refusal`: the line of the refusal, from the window's first byte on.
 use borrow.Author.Needs.{needs}
-use Rattle.listing.specs.Listed.{fitted, no-room}
+use mathlib.Core.Path.{refl}
+use Rattle.listing.specs.Listed.{held}
 use Rattle.listing.proofs.list_refusal.Statement.{statement}
 use Rattle.listing.proofs.list_refusal.Tie as tie
+
+add-at : tie.Need-add-at
+add-at c = search needs
 
 put-refusal-requires : tie.Need-put-refusal-requires
 put-refusal-requires c κs = search needs
 
-same-length : tie.Need-same-length
-same-length c = search needs
+told-requires : tie.Need-told-requires
+told-requires c κs = search needs
 
 returns : tie.Need-returns
-returns c = fitted (c .before .before .before .put-refusal .ensures .put) (c .if1 .taken)
-
-same-length-2 : tie.Need-same-length-2
-same-length-2 c = search needs
-
-returns-2 : tie.Need-returns-2
-returns-2 c = no-room (c .before .before .before .put-refusal .ensures .put) (c .if1 .left)
+returns c = held _ (search needs) refl (c .before .put-refusal .ensures .put) _ (c .told .ensures)
 
 pub list-refusal-spec : {M : Type 1} → statement M
-list-refusal-spec =
-    tie.close (tie.spec put-refusal-requires same-length returns same-length-2 returns-2)
+list-refusal-spec = tie.close (tie.spec add-at put-refusal-requires told-requires returns)
