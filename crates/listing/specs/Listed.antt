@@ -5,7 +5,8 @@ use native.Mathlib.Nat.{zero-add, suc-add}
 use mathlib.Core.Path.{_≡_, refl, sym, ap, _∙_}
 use mathlib.Core.List.{List, [], _∷_}
 use lib.ListN.{length, take, drop}
-use lib.Seq.{take-all, take-length, take-nil, drop-nil}
+use lib.Seq.{take-all, take-length, take-nil, length-take-le}
+use Rattle.io.specs.Counts.{Counts}
 use Rattle.rules.specs.Refusals.{Text, catalog, statement, refusalNumber, Refusal, refused}
 use Rattle.rules.specs.Lists.{Bytes}
 use Rattle.rules.specs.Lines.{bytes}
@@ -46,7 +47,8 @@ unfolding Told
 told-none left h = (omega arith, omega arith)
 
 -- a window that starts behind `from` bytes of b
-module _ {s s′ : List ℕ} {b : Bytes} {at left : ℕ} (from : ℕ) (w : length s ≡ 65536) (a : at ≡ from + 65536) (h : Put s s′ at b left) where
+module _ {s s′ : List ℕ} {b : Bytes} {at left : ℕ} (from : ℕ) (w : length s ≡ 65536) (a : at ≡ from + 65536)
+    (h : Put s s′ at b left) where
   put-window : take (65536 - left) s′ ≡ drop from (take at b)
   put-window =
       let e : 65536 - at ≡ 0 = omega arith in
@@ -61,6 +63,20 @@ module _ {s s′ : List ℕ} {b : Bytes} {at left : ℕ} (from : ℕ) (w : lengt
   held L.Full t =
       let l : length s′ ≡ 65536 = h .room ∙ w in
       sym (take-length s′) ∙ rw (l) (rw (t) at put-window ∙ ap (λ i. drop from (take i b)) a ∙ drop-take from 65536 b)
+
+-- WHAT A CALLER KNOWS
+module _ (b : Bytes) (s : List ℕ) {r : Ls.Listed} (h : Holds b s r) where
+  pub counted : {n : ℕ} → r ≡ L.Bytes n → Counts n s
+  unfolding Holds
+  counted {n} e = let l : n < length s = (rw e at h) .0 in (omega arith, sym (length-take-le n s (omega arith)))
+
+  pub ended : {n : ℕ} → r ≡ L.Bytes n → take n s ≡ b
+  unfolding Holds
+  ended e = (rw e at h) .1
+
+  pub filled : r ≡ L.Full → s ≡ take (length s) b
+  unfolding Holds
+  filled e = rw e at h
 
 -- A REFUSAL by its number, its text's number and its line
 unfoldable pub refusalLine : ℕ → ℕ → ℕ → List (List Bytes)

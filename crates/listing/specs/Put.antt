@@ -24,7 +24,8 @@ put-none s at = record {
 }
 
 -- a byte inside the window
-pub put-one : (s : List ℕ) (at x : ℕ) → (at ≡ 0 → ⊥) → at ≤ length s → Put s (set s (length s - at) x) at (x ∷ []) (at - 1)
+pub put-one : (s : List ℕ) (at x : ℕ) → (at ≡ 0 → ⊥) → at ≤ length s
+    → Put s (set s (length s - at) x) at (x ∷ []) (at - 1)
 put-one s at x n h =
     let p : 0 < at = omega (arith, n) in
     let e : length s - (at - 1) ≡ suc (length s - at) = omega arith in
@@ -74,9 +75,11 @@ window-both k n m a b e =
     ∙ ap (λ (i : ℕ). drop k (take n a) ++ drop i (take (n - length a) b)) f
 
 -- one put behind the other
-pub put-then : {s s₁ s₂ : List ℕ} {at x r : ℕ} {a b : Bytes} → Put s s₁ at a x → Put s₁ s₂ x b r → Put s s₂ at (a ++ b) r
+pub put-then : {s s₁ s₂ : List ℕ} {at x r : ℕ} {a b : Bytes} → Put s s₁ at a x → Put s₁ s₂ x b r
+    → Put s s₂ at (a ++ b) r
 put-then {s} {s₁} {s₂} {at} {x} {r} {a} {b} h g =
-    let w : take (length s - r) s₂ ≡ take (length s - x) s₁ ++ drop (x - length s) (take x b) = rw (h .room) at (g .written) in
+    let w : take (length s - r) s₂ ≡ take (length s - x) s₁ ++ drop (x - length s) (take x b) =
+    rw (h .room) at (g .written) in
     record {
       room = g .room ∙ h .room;
       left = omega (arith, h .left, g .left, length-append a b);

@@ -1,4 +1,4 @@
-pub mod Input
+pub mod Long
 pub mod Decimals
 pub mod Fields
 pub mod Line

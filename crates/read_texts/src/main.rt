@@ -15,7 +15,6 @@ use statement::CELL_NUMBERS;
 use statement::FROM_NUMBERS;
 use statement::PART_NUMBERS;
 
-mod input; // input.rt: a text from a file
 mod line; // line.rt: the line that is printed
 
 // The line to print of two texts, at the start of `out`; `tables` has enough numbers for the catalog.

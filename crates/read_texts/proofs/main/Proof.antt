@@ -1,6 +1,6 @@
 -- `main`: each text is as many bytes of its buffer as were read.
 use borrow.Author.Needs.{needs}
-use Rattle.read_texts.specs.Input.{counted}
+use Rattle.input.specs.Input.{counted}
 use Rattle.read_texts.proofs.main.Statement.{statement}
 use Rattle.read_texts.proofs.main.Tie as tie
 

@@ -3,9 +3,9 @@ use Prim.Native.Nat.{_-_, _≤_}
 use mathlib.Core.Path.{_≡_}
 use lib.ListN.{length}
 use borrow.Author.Needs.{needs}
-use Rattle.read_texts.specs.Input.{within, failed}
-use Rattle.read_texts.proofs.input.fill.Statement.{statement}
-use Rattle.read_texts.proofs.input.fill.Tie as tie
+use Rattle.input.specs.Input.{within, failed}
+use Rattle.input.proofs.fill.Statement.{statement}
+use Rattle.input.proofs.fill.Tie as tie
 
 abbrev Inv-loop : tie.InvT-loop
 Inv-loop fd text₀ done₀ text done = (done ≤ length text) × (length text ≡ length text₀)

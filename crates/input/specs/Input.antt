@@ -6,14 +6,11 @@ use mathlib.Core.Path.{_≡_, sym}
 use mathlib.Core.List.{List}
 use lib.ListN.{length, take}
 use lib.Seq.{length-take-le}
-use borrow.Author.Tests.{lt-ltb, le-ltb}
 use Rattle.io.specs.Counts.{Counts}
-use Rattle.rules.specs.Refusals.{catalog, statement, limitPassed, refused}
 use Rattle.rules.specs.Limits.{mostBytes}
 use Rattle.rules.specs.Lists.{Bytes}
-use Rattle.reader.specs.Texts.{readTexts}
-use Rattle.read_texts.specs.declared.input.Input as In
-use Rattle.read_texts.specs.declared.input.Input.the-variants as I
+use Rattle.input.specs.declared.Input as In
+use Rattle.input.specs.declared.Input.the-variants as I
 
 -- as many bytes as there are at most
 unfoldable pub Within : List ℕ → In.Input → Type 0
@@ -42,16 +39,7 @@ pub counted : (s : List ℕ) (r : In.Input) {n : ℕ} → Whole s r → r ≡ I.
 unfolding Whole
 counted s r h e = (rw e at h) .0
 
--- a file that fills the buffer is refused: 3, line 0, the catalog first
-module _ (s : Bytes) (n : ℕ) (h : Whole s (I.Bytes n)) (full : length s ≤ n) where
-  long : mostBytes < length (take n s)
-  unfolding Whole
-  long = elim (decLt mostBytes n) [ yes l ↦ omega (arith, h .0 .1) | no l ↦ absurd (omega (arith, h .1 (omega (arith, l)))) ]
-
-  pub long-catalog : (q : Bytes) → readTexts (take n s) q ≡ refused (record { reason = limitPassed; text = catalog; line = 0 })
-  unfolding readTexts
-  long-catalog q = rw (readTexts, lt-ltb mostBytes (length (take n s)) long)
-
-  pub long-statement : (c : Bytes) → length c ≤ mostBytes → readTexts c (take n s) ≡ refused (record { reason = limitPassed; text = statement; line = 0 })
-  unfolding readTexts
-  long-statement c l = rw (readTexts, le-ltb mostBytes (length c) l, lt-ltb mostBytes (length (take n s)) long)
+-- a file that fills the buffer is longer than a text may be
+pub long : (s : Bytes) (n : ℕ) → Whole s (I.Bytes n) → length s ≤ n → mostBytes < length (take n s)
+unfolding Whole
+long s n h full = elim (decLt mostBytes n) [ yes l ↦ omega (arith, h .0 .1) | no l ↦ absurd (omega (arith, h .1 (omega (arith, l)))) ]

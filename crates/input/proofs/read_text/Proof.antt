@@ -1,9 +1,9 @@
 -- `read_text`: a buffer has room for more bytes than a text may have.
 use native.Mathlib.Omega.{arith}
 use borrow.Author.Needs.{needs}
-use Rattle.read_texts.specs.Input.{whole}
-use Rattle.read_texts.proofs.input.read_text.Statement.{statement}
-use Rattle.read_texts.proofs.input.read_text.Tie as tie
+use Rattle.input.specs.Input.{whole}
+use Rattle.input.proofs.read_text.Statement.{statement}
+use Rattle.input.proofs.read_text.Tie as tie
 
 fill-requires : tie.Need-fill-requires
 fill-requires c κs = search needs

@@ -1,5 +1,5 @@
-// A text from an open file, read as far as it takes to see that it is too long.
-ghost use Rattle.read_texts.specs.Input.{Within, Whole};
+// What an open file holds, and a text from one, read as far as it takes to see that it is too long.
+ghost use Rattle.input.specs.Input.{Within, Whole};
 
 pub const SIZE: usize = 65537;
 
@@ -13,7 +13,7 @@ pub enum Input {
 }
 
 // The file's bytes at the start of `text`, to the file's end or until `text` is full.
-fn fill(fd: i32, text: &mut [u8]) -> Input
+pub fn fill(fd: i32, text: &mut [u8]) -> Input
     ensures { λ r. ⌜ Within (now (text .exit)) r ⌝ }
 {
     let mut done: usize = 0;
