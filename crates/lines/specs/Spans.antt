@@ -148,8 +148,11 @@ unfolding linesEnd
 line-from t zero p = elim (decLt p (length t)) [ yes y ↦ rw (lines-at t p (omega (arith, y))) | no y ↦ line-out t p 0 (omega (arith, y)) ]
 line-from t (suc n) p = elim (decLt p (length t)) [ yes y ↦ rw (lines-at t p (omega (arith, y))) (line-from t n (lineEnd t p)) | no y ↦ line-out t p (suc n) (omega (arith, y)) ]
 
--- the bytes that stand there are the n-th of the text's lines
-pub line-bytes : (t : Bytes) (n : ℕ) → take (lineSpan t n .len) (drop (lineSpan t n .start) t) ≡ lineOf t n
+span-bytes : (t : Bytes) (n : ℕ) → take (lineSpan t n .len) (drop (lineSpan t n .start) t) ≡ lineOf t n
 unfolding lineSpan spanAt lineOf
-line-bytes t zero = refl
-line-bytes t (suc n) = bytes-take (drop (linesEnd t 0 n) t) ∙ line-from t n 0
+span-bytes t zero = refl
+span-bytes t (suc n) = bytes-take (drop (linesEnd t 0 n) t) ∙ line-from t n 0
+
+-- the bytes that stand there are the n-th of the text's lines
+pub line-bytes : (t : Bytes) (n : ℕ) (s : Span) → s ≡ lineSpan t n → take (s .len) (drop (s .start) t) ≡ lineOf t n
+line-bytes t n s e = rw e (span-bytes t n)

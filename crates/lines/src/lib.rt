@@ -4,7 +4,7 @@
 ghost use mathlib.Core.Path.{_≡_};
 ghost use Prim.Native.Nat.{_+_, _<_, _^_};
 ghost use Rattle.text.specs.Lines.{Fields};
-ghost use Rattle.lines.specs.Spans.{linesEnd, spanAt, lineSpan};
+ghost use Rattle.lines.specs.Spans.{linesEnd, spanAt, lineSpan, lineOf};
 ghost use Rattle.lines.specs.Readers.{atStart, linesOn};
 
 // A text with a position in it and the number of the line that starts there, from 1.
@@ -113,11 +113,19 @@ fn span_behind(text: &[u8], n: u32) -> Span
 }
 
 // Where the n-th line of a text stands, from 1: no bytes where there is none.
-pub fn line_at(text: &[u8], n: u32) -> Span
+fn line_span(text: &[u8], n: u32) -> Span
     ensures { λ r. ⌜ r ≡ lineSpan (now (text .entry)) n ⌝ }
 {
     if n == 0 {
         return Span { start: 0, len: 0 };
     }
     span_behind(text, n - 1)
+}
+
+// The n-th line of a text, from 1, without its LF: no bytes where there is none.
+pub fn line_at(text: &[u8], n: u32) -> &[u8]
+    ensures { λ r. ⌜ now r ≡ lineOf (now (text .entry)) n ⌝ }
+{
+    let s = line_span(text, n);
+    text::part(text, s.start, s.len)
 }

@@ -1,20 +1,18 @@
--- `line_at`: no line 0, and before the n-th stand n - 1.
+-- `line_at`: the bytes where the n-th line stands.
 use borrow.Author.Needs.{needs}
-use Rattle.lines.specs.Spans.{span-none, span-nth}
+use mathlib.Core.Path.{_∙_}
+use Rattle.lines.specs.Spans.{line-bytes}
 use Rattle.lines.proofs.line_at.Statement.{statement}
 use Rattle.lines.proofs.line_at.Tie as tie
 
+line-span-requires : tie.Need-line-span-requires
+line-span-requires c κs = search needs
+
+part-requires : tie.Need-part-requires
+part-requires c κs = search needs
+
 returns : tie.Need-returns
-returns c = span-none _ _ (c .if1 .taken)
-
-sub-span-behind : tie.Need-sub-span-behind
-sub-span-behind c = search needs
-
-span-behind-requires : tie.Need-span-behind-requires
-span-behind-requires c κs = search needs
-
-returns-2 : tie.Need-returns-2
-returns-2 c = span-nth _ _ _ (c .before .if1 .left) (c .span-behind .ensures)
+returns c = c .part .ensures ∙ line-bytes _ _ _ (c .before .line-span .ensures)
 
 pub line-at-spec : {M : Type 1} → statement M
-line-at-spec = tie.close (tie.spec returns sub-span-behind span-behind-requires returns-2)
+line-at-spec = tie.close (tie.spec line-span-requires part-requires returns)
