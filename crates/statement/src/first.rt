@@ -100,7 +100,7 @@ pub fn first_record(t: &[u8]) -> First
     requires { ⌜ length (now t) ≤ mostBytes ⌝ }
     ensures { λ r. ⌜ ((c : Bytes) → firstSaid c (now (t .entry)) r ≡ oneOf statementHeads (lineHere (here (now (t .entry)) 0 1 0 0))) ⌝ }
 {
-    let f = text::fields(t, 0);
+    let f = lines::first_fields(t);
     let n = f.count;
     let k = text::which(
         b"select delete insert update create drop other ",
