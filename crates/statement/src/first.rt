@@ -9,7 +9,7 @@ ghost use Rattle.rules.specs.Lists.{Bytes};
 ghost use Rattle.rules.specs.Limits.{mostBytes};
 ghost use Rattle.rules.specs.Reader.{lineHere, oneOf, apply};
 ghost use Rattle.rules.specs.ReadStatement.{statementHeads};
-ghost use Rattle.text.specs.Lines.{field};
+ghost use Rattle.text.specs.Lines.{field, Fields};
 ghost use Rattle.text.specs.Words.{nth};
 ghost use Rattle.text.specs.Fields.{Inside};
 ghost use Rattle.read_expression.specs.Reading.{here};
@@ -95,12 +95,11 @@ fn dropped(t: &[u8], a: usize, n: usize, b: usize, m: usize) -> First
     }
 }
 
-// The first record of a text.
-pub fn first_record(t: &[u8]) -> First
-    requires { ⌜ length (now t) ≤ mostBytes ⌝ }
+// The first record of a text, by the fields of its first line.
+pub fn first_record(t: &[u8], f: text::Line) -> First
+    requires { ⌜ length (now t) ≤ mostBytes ⌝ ∗ ⌜ Fields (now t) 0 f ⌝ }
     ensures { λ r. ⌜ ((c : Bytes) → firstSaid c (now (t .entry)) r ≡ oneOf statementHeads (lineHere (here (now (t .entry)) 0 1 0 0))) ⌝ }
 {
-    let f = lines::first_fields(t);
     let n = f.count;
     let k = text::which(
         b"select delete insert update create drop other ",

@@ -87,13 +87,14 @@ pub fn read_statement(
     if (text::MOST_BYTES as usize) < statement.len() {
         return Outcome::Limit(0);
     }
-    let f = first_record(statement);
+    let line = lines::first_fields(statement);
+    let p = line.next;
+    let f = first_record(statement, line);
     let kind = f.kind;
     if kind == 0 {
         return Outcome::Wrong(1);
     }
     put_first(parts, f);
-    let p = text::line_end(statement, 0);
     let r = read_behind(statement, p, kind, cells, froms, parts);
     match r {
         Read::Wrong(x) => Outcome::Wrong(x),
