@@ -156,3 +156,8 @@ span-bytes t (suc n) = bytes-take (drop (linesEnd t 0 n) t) ∙ line-from t n 0
 -- the bytes that stand there are the n-th of the text's lines
 pub line-bytes : (t : Bytes) (n : ℕ) (s : Span) → s ≡ lineSpan t n → take (s .len) (drop (s .start) t) ≡ lineOf t n
 line-bytes t n s e = rw e (span-bytes t n)
+
+-- after n of the rules' steps the line that stands there is the text's line n + 1, and that is its number
+pub line-there : (k : Text) (t : Bytes) (n : ℕ) → (lineBytes (steps n (start k t) .left) ≡ lineOf t (suc n)) × (steps n (start k t) .line ≡ suc n)
+unfolding place lineOf
+line-there k t n = let e : 1 + n ≡ suc n = omega arith in rw (steps-start k t n, e) (line-from t n 0, refl)
