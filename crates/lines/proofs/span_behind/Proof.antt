@@ -13,18 +13,17 @@ use prog.Memory.{Memory}
 use prog.Routine.{Routine}
 use prog.Wp.{Heap, Calls, Loops, WpFn, Tables}
 use ghost.Atoms.{Atoms, sem}
-use contract.Lifetimes.{Lfts}
 use contract.Monad.{Fun, fact}
 use contract.Running.{givenOf, tables, tablesOf}
 use types.Kit.{Given, ‵, raw, _⊛_, ⋆, some, later, _$_, _∵_, !, qed, by, move, drop, use1, use2, rewrite, split, join, pick, fsplit, fjoin, suffices, frame, await, done}
 use types.Run.{look, init, forget, stop, from, load, and-then, no-more, land, returns, enter, alloc1, alloc0, params1, pass1, pass0, free1, free0}
 use sound.WpLaws.{FmC, fmOf, WpFn-mono}
-use denote.RattleType.{RattleType, owns}
+use denote.RattleType.{owns}
 use denote.Laws.{Is, shows}
 use denote.Plain.{uint-makes, uint-vals, uint-tells}
 use denote.Builtin.{u8, u32}
 use denote.Ref.{RefT, NamedLft, now}
-use denote.Signature.{plain, namedLft}
+use denote.Signature.{plain}
 use denote.Slice.{sliceVal, ShrSlice, slice-vals, shr-slice-tells, shr-slice-lawful, shr-slice-copy}
 use denote.Steps.{owned, peeks, heard, nothing}
 use denote.Struct.Laws as LL
@@ -42,6 +41,7 @@ use Rattle.lines.specs.declared.LineReader.{LineReader}
 use Rattle.lines.specs.declared.Span.{Span}
 use Rattle.lines.proofs.LineReader as T
 use Rattle.lines.proofs.LineReader.Laws as T′
+use Rattle.lines.proofs.Owned.{Reader}
 use Rattle.lines.proofs.Span as S
 use Rattle.lines.proofs.Span.Laws as S′
 use Rattle.lines.proofs.new as new
@@ -60,10 +60,6 @@ use Rattle.lines.proofs.span_behind.Key.{name as #lines·span-behind}
 use Rattle.lines.proofs.span_behind as span-behind
 use Rattle.lines.proofs.span_behind.Statement as stated
 use Rattle.lines.proofs.span_behind.Code as code
-
--- the reader's type, over the signature's lifetimes
-abbrev B : Lfts 1 → RattleType
-B κs = T.the-row (namedLft 1 0 tt κs)
 
 abbrev stayed : Stays (span-behind.ended .signature .params) (span-behind.ended .kept)
 stayed = (stay-none-slice (0 ∷ []) tt (plain (λ _. u8)) yes, (stay-none (λ _. u32) yes, tt))
@@ -124,9 +120,9 @@ module _ {M : Type 1} (𝓤 : URA M) (H : Heap 𝓤) (A : Atoms 𝓤) (W : Given
   abbrev to-passed : Val → Passed 𝓤 H A mem run .Ghost
   to-passed u = (((κ, tt), (q, tt), tt, (d₀, (n, tt)), (u ∷ [], (vint w32 n ∷ [], tt))), tt)
 
-  goes-passed : (u : Val) → 1 + n < 2 ^ 32 → ent 𝓤 (⋆ 𝓤 H A ((‵ (flft κ q) ⊛ ‵ ftrue) ∷ ‵ (B (κ, tt) .own d₀ (u ∷ [])) ∷ [])) (Passed 𝓤 H A mem run .pre (to-passed u))
+  goes-passed : (u : Val) → 1 + n < 2 ^ 32 → ent 𝓤 (⋆ 𝓤 H A ((‵ (flft κ q) ⊛ ‵ ftrue) ∷ ‵ (Reader (κ, tt) .own d₀ (u ∷ [])) ∷ [])) (Passed 𝓤 H A mem run .pre (to-passed u))
   goes-passed u ok =
-      qed W ((‵ (flft κ q) ⊛ ‵ ftrue) ∷ ‵ (B (κ, tt) .own d₀ (u ∷ [])) ∷ []) ∵ says ! ok $ frame ! $
+      qed W ((‵ (flft κ q) ⊛ ‵ ftrue) ∷ ‵ (Reader (κ, tt) .own d₀ (u ∷ [])) ∷ []) ∵ says ! ok $ frame ! $
       nothing ! $ owned ! u32 (Is u32) (uint-makes 𝓤 H A W w32) n _ (refl, n-fits) $ fjoin ! $ move ! (1 ∷ 0 ∷ []) $ fjoin ! $ done !
 
   passed-said : (r : LineReader) → ent 𝓤 (ensured 𝓤 H A passed.ended (passed.clauses 𝓤 H A mem run) (κ, tt) (d₀, (n, tt)) tt r) (fact 𝓤 (r ≡ d₁))
@@ -136,8 +132,8 @@ module _ {M : Type 1} (𝓤 : URA M) (H : Heap 𝓤) (A : Atoms 𝓤) (W : Given
   abbrev to-here : Val → LineHere 𝓤 H A mem run .Ghost
   to-here u = (((κ, tt), (q, tt), tt, (d₁, tt), (u ∷ [], tt)), tt)
 
-  goes-here : (u : Val) → ent 𝓤 (⋆ 𝓤 H A ((‵ (flft κ q) ⊛ ‵ ftrue) ∷ ‵ (B (κ, tt) .own d₁ (u ∷ [])) ∷ [])) (LineHere 𝓤 H A mem run .pre (to-here u))
-  goes-here u = qed W ((‵ (flft κ q) ⊛ ‵ ftrue) ∷ ‵ (B (κ, tt) .own d₁ (u ∷ [])) ∷ []) ∵ nothing ! $ move ! (2 ∷ 0 ∷ []) $ fjoin ! $ move ! (1 ∷ 0 ∷ []) $ join ! $ frame ! $ done !
+  goes-here : (u : Val) → ent 𝓤 (⋆ 𝓤 H A ((‵ (flft κ q) ⊛ ‵ ftrue) ∷ ‵ (Reader (κ, tt) .own d₁ (u ∷ [])) ∷ [])) (LineHere 𝓤 H A mem run .pre (to-here u))
+  goes-here u = qed W ((‵ (flft κ q) ⊛ ‵ ftrue) ∷ ‵ (Reader (κ, tt) .own d₁ (u ∷ [])) ∷ []) ∵ nothing ! $ move ! (2 ∷ 0 ∷ []) $ fjoin ! $ move ! (1 ∷ 0 ∷ []) $ join ! $ frame ! $ done !
 
   here-said : (t : Span) → ent 𝓤 (ensured 𝓤 H A line-here.ended (line-here.clauses 𝓤 H A mem run) (κ, tt) (d₁, tt) tt t) (fact 𝓤 (t ≡ found))
   here-said t = exE 𝓤 _ (λ ws. snd∗ 𝓤 (sem 𝓤 H A (lasts line-here.ended (κ, tt) (d₁, tt) ws)) (fact 𝓤 (t ≡ found)))
@@ -157,17 +153,17 @@ module _ {M : Type 1} (𝓤 : URA M) (H : Heap 𝓤) (A : Atoms 𝓤) (W : Given
         -- `new`
         move ! (10 ∷ []) $ use1 W (raw (New 𝓤 H A mem run .pre to-new) ⊛ ‵ Own) goes-new $ split ! $
         calls-at ! fm (New 𝓤 H A mem run) known-new to-new (and-then ! (load ! (from ! (stop !)) (look ! 8 refl)) (no-more !)) (λ u₀.
-        use1 W (later (some (λ (r : LineReader). ((‵ (flft κ q) ⊛ ‵ ftrue) ⊛ ‵ (B (κ, tt) .own r (u₀ ∷ []))) ⊛ raw (ensured 𝓤 H A new.ended (new.clauses 𝓤 H A mem run) (κ, tt) (s, tt) tt r)))) (id⊢ 𝓤 _) $ await ! tt $ pick ! (λ r₀.
-        split ! $ move ! (1 ∷ []) $ use1 W (raw (fact 𝓤 (r₀ ≡ d₀))) (new-said r₀) $ heard ! (r₀ ≡ d₀) (λ e₀. split ! $ rewrite ! 1 (λ (d : LineReader). ‵ (B (κ, tt) .own d (u₀ ∷ []))) e₀ refl $ move ! (1 ∷ []) $
+        use1 W (later (some (λ (r : LineReader). ((‵ (flft κ q) ⊛ ‵ ftrue) ⊛ ‵ (Reader (κ, tt) .own r (u₀ ∷ []))) ⊛ raw (ensured 𝓤 H A new.ended (new.clauses 𝓤 H A mem run) (κ, tt) (s, tt) tt r)))) (id⊢ 𝓤 _) $ await ! tt $ pick ! (λ r₀.
+        split ! $ move ! (1 ∷ []) $ use1 W (raw (fact 𝓤 (r₀ ≡ d₀))) (new-said r₀) $ heard ! (r₀ ≡ d₀) (λ e₀. split ! $ rewrite ! 1 (λ (d : LineReader). ‵ (Reader (κ, tt) .own d (u₀ ∷ []))) e₀ refl $ move ! (1 ∷ []) $
         -- [what the reader owns; the token; what s owns; room for _4; …; room for _3; …; _2; …; _1; …; room for _0; …]
-        peeks ! (B (κ, tt)) (Is (B (κ, tt))) (shows 𝓤 H A (B (κ, tt))) d₀ (u₀ ∷ []) (λ is₀.
+        peeks ! (Reader (κ, tt)) (Is (Reader (κ, tt))) (shows 𝓤 H A (Reader (κ, tt))) d₀ (u₀ ∷ []) (λ is₀.
         land ! (from ! (stop !)) (init ! 3 refl (LL.lawful (T.the-type αᵉ) (T′.the-laws αᵉ) 𝓤 H A W .typed d₀ _ is₀ .0)) $
         -- `passed`
         move ! (1 ∷ 0 ∷ []) $ use2 W (raw (Passed 𝓤 H A mem run .pre (to-passed u₀))) (goes-passed u₀ ok) $
         calls-at ! fm (Passed 𝓤 H A mem run) known-passed (to-passed u₀) (and-then ! (load ! (from ! (stop !)) (look ! 2 refl)) (and-then ! (load ! (from ! (stop !)) (look ! 6 refl)) (no-more !))) (λ u₁.
-        use1 W (later (some (λ (r : LineReader). ((‵ (flft κ q) ⊛ ‵ ftrue) ⊛ ‵ (B (κ, tt) .own r (u₁ ∷ []))) ⊛ raw (ensured 𝓤 H A passed.ended (passed.clauses 𝓤 H A mem run) (κ, tt) (d₀, (n, tt)) tt r)))) (id⊢ 𝓤 _) $ await ! tt $ pick ! (λ r₁.
-        split ! $ move ! (1 ∷ []) $ use1 W (raw (fact 𝓤 (r₁ ≡ d₁))) (passed-said r₁) $ heard ! (r₁ ≡ d₁) (λ e₁. split ! $ rewrite ! 1 (λ (d : LineReader). ‵ (B (κ, tt) .own d (u₁ ∷ []))) e₁ refl $ move ! (1 ∷ []) $
-        peeks ! (B (κ, tt)) (Is (B (κ, tt))) (shows 𝓤 H A (B (κ, tt))) d₁ (u₁ ∷ []) (λ is₁.
+        use1 W (later (some (λ (r : LineReader). ((‵ (flft κ q) ⊛ ‵ ftrue) ⊛ ‵ (Reader (κ, tt) .own r (u₁ ∷ []))) ⊛ raw (ensured 𝓤 H A passed.ended (passed.clauses 𝓤 H A mem run) (κ, tt) (d₀, (n, tt)) tt r)))) (id⊢ 𝓤 _) $ await ! tt $ pick ! (λ r₁.
+        split ! $ move ! (1 ∷ []) $ use1 W (raw (fact 𝓤 (r₁ ≡ d₁))) (passed-said r₁) $ heard ! (r₁ ≡ d₁) (λ e₁. split ! $ rewrite ! 1 (λ (d : LineReader). ‵ (Reader (κ, tt) .own d (u₁ ∷ []))) e₁ refl $ move ! (1 ∷ []) $
+        peeks ! (Reader (κ, tt)) (Is (Reader (κ, tt))) (shows 𝓤 H A (Reader (κ, tt))) d₁ (u₁ ∷ []) (λ is₁.
         land ! (from ! (stop !)) (init ! 5 refl (LL.lawful (T.the-type αᵉ) (T′.the-laws αᵉ) 𝓤 H A W .typed d₁ _ is₁ .0)) $
         -- `line_here`
         move ! (1 ∷ 0 ∷ []) $ use2 W (raw (LineHere 𝓤 H A mem run .pre (to-here u₁))) (goes-here u₁) $
