@@ -15,6 +15,7 @@ use Rattle.rules.specs.Refusals.{Text}
 use Rattle.rules.specs.Reader.{Place, start, next}
 use Rattle.text.specs.Bytes.{run, stopAt, step}
 use Rattle.text.specs.Lines.{lineEnd, line-none}
+use Rattle.text.specs.Words.{push}
 use Rattle.text.specs.Reading.{place, place-start, place-next}
 use Rattle.lines.specs.declared.Span.{Span}
 
@@ -47,19 +48,19 @@ span-nth t zero s h e = absurd (h refl)
 span-nth t (suc n) s h e = let k : suc n - 1 ≡ n = omega arith in rw k at e
 
 -- A TEXT AS ITS LINES
-unfoldable pub push : ℕ → List Bytes → List Bytes
-push x [] = (x ∷ []) ∷ []
-push x (l ∷ ls) = (x ∷ l) ∷ ls
-
 -- the lines of a text, each without its LF; bytes behind the last LF are a line too
 unfoldable pub linesOf : Bytes → List Bytes
 linesOf [] = []
 linesOf (x ∷ xs) = elim (eqb x 10) [ true ↦ [] ∷ linesOf xs | false ↦ push x (linesOf xs) ]
 
+three : linesOf (97 ∷ 98 ∷ 10 ∷ 10 ∷ 99 ∷ []) ≡ (97 ∷ 98 ∷ []) ∷ [] ∷ (99 ∷ []) ∷ []
+unfolding linesOf push
+three = refl
+
 -- the n-th line, from 1, or no bytes
-unfoldable pub lineOf : Bytes → ℕ → Bytes
-lineOf t zero = []
-lineOf t (suc n) = getD (linesOf t) n []
+unfoldable pub nthLine : Bytes → ℕ → Bytes
+nthLine t zero = []
+nthLine t (suc n) = getD (linesOf t) n []
 
 -- LINES ON
 pub end-stays : (t : Bytes) (p n : ℕ) → length t ≤ p → linesEnd t p n ≡ p
@@ -147,16 +148,16 @@ unfolding linesEnd
 line-from t zero p = elim (decLt p (length t)) [ yes y ↦ rw (lines-at t p (omega (arith, y))) | no y ↦ line-out t p 0 (omega (arith, y)) ]
 line-from t (suc n) p = elim (decLt p (length t)) [ yes y ↦ rw (lines-at t p (omega (arith, y))) (line-from t n (lineEnd t p)) | no y ↦ line-out t p (suc n) (omega (arith, y)) ]
 
-span-bytes : (t : Bytes) (n : ℕ) → take (lineSpan t n .len) (drop (lineSpan t n .start) t) ≡ lineOf t n
-unfolding lineSpan spanAt lineOf
+span-bytes : (t : Bytes) (n : ℕ) → take (lineSpan t n .len) (drop (lineSpan t n .start) t) ≡ nthLine t n
+unfolding lineSpan spanAt nthLine
 span-bytes t zero = refl
 span-bytes t (suc n) = bytes-take (drop (linesEnd t 0 n) t) ∙ line-from t n 0
 
 -- the bytes that stand there are the n-th of the text's lines
-pub line-bytes : (t : Bytes) (n : ℕ) (s : Span) → s ≡ lineSpan t n → take (s .len) (drop (s .start) t) ≡ lineOf t n
+pub line-bytes : (t : Bytes) (n : ℕ) (s : Span) → s ≡ lineSpan t n → take (s .len) (drop (s .start) t) ≡ nthLine t n
 line-bytes t n s e = rw e (span-bytes t n)
 
 -- after n of the rules' steps the line that stands there is the text's line n + 1, and that is its number
-pub line-there : (k : Text) (t : Bytes) (n : ℕ) → (lineBytes (steps n (start k t) .left) ≡ lineOf t (suc n)) × (steps n (start k t) .line ≡ suc n)
-unfolding place lineOf
+pub line-there : (k : Text) (t : Bytes) (n : ℕ) → (lineBytes (steps n (start k t) .left) ≡ nthLine t (suc n)) × (steps n (start k t) .line ≡ suc n)
+unfolding place nthLine
 line-there k t n = let e : 1 + n ≡ suc n = omega arith in rw (steps-start k t n, e) (line-from t n 0, refl)

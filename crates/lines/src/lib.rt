@@ -4,20 +4,20 @@
 ghost use mathlib.Core.Path.{_≡_};
 ghost use Prim.Native.Nat.{_+_, _<_, _^_};
 ghost use Rattle.text.specs.Lines.{Fields};
-ghost use Rattle.lines.specs.Spans.{linesEnd, spanAt, lineSpan, lineOf};
+ghost use Rattle.lines.specs.Spans.{linesEnd, spanAt, lineSpan, nthLine};
 ghost use Rattle.lines.specs.Readers.{atStart, linesOn};
 
 // A text with a position in it and the number of the line that starts there, from 1.
-pub struct LineReader<'a> {
-    pub text: &'a [u8],
-    pub at: usize,
-    pub line: u32,
+struct LineReader<'a> {
+    text: &'a [u8],
+    at: usize,
+    line: u32,
 }
 
 // Where a line starts, and how many bytes it has without its LF.
-pub struct Span {
-    pub start: usize,
-    pub len: usize,
+struct Span {
+    start: usize,
+    len: usize,
 }
 
 // THE CORE
@@ -57,42 +57,44 @@ fn span_at(text: &[u8], at: usize) -> Span
 }
 
 // THE READER
-// A reader at a text's first line.
-pub fn new<'a>(text: &'a [u8]) -> LineReader<'a>
-    ensures { λ r. ⌜ r ≡ atStart (text .entry) ⌝ }
-{
-    LineReader {
-        text,
-        at: 0,
-        line: 1,
+impl<'a> LineReader<'a> {
+    // A reader at a text's first line.
+    fn new(text: &'a [u8]) -> LineReader<'a>
+        ensures { λ r. ⌜ r ≡ atStart (text .entry) ⌝ }
+    {
+        LineReader {
+            text,
+            at: 0,
+            line: 1,
+        }
     }
-}
 
-// The fields of the line here.
-pub fn fields<'a>(r: LineReader<'a>) -> text::Line
-    ensures { λ f. ⌜ Fields (now (r .entry .text)) (r .entry .at) f ⌝ }
-{
-    text::fields(r.text, r.at)
-}
+    // The fields of the line here.
+    fn fields(self) -> text::Line
+        ensures { λ f. ⌜ Fields (now (self .entry .text)) (self .entry .at) f ⌝ }
+    {
+        text::fields(self.text, self.at)
+    }
 
-// Where the line here stands.
-pub fn line_here<'a>(r: LineReader<'a>) -> Span
-    ensures { λ s. ⌜ s ≡ spanAt (now (r .entry .text)) (r .entry .at) ⌝ }
-{
-    span_at(r.text, r.at)
-}
+    // Where the line here stands.
+    fn line_here(self) -> Span
+        ensures { λ s. ⌜ s ≡ spanAt (now (self .entry .text)) (self .entry .at) ⌝ }
+    {
+        span_at(self.text, self.at)
+    }
 
-// The reader n lines on.
-pub fn passed<'a>(r: LineReader<'a>, n: u32) -> LineReader<'a>
-    requires { ⌜ r .line + n < 2 ^ 32 ⌝ }
-    ensures { λ q. ⌜ q ≡ linesOn (r .entry) n ⌝ }
-{
-    let at = lines_end(r.text, r.at, n);
-    let line = counted(r.line, n);
-    LineReader {
-        text: r.text,
-        at,
-        line,
+    // The reader n lines on.
+    fn passed(self, n: u32) -> LineReader<'a>
+        requires { ⌜ self .line + n < 2 ^ 32 ⌝ }
+        ensures { λ r. ⌜ r ≡ linesOn (self .entry) n ⌝ }
+    {
+        let at = lines_end(self.text, self.at, n);
+        let line = counted(self.line, n);
+        LineReader {
+            text: self.text,
+            at,
+            line,
+        }
     }
 }
 
@@ -101,7 +103,7 @@ pub fn passed<'a>(r: LineReader<'a>, n: u32) -> LineReader<'a>
 pub fn first_fields(text: &[u8]) -> text::Line
     ensures { λ f. ⌜ Fields (now (text .entry)) 0 f ⌝ }
 {
-    fields(new(text))
+    LineReader::new(text).fields()
 }
 
 // Where the line behind n lines of a text stands.
@@ -109,7 +111,7 @@ fn span_behind(text: &[u8], n: u32) -> Span
     requires { ⌜ 1 + n < 2 ^ 32 ⌝ }
     ensures { λ r. ⌜ r ≡ spanAt (now (text .entry)) (linesEnd (now (text .entry)) 0 n) ⌝ }
 {
-    line_here(passed(new(text), n))
+    LineReader::new(text).passed(n).line_here()
 }
 
 // Where the n-th line of a text stands, from 1: no bytes where there is none.
@@ -124,7 +126,7 @@ fn line_span(text: &[u8], n: u32) -> Span
 
 // The n-th line of a text, from 1, without its LF: no bytes where there is none.
 pub fn line_at(text: &[u8], n: u32) -> &[u8]
-    ensures { λ r. ⌜ now r ≡ lineOf (now (text .entry)) n ⌝ }
+    ensures { λ r. ⌜ now r ≡ nthLine (now (text .entry)) n ⌝ }
 {
     let s = line_span(text, n);
     text::part(text, s.start, s.len)

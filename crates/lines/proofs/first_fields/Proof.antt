@@ -43,14 +43,14 @@ use Rattle.lines.proofs.LineReader.Laws as T′
 use Rattle.lines.proofs.Owned.{Reader}
 use Rattle.text.proofs.Line as S
 use Rattle.text.proofs.Line.Laws as S′
-use Rattle.lines.proofs.new as new
-use Rattle.lines.proofs.new.Symbol as new-def
-use Rattle.lines.proofs.new.Symbol.{name as #lines·new}
-use Rattle.lines.proofs.new.Met as new-thm
-use Rattle.lines.proofs.fields as fields
-use Rattle.lines.proofs.fields.Symbol as fields-def
-use Rattle.lines.proofs.fields.Symbol.{name as #lines·fields}
-use Rattle.lines.proofs.fields.Met as fields-thm
+use Rattle.lines.proofs.LineReader.new as new
+use Rattle.lines.proofs.LineReader.new.Symbol as new-def
+use Rattle.lines.proofs.LineReader.new.Symbol.{name as #lines·LineReader·new}
+use Rattle.lines.proofs.LineReader.new.Met as new-thm
+use Rattle.lines.proofs.LineReader.fields as fields
+use Rattle.lines.proofs.LineReader.fields.Symbol as fields-def
+use Rattle.lines.proofs.LineReader.fields.Symbol.{name as #lines·LineReader·fields}
+use Rattle.lines.proofs.LineReader.fields.Met as fields-thm
 use Rattle.lines.proofs.first_fields.Key.{name as #lines·first-fields}
 use Rattle.lines.proofs.first_fields as first-fields
 use Rattle.lines.proofs.first_fields.Statement as stated
@@ -114,7 +114,7 @@ module _ {M : Type 1} (𝓤 : URA M) (H : Heap 𝓤) (A : Atoms 𝓤) (W : Given
       suffices ! _ (ends-at 𝓤 H A first-fields.ended stayed (first-fields.clauses 𝓤 H A mem run) W (((κ, tt), (q, tt), tt, (s, tt), (v ∷ [], tt)), tt) u t (tt, tt) (tt, tt)) $ says ! e $
       move ! (1 ∷ []) $ frame ! $ nothing ! $ move ! (2 ∷ 0 ∷ []) $ fjoin ! $ frame ! $ done !
 
-  module _ (C : Calls 𝓤 H) (Λ : Loops 𝓤 H) (fm : FmC 𝓤 H (W .laws) C) (known-new : Triple 𝓤 (C #lines·new) (New 𝓤 H A mem run)) (known-fields : Triple 𝓤 (C #lines·fields) (FieldsHere 𝓤 H A mem run)) where
+  module _ (C : Calls 𝓤 H) (Λ : Loops 𝓤 H) (fm : FmC 𝓤 H (W .laws) C) (known-new : Triple 𝓤 (C #lines·LineReader·new) (New 𝓤 H A mem run)) (known-fields : Triple 𝓤 (C #lines·LineReader·fields) (FieldsHere 𝓤 H A mem run)) where
     walk : Is (ShrSlice (named 0) κ u8) s (v ∷ []) → ent 𝓤 (onEntry 𝓤 H A first-fields.signature (κ, tt) (q, tt) (s, tt) (v ∷ [], tt)) (WpFn 𝓤 H C Λ code.function (v ∷ []) Post)
     walk p =
         qed W (raw (onEntry 𝓤 H A first-fields.signature (κ, tt) (q, tt) (s, tt) (v ∷ [], tt)) ∷ []) ∵ enter ! C Λ code.function (v ∷ []) _ $
@@ -137,13 +137,13 @@ module _ {M : Type 1} (𝓤 : URA M) (H : Heap 𝓤) (A : Atoms 𝓤) (W : Given
         by ! (exits t u′ (subst (λ (d : LineReader). Fields (now (d .text)) (d .at) t) e e′)))))))))))))
 
 module _ {M : Type 1} (𝓤 : URA M) (H : Heap 𝓤) (A : Atoms 𝓤) (W : Given 𝓤 H A) (mem : Memory → SProp 𝓤) (run : Routine → Fun 𝓤) where
-  first-fields-walks : (C : Calls 𝓤 H) (Λ : Loops 𝓤 H) → FmC 𝓤 H (W .laws) C → Triple 𝓤 (C #lines·new) (New 𝓤 H A mem run) → Triple 𝓤 (C #lines·fields) (FieldsHere 𝓤 H A mem run)
+  first-fields-walks : (C : Calls 𝓤 H) (Λ : Loops 𝓤 H) → FmC 𝓤 H (W .laws) C → Triple 𝓤 (C #lines·LineReader·new) (New 𝓤 H A mem run) → Triple 𝓤 (C #lines·LineReader·fields) (FieldsHere 𝓤 H A mem run)
       → Walks 𝓤 H A first-fields.ended stayed (WpFn 𝓤 H C Λ code.function) (first-fields.clauses 𝓤 H A mem run)
   first-fields-walks C Λ fm known-new known-fields = walked 𝓤 H A first-fields.ended stayed (first-fields.clauses 𝓤 H A mem run) (WpFn 𝓤 H C Λ code.function) (λ κs. (slice-vals, tt)) (λ κs. (shr-slice-tells (named 0) (κs .0) u8, tt))
       (λ κs qs bounds a g are. via 𝓤 _ (fst∗ 𝓤 _ (emp 𝓤)) (walk 𝓤 H A W mem run (κs .0) (qs .0) (a .0) C Λ fm known-new known-fields (are .0)))
 
 first-fields-meets : {M : Type 1} (𝓤 : URA M) (H : Heap 𝓤) (A : Atoms 𝓤) (W : Given 𝓤 H A) (mem : Memory → SProp 𝓤) (run : Routine → Fun 𝓤) (𝓣 : Tables 𝓤 H)
-    → Triple 𝓤 (𝓣 .C #lines·new) (New 𝓤 H A mem run) → Triple 𝓤 (𝓣 .C #lines·fields) (FieldsHere 𝓤 H A mem run)
+    → Triple 𝓤 (𝓣 .C #lines·LineReader·new) (New 𝓤 H A mem run) → Triple 𝓤 (𝓣 .C #lines·LineReader·fields) (FieldsHere 𝓤 H A mem run)
     → Meets 𝓤 H A first-fields.signature (WpFn 𝓤 H (𝓣 .C) (𝓣 .Λ) code.function) (first-fields.spec 𝓤 H A mem run)
 first-fields-meets 𝓤 H A W mem run 𝓣 known-new known-fields = walk-meets 𝓤 H A first-fields.ended stayed W (goes-none-slice 𝓤 H A W 1 (0 ∷ []) tt (plain (λ _. u8)) yes, tt) (first-fields.clauses 𝓤 H A mem run) (WpFn 𝓤 H (𝓣 .C) (𝓣 .Λ) code.function) (WpFn-mono 𝓤 H (W .laws) 𝓣 code.function)
     (first-fields-walks 𝓤 H A W mem run (𝓣 .C) (𝓣 .Λ) (fmOf 𝓤 H (W .laws) 𝓣) known-new known-fields)
@@ -154,5 +154,5 @@ first-fields-spec 𝓤 H 𝓜 𝓖 𝓡 =
     entered 𝓤 H (tripleOf 𝓤 H (𝓖 .A) first-fields.signature (first-fields.spec 𝓤 H (𝓖 .A) (𝓜 .mem) (𝓡 .run)))
     (tables 𝓤 H 𝓜 𝓡 code.env .C) (tables 𝓤 H 𝓜 𝓡 code.env .Λ) #lines·first-fields code.function (code.unfolded 𝓤 H 𝓜 𝓡)
     (first-fields-meets 𝓤 H (𝓖 .A) (givenOf 𝓤 H 𝓜 𝓖) (𝓜 .mem) (𝓡 .run) (tablesOf 𝓤 H 𝓜 (tables 𝓤 H 𝓜 𝓡 code.env))
-    (cited 𝓤 H (New 𝓤 H (𝓖 .A) (𝓜 .mem) (𝓡 .run)) 𝓜 𝓡 code.env #lines·new new-def.routine code.calls-lines·new (new-thm.met 𝓤 H 𝓜 𝓖 𝓡))
-    (cited 𝓤 H (FieldsHere 𝓤 H (𝓖 .A) (𝓜 .mem) (𝓡 .run)) 𝓜 𝓡 code.env #lines·fields fields-def.routine code.calls-lines·fields (fields-thm.met 𝓤 H 𝓜 𝓖 𝓡)))
+    (cited 𝓤 H (New 𝓤 H (𝓖 .A) (𝓜 .mem) (𝓡 .run)) 𝓜 𝓡 code.env #lines·LineReader·new new-def.routine code.calls-lines·LineReader·new (new-thm.met 𝓤 H 𝓜 𝓖 𝓡))
+    (cited 𝓤 H (FieldsHere 𝓤 H (𝓖 .A) (𝓜 .mem) (𝓡 .run)) 𝓜 𝓡 code.env #lines·LineReader·fields fields-def.routine code.calls-lines·LineReader·fields (fields-thm.met 𝓤 H 𝓜 𝓖 𝓡)))

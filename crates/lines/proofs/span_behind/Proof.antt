@@ -44,18 +44,18 @@ use Rattle.lines.proofs.LineReader.Laws as T′
 use Rattle.lines.proofs.Owned.{Reader}
 use Rattle.lines.proofs.Span as S
 use Rattle.lines.proofs.Span.Laws as S′
-use Rattle.lines.proofs.new as new
-use Rattle.lines.proofs.new.Symbol as new-def
-use Rattle.lines.proofs.new.Symbol.{name as #lines·new}
-use Rattle.lines.proofs.new.Met as new-thm
-use Rattle.lines.proofs.passed as passed
-use Rattle.lines.proofs.passed.Symbol as passed-def
-use Rattle.lines.proofs.passed.Symbol.{name as #lines·passed}
-use Rattle.lines.proofs.passed.Met as passed-thm
-use Rattle.lines.proofs.line_here as line-here
-use Rattle.lines.proofs.line_here.Symbol as line-here-def
-use Rattle.lines.proofs.line_here.Symbol.{name as #lines·line-here}
-use Rattle.lines.proofs.line_here.Met as line-here-thm
+use Rattle.lines.proofs.LineReader.new as new
+use Rattle.lines.proofs.LineReader.new.Symbol as new-def
+use Rattle.lines.proofs.LineReader.new.Symbol.{name as #lines·LineReader·new}
+use Rattle.lines.proofs.LineReader.new.Met as new-thm
+use Rattle.lines.proofs.LineReader.passed as passed
+use Rattle.lines.proofs.LineReader.passed.Symbol as passed-def
+use Rattle.lines.proofs.LineReader.passed.Symbol.{name as #lines·LineReader·passed}
+use Rattle.lines.proofs.LineReader.passed.Met as passed-thm
+use Rattle.lines.proofs.LineReader.line_here as line-here
+use Rattle.lines.proofs.LineReader.line_here.Symbol as line-here-def
+use Rattle.lines.proofs.LineReader.line_here.Symbol.{name as #lines·LineReader·line-here}
+use Rattle.lines.proofs.LineReader.line_here.Met as line-here-thm
 use Rattle.lines.proofs.span_behind.Key.{name as #lines·span-behind}
 use Rattle.lines.proofs.span_behind as span-behind
 use Rattle.lines.proofs.span_behind.Statement as stated
@@ -144,7 +144,7 @@ module _ {M : Type 1} (𝓤 : URA M) (H : Heap 𝓤) (A : Atoms 𝓤) (W : Given
       suffices ! _ (ends-at 𝓤 H A span-behind.ended stayed (span-behind.clauses 𝓤 H A mem run) W (((κ, tt), (q, tt), tt, (s, (n, tt)), vals), tt) u t (tt, (tt, tt)) (tt, (tt, tt))) $ says ! e $
       move ! (1 ∷ []) $ frame ! $ nothing ! $ owned ! u32 (Is u32) (uint-makes 𝓤 H A W w32) n _ (refl, n-fits) $ fjoin ! $ move ! (2 ∷ 0 ∷ []) $ fjoin ! $ frame ! $ done !
 
-  module _ (C : Calls 𝓤 H) (Λ : Loops 𝓤 H) (fm : FmC 𝓤 H (W .laws) C) (known-new : Triple 𝓤 (C #lines·new) (New 𝓤 H A mem run)) (known-passed : Triple 𝓤 (C #lines·passed) (Passed 𝓤 H A mem run)) (known-here : Triple 𝓤 (C #lines·line-here) (LineHere 𝓤 H A mem run)) where
+  module _ (C : Calls 𝓤 H) (Λ : Loops 𝓤 H) (fm : FmC 𝓤 H (W .laws) C) (known-new : Triple 𝓤 (C #lines·LineReader·new) (New 𝓤 H A mem run)) (known-passed : Triple 𝓤 (C #lines·LineReader·passed) (Passed 𝓤 H A mem run)) (known-here : Triple 𝓤 (C #lines·LineReader·line-here) (LineHere 𝓤 H A mem run)) where
     walk : 1 + n < 2 ^ 32 → Is (ShrSlice (named 0) κ u8) s (v ∷ []) → ent 𝓤 (onEntry 𝓤 H A span-behind.signature (κ, tt) (q, tt) (s, (n, tt)) vals) (WpFn 𝓤 H C Λ code.function (v ∷ vint w32 n ∷ []) Post)
     walk ok p =
         qed W (raw (onEntry 𝓤 H A span-behind.signature (κ, tt) (q, tt) (s, (n, tt)) vals) ∷ []) ∵ enter ! C Λ code.function (v ∷ vint w32 n ∷ []) _ $
@@ -178,7 +178,7 @@ module _ {M : Type 1} (𝓤 : URA M) (H : Heap 𝓤) (A : Atoms 𝓤) (W : Given
         by ! (exits t u e))))))))))))))))))
 
 module _ {M : Type 1} (𝓤 : URA M) (H : Heap 𝓤) (A : Atoms 𝓤) (W : Given 𝓤 H A) (mem : Memory → SProp 𝓤) (run : Routine → Fun 𝓤) where
-  span-behind-walks : (C : Calls 𝓤 H) (Λ : Loops 𝓤 H) → FmC 𝓤 H (W .laws) C → Triple 𝓤 (C #lines·new) (New 𝓤 H A mem run) → Triple 𝓤 (C #lines·passed) (Passed 𝓤 H A mem run) → Triple 𝓤 (C #lines·line-here) (LineHere 𝓤 H A mem run)
+  span-behind-walks : (C : Calls 𝓤 H) (Λ : Loops 𝓤 H) → FmC 𝓤 H (W .laws) C → Triple 𝓤 (C #lines·LineReader·new) (New 𝓤 H A mem run) → Triple 𝓤 (C #lines·LineReader·passed) (Passed 𝓤 H A mem run) → Triple 𝓤 (C #lines·LineReader·line-here) (LineHere 𝓤 H A mem run)
       → Walks 𝓤 H A span-behind.ended stayed (WpFn 𝓤 H C Λ code.function) (span-behind.clauses 𝓤 H A mem run)
   span-behind-walks C Λ fm known-new known-passed known-here = walked 𝓤 H A span-behind.ended stayed (span-behind.clauses 𝓤 H A mem run) (WpFn 𝓤 H C Λ code.function)
       (λ κs. (slice-vals, (uint-vals w32, tt))) (λ κs. (shr-slice-tells (named 0) (κs .0) u8, (uint-tells w32, tt)))
@@ -186,7 +186,7 @@ module _ {M : Type 1} (𝓤 : URA M) (H : Heap 𝓤) (A : Atoms 𝓤) (W : Given
       walk 𝓤 H A W mem run (κs .0) (qs .0) (a .0) (a .1 .0) (are .1 .0 .1) C Λ fm known-new known-passed known-here ok (are .0)))
 
 span-behind-meets : {M : Type 1} (𝓤 : URA M) (H : Heap 𝓤) (A : Atoms 𝓤) (W : Given 𝓤 H A) (mem : Memory → SProp 𝓤) (run : Routine → Fun 𝓤) (𝓣 : Tables 𝓤 H)
-    → Triple 𝓤 (𝓣 .C #lines·new) (New 𝓤 H A mem run) → Triple 𝓤 (𝓣 .C #lines·passed) (Passed 𝓤 H A mem run) → Triple 𝓤 (𝓣 .C #lines·line-here) (LineHere 𝓤 H A mem run)
+    → Triple 𝓤 (𝓣 .C #lines·LineReader·new) (New 𝓤 H A mem run) → Triple 𝓤 (𝓣 .C #lines·LineReader·passed) (Passed 𝓤 H A mem run) → Triple 𝓤 (𝓣 .C #lines·LineReader·line-here) (LineHere 𝓤 H A mem run)
     → Meets 𝓤 H A span-behind.signature (WpFn 𝓤 H (𝓣 .C) (𝓣 .Λ) code.function) (span-behind.spec 𝓤 H A mem run)
 span-behind-meets 𝓤 H A W mem run 𝓣 known-new known-passed known-here =
     walk-meets 𝓤 H A span-behind.ended stayed W (goes-none-slice 𝓤 H A W 1 (0 ∷ []) tt (plain (λ _. u8)) yes, (goes-none 𝓤 H A W 1 (λ _. u32) yes (λ κs x f. refl), tt)) (span-behind.clauses 𝓤 H A mem run)
@@ -198,6 +198,6 @@ span-behind-spec 𝓤 H 𝓜 𝓖 𝓡 =
     entered 𝓤 H (tripleOf 𝓤 H (𝓖 .A) span-behind.signature (span-behind.spec 𝓤 H (𝓖 .A) (𝓜 .mem) (𝓡 .run)))
     (tables 𝓤 H 𝓜 𝓡 code.env .C) (tables 𝓤 H 𝓜 𝓡 code.env .Λ) #lines·span-behind code.function (code.unfolded 𝓤 H 𝓜 𝓡)
     (span-behind-meets 𝓤 H (𝓖 .A) (givenOf 𝓤 H 𝓜 𝓖) (𝓜 .mem) (𝓡 .run) (tablesOf 𝓤 H 𝓜 (tables 𝓤 H 𝓜 𝓡 code.env))
-    (cited 𝓤 H (New 𝓤 H (𝓖 .A) (𝓜 .mem) (𝓡 .run)) 𝓜 𝓡 code.env #lines·new new-def.routine code.calls-lines·new (new-thm.met 𝓤 H 𝓜 𝓖 𝓡))
-    (cited 𝓤 H (Passed 𝓤 H (𝓖 .A) (𝓜 .mem) (𝓡 .run)) 𝓜 𝓡 code.env #lines·passed passed-def.routine code.calls-lines·passed (passed-thm.met 𝓤 H 𝓜 𝓖 𝓡))
-    (cited 𝓤 H (LineHere 𝓤 H (𝓖 .A) (𝓜 .mem) (𝓡 .run)) 𝓜 𝓡 code.env #lines·line-here line-here-def.routine code.calls-lines·line-here (line-here-thm.met 𝓤 H 𝓜 𝓖 𝓡)))
+    (cited 𝓤 H (New 𝓤 H (𝓖 .A) (𝓜 .mem) (𝓡 .run)) 𝓜 𝓡 code.env #lines·LineReader·new new-def.routine code.calls-lines·LineReader·new (new-thm.met 𝓤 H 𝓜 𝓖 𝓡))
+    (cited 𝓤 H (Passed 𝓤 H (𝓖 .A) (𝓜 .mem) (𝓡 .run)) 𝓜 𝓡 code.env #lines·LineReader·passed passed-def.routine code.calls-lines·LineReader·passed (passed-thm.met 𝓤 H 𝓜 𝓖 𝓡))
+    (cited 𝓤 H (LineHere 𝓤 H (𝓖 .A) (𝓜 .mem) (𝓡 .run)) 𝓜 𝓡 code.env #lines·LineReader·line-here line-here-def.routine code.calls-lines·LineReader·line-here (line-here-thm.met 𝓤 H 𝓜 𝓖 𝓡)))

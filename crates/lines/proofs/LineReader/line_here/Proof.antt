@@ -48,10 +48,10 @@ use Rattle.lines.proofs.span_at as span-at
 use Rattle.lines.proofs.span_at.Symbol as span-at-def
 use Rattle.lines.proofs.span_at.Symbol.{name as #lines·span-at}
 use Rattle.lines.proofs.span_at.Met as span-at-thm
-use Rattle.lines.proofs.line_here.Key.{name as #lines·line-here}
-use Rattle.lines.proofs.line_here as line-here
-use Rattle.lines.proofs.line_here.Statement as stated
-use Rattle.lines.proofs.line_here.Code as code
+use Rattle.lines.proofs.LineReader.line_here.Key.{name as #lines·LineReader·line-here}
+use Rattle.lines.proofs.LineReader.line_here as line-here
+use Rattle.lines.proofs.LineReader.line_here.Statement as stated
+use Rattle.lines.proofs.LineReader.line_here.Code as code
 
 abbrev stayed : Stays (line-here.ended .signature .params) (line-here.ended .kept)
 stayed = (stay-none Reader yes, tt)
@@ -133,6 +133,6 @@ pub line-here-spec : {M : Type 1} → stated.statement M
 unfolding code.routine tablesOf
 line-here-spec 𝓤 H 𝓜 𝓖 𝓡 =
     entered 𝓤 H (tripleOf 𝓤 H (𝓖 .A) line-here.signature (line-here.spec 𝓤 H (𝓖 .A) (𝓜 .mem) (𝓡 .run)))
-    (tables 𝓤 H 𝓜 𝓡 code.env .C) (tables 𝓤 H 𝓜 𝓡 code.env .Λ) #lines·line-here code.function (code.unfolded 𝓤 H 𝓜 𝓡)
+    (tables 𝓤 H 𝓜 𝓡 code.env .C) (tables 𝓤 H 𝓜 𝓡 code.env .Λ) #lines·LineReader·line-here code.function (code.unfolded 𝓤 H 𝓜 𝓡)
     (line-here-meets 𝓤 H (𝓖 .A) (givenOf 𝓤 H 𝓜 𝓖) (𝓜 .mem) (𝓡 .run) (tablesOf 𝓤 H 𝓜 (tables 𝓤 H 𝓜 𝓡 code.env))
     (cited 𝓤 H (SpanAt 𝓤 H (𝓖 .A) (𝓜 .mem) (𝓡 .run)) 𝓜 𝓡 code.env #lines·span-at span-at-def.routine code.calls-lines·span-at (span-at-thm.met 𝓤 H 𝓜 𝓖 𝓡)))

@@ -50,10 +50,10 @@ use Rattle.lines.proofs.counted as counted
 use Rattle.lines.proofs.counted.Symbol as counted-def
 use Rattle.lines.proofs.counted.Symbol.{name as #lines·counted}
 use Rattle.lines.proofs.counted.Met as counted-thm
-use Rattle.lines.proofs.passed.Key.{name as #lines·passed}
-use Rattle.lines.proofs.passed as passed
-use Rattle.lines.proofs.passed.Statement as stated
-use Rattle.lines.proofs.passed.Code as code
+use Rattle.lines.proofs.LineReader.passed.Key.{name as #lines·LineReader·passed}
+use Rattle.lines.proofs.LineReader.passed as passed
+use Rattle.lines.proofs.LineReader.passed.Statement as stated
+use Rattle.lines.proofs.LineReader.passed.Code as code
 
 abbrev stayed : Stays (passed.ended .signature .params) (passed.ended .kept)
 stayed = (stay-none Reader yes, (stay-none (λ _. u32) yes, tt))
@@ -175,7 +175,7 @@ pub passed-spec : {M : Type 1} → stated.statement M
 unfolding code.routine tablesOf
 passed-spec 𝓤 H 𝓜 𝓖 𝓡 =
     entered 𝓤 H (tripleOf 𝓤 H (𝓖 .A) passed.signature (passed.spec 𝓤 H (𝓖 .A) (𝓜 .mem) (𝓡 .run)))
-    (tables 𝓤 H 𝓜 𝓡 code.env .C) (tables 𝓤 H 𝓜 𝓡 code.env .Λ) #lines·passed code.function (code.unfolded 𝓤 H 𝓜 𝓡)
+    (tables 𝓤 H 𝓜 𝓡 code.env .C) (tables 𝓤 H 𝓜 𝓡 code.env .Λ) #lines·LineReader·passed code.function (code.unfolded 𝓤 H 𝓜 𝓡)
     (passed-meets 𝓤 H (𝓖 .A) (givenOf 𝓤 H 𝓜 𝓖) (𝓜 .mem) (𝓡 .run) (tablesOf 𝓤 H 𝓜 (tables 𝓤 H 𝓜 𝓡 code.env))
     (cited 𝓤 H (LinesEnd 𝓤 H (𝓖 .A) (𝓜 .mem) (𝓡 .run)) 𝓜 𝓡 code.env #lines·lines-end lines-end-def.routine code.calls-lines·lines-end (lines-end-thm.met 𝓤 H 𝓜 𝓖 𝓡))
     (cited 𝓤 H (Counted 𝓤 H (𝓖 .A) (𝓜 .mem) (𝓡 .run)) 𝓜 𝓡 code.env #lines·counted counted-def.routine code.calls-lines·counted (counted-thm.met 𝓤 H 𝓜 𝓖 𝓡)))

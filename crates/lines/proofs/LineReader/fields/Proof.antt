@@ -48,10 +48,10 @@ use Rattle.text.proofs.fields as fields-at
 use Rattle.text.proofs.fields.Symbol as fields-at-def
 use Rattle.text.proofs.fields.Symbol.{name as #text·fields}
 use Rattle.text.proofs.fields.Met as fields-at-thm
-use Rattle.lines.proofs.fields.Key.{name as #lines·fields}
-use Rattle.lines.proofs.fields as fields
-use Rattle.lines.proofs.fields.Statement as stated
-use Rattle.lines.proofs.fields.Code as code
+use Rattle.lines.proofs.LineReader.fields.Key.{name as #lines·LineReader·fields}
+use Rattle.lines.proofs.LineReader.fields as fields
+use Rattle.lines.proofs.LineReader.fields.Statement as stated
+use Rattle.lines.proofs.LineReader.fields.Code as code
 
 abbrev stayed : Stays (fields.ended .signature .params) (fields.ended .kept)
 stayed = (stay-none Reader yes, tt)
@@ -133,6 +133,6 @@ pub fields-spec : {M : Type 1} → stated.statement M
 unfolding code.routine tablesOf
 fields-spec 𝓤 H 𝓜 𝓖 𝓡 =
     entered 𝓤 H (tripleOf 𝓤 H (𝓖 .A) fields.signature (fields.spec 𝓤 H (𝓖 .A) (𝓜 .mem) (𝓡 .run)))
-    (tables 𝓤 H 𝓜 𝓡 code.env .C) (tables 𝓤 H 𝓜 𝓡 code.env .Λ) #lines·fields code.function (code.unfolded 𝓤 H 𝓜 𝓡)
+    (tables 𝓤 H 𝓜 𝓡 code.env .C) (tables 𝓤 H 𝓜 𝓡 code.env .Λ) #lines·LineReader·fields code.function (code.unfolded 𝓤 H 𝓜 𝓡)
     (fields-meets 𝓤 H (𝓖 .A) (givenOf 𝓤 H 𝓜 𝓖) (𝓜 .mem) (𝓡 .run) (tablesOf 𝓤 H 𝓜 (tables 𝓤 H 𝓜 𝓡 code.env))
     (cited 𝓤 H (FieldsAt 𝓤 H (𝓖 .A) (𝓜 .mem) (𝓡 .run)) 𝓜 𝓡 code.env #text·fields fields-at-def.routine code.calls-text·fields (fields-at-thm.met 𝓤 H 𝓜 𝓖 𝓡)))

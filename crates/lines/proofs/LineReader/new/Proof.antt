@@ -34,10 +34,10 @@ use denote.Exit.{yes}
 use Rattle.lines.specs.declared.LineReader.{LineReader}
 use Rattle.lines.proofs.LineReader.Laws as T′
 use Rattle.lines.proofs.Owned.{made as made-of}
-use Rattle.lines.proofs.new.Key.{name as #lines·new}
-use Rattle.lines.proofs.new as new
-use Rattle.lines.proofs.new.Statement as stated
-use Rattle.lines.proofs.new.Code as code
+use Rattle.lines.proofs.LineReader.new.Key.{name as #lines·LineReader·new}
+use Rattle.lines.proofs.LineReader.new as new
+use Rattle.lines.proofs.LineReader.new.Statement as stated
+use Rattle.lines.proofs.LineReader.new.Code as code
 
 abbrev stayed : Stays (new.ended .signature .params) (new.ended .kept)
 stayed = (stay-none-slice (0 ∷ []) tt (plain (λ _. u8)) yes, tt)
@@ -88,5 +88,5 @@ pub new-spec : {M : Type 1} → stated.statement M
 unfolding code.routine tablesOf
 new-spec 𝓤 H 𝓜 𝓖 𝓡 =
     entered 𝓤 H (tripleOf 𝓤 H (𝓖 .A) new.signature (new.spec 𝓤 H (𝓖 .A) (𝓜 .mem) (𝓡 .run)))
-    (tables 𝓤 H 𝓜 𝓡 code.env .C) (tables 𝓤 H 𝓜 𝓡 code.env .Λ) #lines·new code.function (code.unfolded 𝓤 H 𝓜 𝓡)
+    (tables 𝓤 H 𝓜 𝓡 code.env .C) (tables 𝓤 H 𝓜 𝓡 code.env .Λ) #lines·LineReader·new code.function (code.unfolded 𝓤 H 𝓜 𝓡)
     (new-meets 𝓤 H (𝓖 .A) (givenOf 𝓤 H 𝓜 𝓖) (𝓜 .mem) (𝓡 .run) (tablesOf 𝓤 H 𝓜 (tables 𝓤 H 𝓜 𝓡 code.env)))
