@@ -1,6 +1,8 @@
 pub mod Bytes
 pub mod Lines
+pub mod FewFields
 pub mod Words
+pub mod Packed
 pub mod Numbers
 pub mod Order
 pub mod Places

@@ -48,6 +48,15 @@ pub record Fields (t : Bytes) (p : ℕ) (r : Line) : Type 0 where
   pub inside : Inside t p (r .starts) (r .lens) (r .count)
   pub next : r .next ≡ lineEnd t p
 
+-- a line of at most four fields
+abbrev pub fewFields : List ℕ → List ℕ → ℕ → ℕ → Line
+fewFields st ln n next = record {
+  starts = getD st 0 0 ∷ getD st 1 0 ∷ getD st 2 0 ∷ getD st 3 0 ∷ 0 ∷ 0 ∷ 0 ∷ 0 ∷ 0 ∷ 0 ∷ 0 ∷ 0 ∷ [];
+  lens = getD ln 0 0 ∷ getD ln 1 0 ∷ getD ln 2 0 ∷ getD ln 3 0 ∷ 0 ∷ 0 ∷ 0 ∷ 0 ∷ 0 ∷ 0 ∷ 0 ∷ 0 ∷ [];
+  count = n;
+  next = next;
+}
+
 -- LINE ENDS
 pub line-none : (t : Bytes) (p : ℕ) → length t ≤ p → lineEnd t p ≡ p
 unfolding lineEnd lineSize

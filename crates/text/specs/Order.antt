@@ -1,5 +1,5 @@
 -- Two byte strings compared: whether they are the same, and which is first.
-use Prim.Native.Nat.{ℕ, suc, _+_, _≤_, _<_}
+use Prim.Native.Nat.{ℕ, suc, _+_, _-_, _≤_, _<_}
 use native.Mathlib.Omega.{arith}
 use native.Mathlib.Decide.{decLt}
 use mathlib.Core.Path.{_≡_, refl, sym, ap, _∙_}
@@ -91,17 +91,37 @@ same-lengths (x ∷ xs) (y ∷ ys) h = go (eqb x y) refl (same-lengths xs ys (λ
     go true e ih = rw (same, e) ih
     go false e ih = rw (same, e)
 
+-- THE SAME FROM A POSITION ON
+pub record Alike (x y : Bytes) (i : ℕ) : Type 0 where
+  pub lengths : length x ≡ length y
+  pub within : i ≤ length x
+  pub rest : same (drop i x) (drop i y) ≡ true
+
+pub alike-begin : (x y : Bytes) → length x ≡ length y → Alike x y (length x)
+unfolding same
+alike-begin x y h =
+    let l : length x ≤ length x = omega arith in
+    let m : length y ≤ length x = omega arith in
+    record { lengths = h; within = l; rest = rw (drop-of-length-le x l, drop-of-length-le y m) }
+
+pub alike-step : (x y : Bytes) (i : ℕ) → 0 < i → Alike x y i → getD x (i - 1) 0 ≡ getD y (i - 1) 0 → Alike x y (i - 1)
+alike-step x y i h a e =
+    let f : i - 1 + 1 ≡ i = omega arith in
+    let l : i - 1 < length x = omega (arith, a .within) in
+    let m : i - 1 < length y = omega (arith, a .within, a .lengths) in
+    record { lengths = a .lengths; within = omega (arith, a .within); rest = rw (step x (i - 1) l, step y (i - 1) m, f) (same-first _ _ _ _ e ∙ a .rest) }
+
+pub alike-end : (x y : Bytes) (i : ℕ) → i ≤ 0 → Alike x y i → same x y ≡ true
+alike-end x y i h a = let e : i ≡ 0 = omega arith in rw e at (a .rest)
+
+pub differ-at : (x y : Bytes) (i : ℕ) → (getD x i 0 ≡ getD y i 0 → ⊥) → same x y ≡ false
+differ-at x y i h = go (same x y) refl
+  where
+    go : (b : Bool) → same x y ≡ b → b ≡ false
+    go false e = refl
+    go true e = absurd (h (ap (λ l. getD l i 0) (same-true x y e)))
+
 module _ (x y : Bytes) (i : ℕ) where
-  pub same-step : i < length x → i < length y → getD x i 0 ≡ getD y i 0 → same (drop i x) (drop i y) ≡ same (drop (i + 1) x) (drop (i + 1) y)
-  same-step h g e = rw (step x i h, step y i g) (same-first _ _ _ _ e)
-
-  pub same-differ : i < length x → i < length y → (getD x i 0 ≡ getD y i 0 → ⊥) → same (drop i x) (drop i y) ≡ false
-  same-differ h g e = rw (step x i h, step y i g) (differ-first _ _ _ _ e)
-
-  pub same-end : length x ≤ i → length y ≤ i → same (drop i x) (drop i y) ≡ true
-  unfolding same
-  same-end h g = rw (drop-of-length-le x h, drop-of-length-le y g)
-
   pub order-step : i < length x → i < length y → getD x i 0 ≡ getD y i 0 → orderOf (drop i x) (drop i y) ≡ orderOf (drop (i + 1) x) (drop (i + 1) y)
   order-step h g e = rw (step x i h, step y i g) (order-same _ _ _ _ e)
 

@@ -6,8 +6,9 @@ ghost use Rattle.rules.specs.Lists.{same, mapOption};
 ghost use Rattle.rules.specs.Lines as rules;
 ghost use Rattle.rules.specs.Reader as reader;
 ghost use Rattle.text.specs.Bytes.{stopAt};
-ghost use Rattle.text.specs.Lines.{lineEnd, Fields};
+ghost use Rattle.text.specs.Lines.{lineEnd, Fields, fewFields};
 ghost use Rattle.text.specs.Words.{find, wordsOf};
+ghost use Rattle.text.specs.Packed.{Packed};
 ghost use Rattle.text.specs.Numbers.{valueOf, isName};
 ghost use Rattle.text.specs.Order.{orderOf};
 
@@ -93,8 +94,8 @@ pub struct Line {
     pub next: usize,
 }
 
-// The fields of the line at a position. A line that no LF closes has two empty fields more.
-pub fn fields(t: &[u8], at: usize) -> Line
+// The fields of the line at a position, of any line. A line that no LF closes has two empty fields more.
+fn any_fields(t: &[u8], at: usize) -> Line
     ensures { λ r. ⌜ Fields (now (t .entry)) at r ⌝ }
 {
     let mut starts = [0usize; 12];
@@ -138,19 +139,74 @@ pub fn fields(t: &[u8], at: usize) -> Line
     }
 }
 
-// Whether two byte strings are the same.
+// A line of at most four fields.
+fn few(starts: [usize; 4], lens: [usize; 4], count: usize, next: usize) -> Line
+    ensures { λ r. ⌜ r ≡ fewFields starts lens count next ⌝ }
+{
+    Line {
+        starts: [starts[0], starts[1], starts[2], starts[3], 0, 0, 0, 0, 0, 0, 0, 0],
+        lens: [lens[0], lens[1], lens[2], lens[3], 0, 0, 0, 0, 0, 0, 0, 0],
+        count: count,
+        next: next,
+    }
+}
+
+// The fields of the line at a position: most lines have at most four, and a LF.
+pub fn fields(t: &[u8], at: usize) -> Line
+    ensures { λ r. ⌜ Fields (now (t .entry)) at r ⌝ }
+{
+    let e = stop_at(t, at, b'\n', b'\t');
+    if e < t.len() {
+        if t[e] == b'\n' {
+            return few([at, 0, 0, 0], [e - at, 0, 0, 0], 1, e + 1);
+        }
+        let b = e + 1;
+        let f = stop_at(t, b, b'\n', b'\t');
+        if f < t.len() {
+            if t[f] == b'\n' {
+                return few([at, b, 0, 0], [e - at, f - b, 0, 0], 2, f + 1);
+            }
+            let c = f + 1;
+            let g = stop_at(t, c, b'\n', b'\t');
+            if g < t.len() {
+                if t[g] == b'\n' {
+                    return few([at, b, c, 0], [e - at, f - b, g - c, 0], 3, g + 1);
+                }
+                let d = g + 1;
+                let h = stop_at(t, d, b'\n', b'\t');
+                if h < t.len() {
+                    if t[h] == b'\n' {
+                        return few([at, b, c, d], [e - at, f - b, g - c, h - d], 4, h + 1);
+                    }
+                }
+            }
+        }
+    }
+    // a copy of its own: where the call's line is the answer itself, every line goes through memory
+    let line = any_fields(t, at);
+    let starts = line.starts;
+    let lens = line.lens;
+    Line {
+        starts: starts,
+        lens: lens,
+        count: line.count,
+        next: line.next,
+    }
+}
+
+// Whether two byte strings are the same. The last bytes first: names of one length differ mostly there.
 pub fn equal(x: &[u8], y: &[u8]) -> bool
     ensures { λ r. ⌜ r ≡ same (now (x .entry)) (now (y .entry)) ⌝ }
 {
     if x.len() != y.len() {
         return false;
     }
-    let mut i: usize = 0;
-    while i < x.len() {
+    let mut i = x.len();
+    while 0 < i {
+        i -= 1;
         if x[i] != y[i] {
             return false;
         }
-        i += 1;
     }
     true
 }
@@ -202,6 +258,26 @@ pub fn which(words: &[u8], t: &[u8], a: usize, n: usize) -> usize
         k += 1;
     }
     k
+}
+
+// Numbers below this have room for a byte more.
+const ROOM: u64 = 0x100000000000000;
+
+// The n bytes at a as one number, the first byte lowest, with a 1 above the last; 0 where there are more than seven.
+pub fn packed(t: &[u8], a: usize, n: usize) -> u64
+    ensures { λ r. ⌜ Packed (take n (drop a (now (t .entry)))) r ⌝ }
+{
+    let x = part(t, a, n);
+    let mut v: u64 = 1;
+    let mut i = x.len();
+    while 0 < i {
+        if ROOM <= v {
+            return 0;
+        }
+        i -= 1;
+        v = v * 256 + x[i] as u64;
+    }
+    v
 }
 
 // Whether the n bytes at a are a word.

@@ -1,139 +1,151 @@
--- `fields`: the fields read and those from the next position on are the line's.
+-- `fields`: a line of at most four fields in a straight line, any other by the loop.
 use borrow.Author.Needs.{needs}
-use native.Mathlib.Omega.{arith}
-use Prim.Native.Nat.{_-_, _≤_}
-use mathlib.Core.Path.{_≡_, refl}
-use lib.ListN.{length, length-set}
 use Rattle.text.specs.Bytes.{stop-after}
-use Rattle.text.specs.Lines.{Reading, begin, go-on, ends, unclosed, filled}
+use Rattle.text.specs.FewFields.{one-field, two-fields, three-fields, four-fields}
 use Rattle.text.proofs.fields.Statement.{statement}
 use Rattle.text.proofs.fields.Tie as tie
 
-abbrev Inv-loop : tie.InvT-loop
-Inv-loop t at starts₀ lens₀ n₀ p₀ starts lens n p = (n ≤ 10) × (length starts ≡ 12) × (length lens ≡ 12) × Reading t at starts lens n p
-
-abbrev μ-loop : tie.MeasureT-loop
-μ-loop t at starts₀ lens₀ n₀ p₀ starts lens n p = 10 - n
-
-loop-holds : tie.Need-loop-holds Inv-loop μ-loop
-loop-holds c = (omega arith, refl, refl, begin _ _ _ _)
-
-stop-at-requires : tie.Need-stop-at-requires Inv-loop μ-loop
+stop-at-requires : tie.Need-stop-at-requires
 stop-at-requires c κs = search needs
 
-mul-starts : tie.Need-mul-starts Inv-loop μ-loop
-mul-starts c = search needs
-
-array-write-starts : tie.Need-array-write-starts Inv-loop μ-loop
-array-write-starts c = search needs
-
-sub-lens : tie.Need-sub-lens Inv-loop μ-loop
-sub-lens c = stop-after _ _ _ _ _ (c .stop-at .ensures)
-
-mul-lens : tie.Need-mul-lens Inv-loop μ-loop
-mul-lens c = search needs
-
-array-write-lens : tie.Need-array-write-lens Inv-loop μ-loop
-array-write-lens c = search needs
-
-add-n : tie.Need-add-n Inv-loop μ-loop
-add-n c = search needs
-
-mul-starts-2 : tie.Need-mul-starts-2 Inv-loop μ-loop
-mul-starts-2 c = search needs
-
-array-write-starts-2 : tie.Need-array-write-starts-2 Inv-loop μ-loop
-array-write-starts-2 c = search needs
-
-mul-lens-2 : tie.Need-mul-lens-2 Inv-loop μ-loop
-mul-lens-2 c = search needs
-
-array-write-lens-2 : tie.Need-array-write-lens-2 Inv-loop μ-loop
-array-write-lens-2 c = search needs
-
-add-starts : tie.Need-add-starts Inv-loop μ-loop
-add-starts c = search needs
-
-mul-starts-3 : tie.Need-mul-starts-3 Inv-loop μ-loop
-mul-starts-3 c = search needs
-
-array-write-starts-3 : tie.Need-array-write-starts-3 Inv-loop μ-loop
-array-write-starts-3 c = search needs
-
-add-lens : tie.Need-add-lens Inv-loop μ-loop
-add-lens c = search needs
-
-mul-lens-3 : tie.Need-mul-lens-3 Inv-loop μ-loop
-mul-lens-3 c = search needs
-
-array-write-lens-3 : tie.Need-array-write-lens-3 Inv-loop μ-loop
-array-write-lens-3 c = search needs
-
-add-least : tie.Need-add-least Inv-loop μ-loop
-add-least c = search needs
-
-least-requires : tie.Need-least-requires Inv-loop μ-loop
-least-requires c κs = search needs
-
-returns : tie.Need-returns Inv-loop μ-loop
-returns c = unclosed _ _ _ _ _ _ _ (c .before .before .before .loop-test .taken) (c .before .before .before .before .loop .inv .1) (c .before .before .before .before .loop .inv .2) (c .before .before .before .before .loop .inv .3) (c .before .before .stop-at .ensures) _ (c .least .ensures) (c .before .if1 .taken)
-
-shared-slice-read-if2 : tie.Need-shared-slice-read-if2 Inv-loop μ-loop
+shared-slice-read-if2 : tie.Need-shared-slice-read-if2
 shared-slice-read-if2 c = search needs
 
-add-t33 : tie.Need-add-t33 Inv-loop μ-loop
-add-t33 c = search needs
+sub-t19 : tie.Need-sub-t19
+sub-t19 c = stop-after _ _ _ _ _ (c .before .before .before .stop-at .ensures)
 
-returns-2 : tie.Need-returns-2 Inv-loop μ-loop
-returns-2 c = ends _ _ _ _ _ _ _ (c .before .before .before .before .loop-test .taken) (c .before .before .before .before .before .loop .inv .1) (c .before .before .before .before .before .loop .inv .2) (c .before .before .before .before .before .loop .inv .3) (c .before .before .before .stop-at .ensures) (c .before .before .if1 .left) (c .if2 .taken)
+add-few : tie.Need-add-few
+add-few c = search needs
 
-add-p : tie.Need-add-p Inv-loop μ-loop
-add-p c = search needs
+few-requires : tie.Need-few-requires
+few-requires c κs = search needs
 
-loop-less : tie.Need-loop-less Inv-loop μ-loop
-loop-less c = search needs
+returns : tie.Need-returns
+returns c = one-field _ _ _ _ (record { stop = c .before .before .before .before .stop-at .ensures; within = c .before .before .before .if1 .taken; lf = c .before .if2 .taken })  (c .few .ensures)
 
-loop-again : tie.Need-loop-again Inv-loop μ-loop
-loop-again c = (omega arith, simp length-set (c .before .before .before .before .before .loop .inv .1), simp length-set (c .before .before .before .before .before .loop .inv .2), go-on _ _ _ _ _ _ _ (c .before .before .before .before .loop-test .taken) (c .before .before .before .before .before .loop .inv .1) (c .before .before .before .before .before .loop .inv .2) (c .before .before .before .before .before .loop .inv .3) (c .before .before .before .stop-at .ensures) (c .before .before .if1 .left) (c .if2 .left))
+add-b : tie.Need-add-b
+add-b c = search needs
 
-line-end-requires : tie.Need-line-end-requires Inv-loop μ-loop
-line-end-requires c κs = search needs
+stop-at-requires-2 : tie.Need-stop-at-requires-2
+stop-at-requires-2 c κs = search needs
 
-returns-3 : tie.Need-returns-3 Inv-loop μ-loop
-returns-3 c = filled _ _ _ _ _ _ _ (c .before .before .loop .inv .0) (c .before .loop-test .left) (c .before .before .loop .inv .3) (c .line-end .ensures)
+shared-slice-read-if4 : tie.Need-shared-slice-read-if4
+shared-slice-read-if4 c = search needs
+
+sub-t27 : tie.Need-sub-t27
+sub-t27 c = stop-after _ _ _ _ _ (c .before .before .before .before .before .before .before .stop-at .ensures)
+
+sub-t28 : tie.Need-sub-t28
+sub-t28 c = stop-after _ _ _ _ _ (c .before .before .before .stop-at2 .ensures)
+
+add-few-2 : tie.Need-add-few-2
+add-few-2 c = search needs
+
+few-requires-2 : tie.Need-few-requires-2
+few-requires-2 c κs = search needs
+
+returns-2 : tie.Need-returns-2
+returns-2 c = two-fields _ _ _ _ _ (record { stop = c .before .before .before .before .before .before .before .before .stop-at .ensures; within = c .before .before .before .before .before .before .before .if1 .taken; other = c .before .before .before .before .before .if2 .left }) (record { stop = c .before .before .before .before .stop-at2 .ensures; within = c .before .before .before .if3 .taken; lf = c .before .if4 .taken })  (c .few2 .ensures)
+
+add-c : tie.Need-add-c
+add-c c = search needs
+
+stop-at-requires-3 : tie.Need-stop-at-requires-3
+stop-at-requires-3 c κs = search needs
+
+shared-slice-read-if6 : tie.Need-shared-slice-read-if6
+shared-slice-read-if6 c = search needs
+
+sub-t36 : tie.Need-sub-t36
+sub-t36 c = stop-after _ _ _ _ _ (c .before .before .before .before .before .before .before .before .before .before .before .stop-at .ensures)
+
+sub-t37 : tie.Need-sub-t37
+sub-t37 c = stop-after _ _ _ _ _ (c .before .before .before .before .before .before .before .stop-at2 .ensures)
+
+sub-t38 : tie.Need-sub-t38
+sub-t38 c = stop-after _ _ _ _ _ (c .before .before .before .stop-at3 .ensures)
+
+add-few-3 : tie.Need-add-few-3
+add-few-3 c = search needs
+
+few-requires-3 : tie.Need-few-requires-3
+few-requires-3 c κs = search needs
+
+returns-3 : tie.Need-returns-3
+returns-3 c = three-fields _ _ _ _ _ _ (record { stop = c .before .before .before .before .before .before .before .before .before .before .before .before .stop-at .ensures; within = c .before .before .before .before .before .before .before .before .before .before .before .if1 .taken; other = c .before .before .before .before .before .before .before .before .before .if2 .left }) (record { stop = c .before .before .before .before .before .before .before .before .stop-at2 .ensures; within = c .before .before .before .before .before .before .before .if3 .taken; other = c .before .before .before .before .before .if4 .left }) (record { stop = c .before .before .before .before .stop-at3 .ensures; within = c .before .before .before .if5 .taken; lf = c .before .if6 .taken })  (c .few3 .ensures)
+
+add-d : tie.Need-add-d
+add-d c = search needs
+
+stop-at-requires-4 : tie.Need-stop-at-requires-4
+stop-at-requires-4 c κs = search needs
+
+shared-slice-read-if8 : tie.Need-shared-slice-read-if8
+shared-slice-read-if8 c = search needs
+
+sub-t46 : tie.Need-sub-t46
+sub-t46 c = stop-after _ _ _ _ _ (c .before .before .before .before .before .before .before .before .before .before .before .before .before .before .before .stop-at .ensures)
+
+sub-t47 : tie.Need-sub-t47
+sub-t47 c = stop-after _ _ _ _ _ (c .before .before .before .before .before .before .before .before .before .before .before .stop-at2 .ensures)
+
+sub-t48 : tie.Need-sub-t48
+sub-t48 c = stop-after _ _ _ _ _ (c .before .before .before .before .before .before .before .stop-at3 .ensures)
+
+sub-t49 : tie.Need-sub-t49
+sub-t49 c = stop-after _ _ _ _ _ (c .before .before .before .stop-at4 .ensures)
+
+add-few-4 : tie.Need-add-few-4
+add-few-4 c = search needs
+
+few-requires-4 : tie.Need-few-requires-4
+few-requires-4 c κs = search needs
+
+returns-4 : tie.Need-returns-4
+returns-4 c = four-fields _ _ _ _ _ _ _ (record { stop = c .before .before .before .before .before .before .before .before .before .before .before .before .before .before .before .before .stop-at .ensures; within = c .before .before .before .before .before .before .before .before .before .before .before .before .before .before .before .if1 .taken; other = c .before .before .before .before .before .before .before .before .before .before .before .before .before .if2 .left }) (record { stop = c .before .before .before .before .before .before .before .before .before .before .before .before .stop-at2 .ensures; within = c .before .before .before .before .before .before .before .before .before .before .before .if3 .taken; other = c .before .before .before .before .before .before .before .before .before .if4 .left }) (record { stop = c .before .before .before .before .before .before .before .before .stop-at3 .ensures; within = c .before .before .before .before .before .before .before .if5 .taken; other = c .before .before .before .before .before .if6 .left }) (record { stop = c .before .before .before .before .stop-at4 .ensures; within = c .before .before .before .if7 .taken; lf = c .before .if8 .taken })  (c .few4 .ensures)
+
+any-fields-requires : tie.Need-any-fields-requires
+any-fields-requires c κs = search needs
+
+returns-5 : tie.Need-returns-5
+returns-5 c = search needs
 
 pub fields-spec : {M : Type 1} → statement M
 fields-spec =
     tie.close
     (tie.spec
-    Inv-loop
-    μ-loop
-    loop-holds
     stop-at-requires
-    mul-starts
-    array-write-starts
-    sub-lens
-    mul-lens
-    array-write-lens
-    add-n
-    mul-starts-2
-    array-write-starts-2
-    mul-lens-2
-    array-write-lens-2
-    add-starts
-    mul-starts-3
-    array-write-starts-3
-    add-lens
-    mul-lens-3
-    array-write-lens-3
-    add-least
-    least-requires
-    returns
     shared-slice-read-if2
-    add-t33
+    sub-t19
+    add-few
+    few-requires
+    returns
+    add-b
+    stop-at-requires-2
+    shared-slice-read-if4
+    sub-t27
+    sub-t28
+    add-few-2
+    few-requires-2
     returns-2
-    add-p
-    loop-less
-    loop-again
-    line-end-requires
-    returns-3)
+    add-c
+    stop-at-requires-3
+    shared-slice-read-if6
+    sub-t36
+    sub-t37
+    sub-t38
+    add-few-3
+    few-requires-3
+    returns-3
+    add-d
+    stop-at-requires-4
+    shared-slice-read-if8
+    sub-t46
+    sub-t47
+    sub-t48
+    sub-t49
+    add-few-4
+    few-requires-4
+    returns-4
+    any-fields-requires
+    returns-5)
