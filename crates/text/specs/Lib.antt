@@ -3,6 +3,7 @@ pub mod Lines
 pub mod FewFields
 pub mod Words
 pub mod Packed
+pub mod Tables
 pub mod Numbers
 pub mod Order
 pub mod Places

@@ -173,6 +173,16 @@ unfoldable pub findNumber : List ℕ → ℕ → ℕ
 findNumber [] r = 0
 findNumber (n ∷ ns) r = elim (eqb r n) [ true ↦ 0 | false ↦ suc (findNumber ns r) ]
 
+-- a number that is none of some
+unfoldable pub Apart : List ℕ → ℕ → Type 0
+Apart [] r = Unit {0}
+Apart (n ∷ ns) r = (r ≡ n → ⊥) × Apart ns r
+
+pub find-none : (ns : List ℕ) (r : ℕ) → Apart ns r → findNumber ns r ≡ length ns
+unfolding findNumber Apart
+find-none [] r a = refl
+find-none (n ∷ ns) r a = rw (findNumber, ne-eqb r n (a .0)) (ap suc (find-none ns r (a .1)))
+
 -- words that their numbers stand for
 pub record Keywords (words : Bytes) (ns : List ℕ) : Type 0 where
   pub are : areWords (wordsOf words) ≡ true

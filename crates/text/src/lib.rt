@@ -14,6 +14,7 @@ ghost use Rattle.text.specs.Order.{orderOf};
 
 pub mod lengths;
 pub mod places; // places.rt: places in both texts
+pub mod words; // words.rt: keywords as numbers
 
 // Most bytes a text, and the address of the statement's first byte.
 pub const MOST_BYTES: u32 = 65536;
@@ -267,15 +268,15 @@ const ROOM: u64 = 0x100000000000000;
 pub fn packed(t: &[u8], a: usize, n: usize) -> u64
     ensures { λ r. ⌜ Packed (take n (drop a (now (t .entry)))) r ⌝ }
 {
-    let x = part(t, a, n);
+    let word = part(t, a, n);
     let mut v: u64 = 1;
-    let mut i = x.len();
+    let mut i = word.len();
     while 0 < i {
         if ROOM <= v {
             return 0;
         }
         i -= 1;
-        v = v * 256 + x[i] as u64;
+        v = v * 256 + word[i] as u64;
     }
     v
 }

@@ -1,4 +1,5 @@
 -- `fields`: a line of at most four fields in a straight line, any other by the loop.
+use native.Mathlib.Omega.{arith}
 use borrow.Author.Needs.{needs}
 use Rattle.text.specs.Bytes.{stop-after}
 use Rattle.text.specs.FewFields.{one-field, two-fields, three-fields, four-fields}
@@ -12,7 +13,7 @@ shared-slice-read-if2 : tie.Need-shared-slice-read-if2
 shared-slice-read-if2 c = search needs
 
 sub-t19 : tie.Need-sub-t19
-sub-t19 c = stop-after _ _ _ _ _ (c .before .before .before .stop-at .ensures)
+sub-t19 c = omega (arith, stop-after _ _ _ _ _ (c .before .before .before .stop-at .ensures))
 
 add-few : tie.Need-add-few
 add-few c = search needs
@@ -33,10 +34,10 @@ shared-slice-read-if4 : tie.Need-shared-slice-read-if4
 shared-slice-read-if4 c = search needs
 
 sub-t27 : tie.Need-sub-t27
-sub-t27 c = stop-after _ _ _ _ _ (c .before .before .before .before .before .before .before .stop-at .ensures)
+sub-t27 c = omega (arith, stop-after _ _ _ _ _ (c .before .before .before .before .before .before .before .stop-at .ensures))
 
 sub-t28 : tie.Need-sub-t28
-sub-t28 c = stop-after _ _ _ _ _ (c .before .before .before .stop-at2 .ensures)
+sub-t28 c = omega (arith, stop-after _ _ _ _ _ (c .before .before .before .stop-at2 .ensures))
 
 add-few-2 : tie.Need-add-few-2
 add-few-2 c = search needs
@@ -57,13 +58,13 @@ shared-slice-read-if6 : tie.Need-shared-slice-read-if6
 shared-slice-read-if6 c = search needs
 
 sub-t36 : tie.Need-sub-t36
-sub-t36 c = stop-after _ _ _ _ _ (c .before .before .before .before .before .before .before .before .before .before .before .stop-at .ensures)
+sub-t36 c = omega (arith, stop-after _ _ _ _ _ (c .before .before .before .before .before .before .before .before .before .before .before .stop-at .ensures))
 
 sub-t37 : tie.Need-sub-t37
-sub-t37 c = stop-after _ _ _ _ _ (c .before .before .before .before .before .before .before .stop-at2 .ensures)
+sub-t37 c = omega (arith, stop-after _ _ _ _ _ (c .before .before .before .before .before .before .before .stop-at2 .ensures))
 
 sub-t38 : tie.Need-sub-t38
-sub-t38 c = stop-after _ _ _ _ _ (c .before .before .before .stop-at3 .ensures)
+sub-t38 c = omega (arith, stop-after _ _ _ _ _ (c .before .before .before .stop-at3 .ensures))
 
 add-few-3 : tie.Need-add-few-3
 add-few-3 c = search needs
@@ -84,16 +85,16 @@ shared-slice-read-if8 : tie.Need-shared-slice-read-if8
 shared-slice-read-if8 c = search needs
 
 sub-t46 : tie.Need-sub-t46
-sub-t46 c = stop-after _ _ _ _ _ (c .before .before .before .before .before .before .before .before .before .before .before .before .before .before .before .stop-at .ensures)
+sub-t46 c = omega (arith, stop-after _ _ _ _ _ (c .before .before .before .before .before .before .before .before .before .before .before .before .before .before .before .stop-at .ensures))
 
 sub-t47 : tie.Need-sub-t47
-sub-t47 c = stop-after _ _ _ _ _ (c .before .before .before .before .before .before .before .before .before .before .before .stop-at2 .ensures)
+sub-t47 c = omega (arith, stop-after _ _ _ _ _ (c .before .before .before .before .before .before .before .before .before .before .before .stop-at2 .ensures))
 
 sub-t48 : tie.Need-sub-t48
-sub-t48 c = stop-after _ _ _ _ _ (c .before .before .before .before .before .before .before .stop-at3 .ensures)
+sub-t48 c = omega (arith, stop-after _ _ _ _ _ (c .before .before .before .before .before .before .before .stop-at3 .ensures))
 
 sub-t49 : tie.Need-sub-t49
-sub-t49 c = stop-after _ _ _ _ _ (c .before .before .before .stop-at4 .ensures)
+sub-t49 c = omega (arith, stop-after _ _ _ _ _ (c .before .before .before .stop-at4 .ensures))
 
 add-few-4 : tie.Need-add-few-4
 add-few-4 c = search needs

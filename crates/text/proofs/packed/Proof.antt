@@ -7,10 +7,10 @@ use Rattle.text.proofs.packed.Statement.{statement}
 use Rattle.text.proofs.packed.Tie as tie
 
 abbrev Inv-loop : tie.InvT-loop
-Inv-loop t a n x v₀ i₀ v i = Packing x i v
+Inv-loop t a n word v₀ i₀ v i = Packing word i v
 
 abbrev μ-loop : tie.MeasureT-loop
-μ-loop t a n x v₀ i₀ v i = i
+μ-loop t a n word v₀ i₀ v i = i
 
 part-requires : tie.Need-part-requires Inv-loop μ-loop
 part-requires c κs = search needs
