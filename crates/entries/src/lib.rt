@@ -309,12 +309,7 @@ pub fn entry_head(t: &[u8], p: usize, f: Line, kind: u32, last: u32, len: u32) -
     requires { ⌜ LineAt (now t) p f ⌝ ∗ ⌜ kind ≤ 11 ⌝ }
     ensures { λ r. ⌜ ((l c k : ℕ) → IsHead (now (t .entry)) kind (lastName (now (t .entry)) last len) (here (now (t .entry)) p l c k) r) ⌝ }
 {
-    let k = text::which(
-        b"item where group having order offset limit columns name row set column ",
-        t,
-        f.starts[0],
-        f.lens[0],
-    );
+    let k = text::words::part(t, f.starts[0], f.lens[0]);
     if k != kind as usize {
         return plain(MISSING, 0, 0);
     }

@@ -108,7 +108,7 @@ pub fn literal_at(t: &[u8], base: u32, p: usize, f: Line) -> Literal
     ensures { λ r. ⌜ ((k : Text) (l c n : ℕ) → baseAddress k ≡ base → IsLiteral base (now (t .entry)) (oneOf literals (lineHere (place k (now (t .entry)) p l c n))) r) ⌝ }
 {
     let n = f.count;
-    let k = text::which(b"null bool int float text ", t, f.starts[0], f.lens[0]);
+    let k = text::words::literal(t, f.starts[0], f.lens[0]);
     if k == 0 {
         if n != 1 {
             return no_literal();

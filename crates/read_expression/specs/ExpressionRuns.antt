@@ -262,3 +262,21 @@ module _ {t : Bytes} (p l c k : ℕ) {row : Row} (s : (l c k : ℕ) → RowOf t 
     deep-is cells₂ (R.Wrong x) v = gives-wrong _ _ _ _ _ _ _ x (reads ∙ unfold wrongAt in is-wrong (deep (d - 1)) _ l _ (operand .0) (operand .2) _ (given-wrong _ _ _ _ _ _ _ x v refl))
     deep-is cells₂ (R.Limit x) v = gives-limit _ _ _ _ _ _ _ x (reads ∙ unfold limitAt in is-wrong (deep (d - 1)) _ l _ (operand .0) (operand .2) _ (given-limit _ _ _ _ _ _ _ x v refl))
     deep-is cells₂ (R.Done p₂ l₂ c₂) v = gives-done _ _ _ _ _ _ _ p₂ l₂ c₂ (is-took cells₂ p₂ l₂ c₂ (given-done _ _ _ _ _ _ _ p₂ l₂ c₂ v refl))
+
+-- A LEAF
+module _ {t : Bytes} (p l c k : ℕ) {row : Row} (s : (l c k : ℕ) → RowOf t (oneOf heads (lineHere (here t p l c k))) row) (d : ℕ) (z : row .kind ≡ 0 → ⊥) (o : row .operands ≡ 0) where
+  no-is : row .kind ≡ 7 → ⊥
+  unfolding arity
+  no-is i =
+      let h = row-of-some (s l c k) z in
+      let e : row .operands ≡ 1 = h .2 .many ∙ rw (row-of-is (h .0) (h .2) i) in
+      omega (arith, e, o)
+
+  -- a record without operands
+  pub leaf-done : Position t p l c → c < mostCells → (d ≡ 0 → ⊥) → {q : ℕ} → q ≡ lineEnd t p → (cells cells′ : List ℕ)
+      → cells′ ≡ sets cells (rowSize * c) (row .kind ∷ l ∷ 1 ∷ row .code ∷ row .a ∷ row .b ∷ row .c ∷ row .d ∷ [])
+      → Given (deep d) (λ c′ e. Rows t c cells cells′ c′ (cons e nil)) t p l c k (R.Done q (l + 1) (c + 1))
+  leaf-done w m y {q} f cells cells′ e =
+      let one : c + 1 - c ≡ 1 = omega arith in
+      let g : Given (times (row .operands) (deep (d - 1))) (Rows t (c + 1) cells cells) t q (l + 1) (c + 1) k (R.Done q (l + 1) (c + 1)) = loop-end (loop-start (operands-position w s z m f)) (omega (arith, o)) in
+      deep-done p l c k s d z m y f cells cells g q (l + 1) (c + 1) refl cells′ no-is (rw one e)

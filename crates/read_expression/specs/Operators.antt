@@ -14,6 +14,7 @@ use Rattle.rules.specs.Reader.{word}
 use Rattle.rules.specs.ReadExpression.{Head, starHead, isHead, unaryHead, binaryHead, operators}
 use Rattle.text.specs.Lines.{field}
 use Rattle.text.specs.Words.{find, wordsOf, push, keys, nth, named-by, nth-none}
+use Rattle.text.specs.Packed.{Keywords, number, numbers, areBytes, isWord, areWords}
 use Rattle.read_expression.specs.declared.heads.Row.{Row}
 use Rattle.read_expression.specs.Encode.{headNumbers, arity}
 use Rattle.read_expression.specs.Fits.{HeadFits}
@@ -83,6 +84,10 @@ operators-beside = (binary-plainly (plain and), (unary-plainly not, (binary-plai
 pub operator-words : keys operators ≡ wordsOf (bytes "and not or eq gt ge is lt le ne add div pow fact ident mul neg rem sub like ")
 unfolding operators keys wordsOf push bytes
 operator-words = refl
+
+pub operator-table : Keywords (bytes "and not or eq gt ge is lt le ne add div pow fact ident mul neg rem sub like ") (23359073 ∷ 24407918 ∷ 94831 ∷ 94565 ∷ 95335 ∷ 91495 ∷ 95081 ∷ 95340 ∷ 91500 ∷ 91502 ∷ 23356513 ∷ 24537444 ∷ 24604528 ∷ 6247637350 ∷ 1599579972713 ∷ 23885165 ∷ 23553390 ∷ 23946610 ∷ 23229811 ∷ 5996505452 ∷ [])
+unfolding wordsOf push bytes number numbers areBytes isWord areWords
+operator-table = record { are = refl; is = refl }
 
 module _ (t : Bytes) (a n k : ℕ) (words : Bytes) (e : keys operators ≡ wordsOf words) (h : k ≡ find (wordsOf words) (take n (drop a t))) where
   operator-is : word operators (field mostBytes t a n) ≡ nth operators k

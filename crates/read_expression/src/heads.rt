@@ -31,6 +31,10 @@ pub const QUALIFIED: u32 = 3;
 
 pub const CALL: u32 = 4;
 
+const UNARY: u32 = 5;
+
+const BINARY: u32 = 6;
+
 pub const IS: u32 = 7;
 
 pub const LITERAL: u32 = 8;
@@ -71,82 +75,30 @@ fn wrong() -> Row
 fn operator(t: &[u8], a: usize, n: usize) -> Row
     ensures { λ r. ⌜ RowOf (now (t .entry)) (word operators (field mostBytes (now (t .entry)) a n)) r ⌝ }
 {
-    let k = text::which(
-        b"and not or eq gt ge is lt le ne add div pow fact ident mul neg rem sub like ",
-        t,
-        a,
-        n,
-    );
-    if 20 <= k {
-        return wrong();
+    let w = text::packed(t, a, n);
+    match w {
+        text::words::AND => plain_row(BINARY, 16, 2),
+        text::words::NOT => plain_row(UNARY, 8, 1),
+        text::words::OR => plain_row(BINARY, 17, 2),
+        text::words::EQ => plain_row(BINARY, 18, 2),
+        text::words::GT => plain_row(BINARY, 19, 2),
+        text::words::GE => plain_row(BINARY, 28, 2),
+        text::words::IS => plain_row(IS, 0, 1),
+        text::words::LT => plain_row(BINARY, 20, 2),
+        text::words::LE => plain_row(BINARY, 29, 2),
+        text::words::NE => plain_row(BINARY, 30, 2),
+        text::words::ADD => plain_row(BINARY, 21, 2),
+        text::words::DIV => plain_row(BINARY, 22, 2),
+        text::words::POW => plain_row(BINARY, 23, 2),
+        text::words::FACT => plain_row(UNARY, 9, 1),
+        text::words::IDENT => plain_row(UNARY, 10, 1),
+        text::words::MUL => plain_row(BINARY, 24, 2),
+        text::words::NEG => plain_row(UNARY, 11, 1),
+        text::words::REM => plain_row(BINARY, 25, 2),
+        text::words::SUB => plain_row(BINARY, 26, 2),
+        text::words::LIKE => plain_row(BINARY, 27, 2),
+        _ => wrong(),
     }
-    let kinds = [
-        6u32,
-        5,
-        6,
-        6,
-        6,
-        6,
-        7,
-        6,
-        6,
-        6,
-        6,
-        6,
-        6,
-        5,
-        5,
-        6,
-        5,
-        6,
-        6,
-        6,
-    ];
-    let codes = [
-        16u32,
-        8,
-        17,
-        18,
-        19,
-        28,
-        0,
-        20,
-        29,
-        30,
-        21,
-        22,
-        23,
-        9,
-        10,
-        24,
-        11,
-        25,
-        26,
-        27,
-    ];
-    let operands = [
-        2u32,
-        1,
-        2,
-        2,
-        2,
-        2,
-        1,
-        2,
-        2,
-        2,
-        2,
-        2,
-        2,
-        1,
-        1,
-        2,
-        1,
-        2,
-        2,
-        2,
-    ];
-    plain_row(kinds[k], codes[k], operands[k])
 }
 
 // A column's name.
@@ -240,7 +192,7 @@ pub fn head(t: &[u8], p: usize, f: Line) -> Row
     ensures { λ r. ⌜ ((l c k : ℕ) → RowOf (now (t .entry)) (oneOf heads (lineHere (place statement (now (t .entry)) p l c k))) r) ⌝ }
 {
     let n = f.count;
-    let k = text::which(b"op col fn star ", t, f.starts[0], f.lens[0]);
+    let k = text::words::head(t, f.starts[0], f.lens[0]);
     if k == 0 {
         if n != 2 {
             return wrong();

@@ -114,6 +114,10 @@ fn read_deep(t: &[u8], p: usize, l: u32, c: u32, depth: u32, cells: &mut [u32]) 
     if depth == 0 {
         return Read::Limit(l);
     }
+    if h.operands == 0 {
+        put_row(cells, c, l, 1, h);
+        return Read::Done(next, l + 1, c + 1);
+    }
     let r = read_times(t, next, l + 1, c + 1, depth - 1, h.operands, cells);
     match r {
         Read::Wrong(x) => Read::Wrong(x),

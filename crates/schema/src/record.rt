@@ -49,11 +49,11 @@ pub fn column_record(catalog: &[u8], at: usize) -> ColumnRecord
     if !text::is_name(f.lens[1]) {
         return ColumnRecord::Wrong;
     }
-    let k = text::which(b"bool int float text ", catalog, f.starts[2], f.lens[2]);
+    let k = text::words::datatype(catalog, f.starts[2], f.lens[2]);
     if 4 <= k {
         return ColumnRecord::Wrong;
     }
-    let u = text::which(b"null notnull ", catalog, f.starts[3], f.lens[3]);
+    let u = text::words::nullable(catalog, f.starts[3], f.lens[3]);
     if 2 <= u {
         return ColumnRecord::Wrong;
     }

@@ -6,101 +6,86 @@ use Rattle.entries.specs.HeadKinds.{head-missing, head-by, head-set, hea
 use borrow.Author.Needs.{needs}
 use Rattle.entries.proofs.entry_head.Statement.{statement}
 use Rattle.entries.proofs.entry_head.Tie as tie
-use Rattle.entries.proofs.entry_head.Reads as reads
-use Rattle.entries.proofs.entry_head.Lts as lts
-use Rattle.entries.proofs.clause.Reads as clause-reads
-use Rattle.entries.proofs.column.Reads as column-reads
-use Rattle.entries.proofs.item.Reads as item-reads
-use Rattle.entries.proofs.name.Reads as name-reads
-use Rattle.entries.proofs.order.Reads as order-reads
-use Rattle.entries.proofs.plain.Reads as plain-reads
-use Rattle.entries.proofs.row.Reads as row-reads
-use Rattle.entries.proofs.set.Reads as set-reads
-use Rattle.text.proofs.which.Reads as which-reads
 
-slice-aggregate-which : tie.Need-slice-aggregate-which
-slice-aggregate-which c = search needs
+element-copy-out-part : tie.Need-element-copy-out-part
+element-copy-out-part c = search needs
 
-element-copy-out-which : tie.Need-element-copy-out-which
-element-copy-out-which c = search needs
+element-copy-out-part-2 : tie.Need-element-copy-out-part-2
+element-copy-out-part-2 c = search needs
 
-element-copy-out-which-2 : tie.Need-element-copy-out-which-2
-element-copy-out-which-2 c = search needs
-
-which-requires : tie.Need-which-requires
-which-requires c κs = search needs
+part-requires : tie.Need-part-requires
+part-requires c κs = search needs
 
 plain-requires : tie.Need-plain-requires
 plain-requires c κs = search needs
 
 returns : tie.Need-returns
 unfolding keywords bytes
-returns c = head-missing _ _ _ (c .before .before .before .before .before .before .before .pre .0 .fields) (c .before .before .before .before .before .before .before .pre .1) (c .before .before .which .ensures) _ _ (c .before .if1 .taken) (c .plain .ensures .0)
+returns c = head-missing _ _ _ (c .before .before .before .before .before .before .pre .0 .fields) (c .before .before .before .before .before .before .pre .1) (c .before .before .part .ensures) _ _ (c .before .if1 .taken) (c .plain .ensures .0)
 
 item-requires : tie.Need-item-requires
 item-requires c κs = search needs
 
 returns-2 : tie.Need-returns-2
 unfolding keywords bytes
-returns-2 c = head-by _ _ _ (c .before .before .before .before .before .before .before .before .pre .0 .fields) (c .before .before .before .before .before .before .before .before .pre .1) (c .before .before .before .which .ensures) 0 _ _ (c .before .before .if1 .left) (c .before .if2 .taken) (λ e. omega (arith, e)) (c .item .ensures)
+returns-2 c = head-by _ _ _ (c .before .before .before .before .before .before .before .pre .0 .fields) (c .before .before .before .before .before .before .before .pre .1) (c .before .before .before .part .ensures) 0 _ _ (c .before .before .if1 .left) (c .before .if2 .taken) (λ e. omega (arith, e)) (c .item .ensures)
 
 order-requires : tie.Need-order-requires
 order-requires c κs = search needs
 
 returns-3 : tie.Need-returns-3
 unfolding keywords bytes
-returns-3 c = head-by _ _ _ (c .before .before .before .before .before .before .before .before .before .pre .0 .fields) (c .before .before .before .before .before .before .before .before .before .pre .1) (c .before .before .before .before .which .ensures) 4 _ _ (c .before .before .before .if1 .left) (c .before .if3 .taken) (λ e. omega (arith, e)) (c .order .ensures)
+returns-3 c = head-by _ _ _ (c .before .before .before .before .before .before .before .before .pre .0 .fields) (c .before .before .before .before .before .before .before .before .pre .1) (c .before .before .before .before .part .ensures) 4 _ _ (c .before .before .before .if1 .left) (c .before .if3 .taken) (λ e. omega (arith, e)) (c .order .ensures)
 
 clause-requires : tie.Need-clause-requires
 clause-requires c κs = search needs
 
 returns-4 : tie.Need-returns-4
 unfolding keywords bytes
-returns-4 c = head-columns _ _ _ (c .before .before .before .before .before .before .before .before .before .before .pre .0 .fields) (c .before .before .before .before .before .before .before .before .before .before .pre .1) (c .before .before .before .before .before .which .ensures) _ _ (c .before .before .before .before .if1 .left) (c .before .if4 .taken) (c .clause .ensures)
+returns-4 c = head-columns _ _ _ (c .before .before .before .before .before .before .before .before .before .pre .0 .fields) (c .before .before .before .before .before .before .before .before .before .pre .1) (c .before .before .before .before .before .part .ensures) _ _ (c .before .before .before .before .if1 .left) (c .before .if4 .taken) (c .clause .ensures)
 
 name-requires : tie.Need-name-requires
 name-requires c κs = search needs
 
 returns-5 : tie.Need-returns-5
 unfolding keywords bytes
-returns-5 c = head-by _ _ _ (c .before .before .before .before .before .before .before .before .before .before .before .pre .0 .fields) (c .before .before .before .before .before .before .before .before .before .before .before .pre .1) (c .before .before .before .before .before .before .which .ensures) 8 _ _ (c .before .before .before .before .before .if1 .left) (c .before .if5 .taken) (λ e. omega (arith, e)) (c .name .ensures)
+returns-5 c = head-by _ _ _ (c .before .before .before .before .before .before .before .before .before .before .pre .0 .fields) (c .before .before .before .before .before .before .before .before .before .before .pre .1) (c .before .before .before .before .before .before .part .ensures) 8 _ _ (c .before .before .before .before .before .if1 .left) (c .before .if5 .taken) (λ e. omega (arith, e)) (c .name .ensures)
 
 row-requires : tie.Need-row-requires
 row-requires c κs = search needs
 
 returns-6 : tie.Need-returns-6
 unfolding keywords bytes
-returns-6 c = head-by _ _ _ (c .before .before .before .before .before .before .before .before .before .before .before .before .pre .0 .fields) (c .before .before .before .before .before .before .before .before .before .before .before .before .pre .1) (c .before .before .before .before .before .before .before .which .ensures) 9 _ _ (c .before .before .before .before .before .before .if1 .left) (c .before .if6 .taken) (λ e. omega (arith, e)) (c .row .ensures)
+returns-6 c = head-by _ _ _ (c .before .before .before .before .before .before .before .before .before .before .before .pre .0 .fields) (c .before .before .before .before .before .before .before .before .before .before .before .pre .1) (c .before .before .before .before .before .before .before .part .ensures) 9 _ _ (c .before .before .before .before .before .before .if1 .left) (c .before .if6 .taken) (λ e. omega (arith, e)) (c .row .ensures)
 
 set-requires : tie.Need-set-requires
 set-requires c κs = search needs
 
 returns-7 : tie.Need-returns-7
 unfolding keywords bytes
-returns-7 c = head-set _ _ _ (c .before .before .before .before .before .before .before .before .before .before .before .before .before .pre .0 .fields) (c .before .before .before .before .before .before .before .before .before .before .before .before .before .pre .1) (c .before .before .before .before .before .before .before .before .which .ensures) _ _ (c .before .before .before .before .before .before .before .if1 .left) (c .before .if7 .taken) (c .set .ensures)
+returns-7 c = head-set _ _ _ (c .before .before .before .before .before .before .before .before .before .before .before .before .pre .0 .fields) (c .before .before .before .before .before .before .before .before .before .before .before .before .pre .1) (c .before .before .before .before .before .before .before .before .part .ensures) _ _ (c .before .before .before .before .before .before .before .if1 .left) (c .before .if7 .taken) (c .set .ensures)
 
 column-requires : tie.Need-column-requires
 column-requires c κs = search needs
 
 returns-8 : tie.Need-returns-8
 unfolding keywords bytes
-returns-8 c = head-by _ _ _ (c .before .before .before .before .before .before .before .before .before .before .before .before .before .before .pre .0 .fields) (c .before .before .before .before .before .before .before .before .before .before .before .before .before .before .pre .1) (c .before .before .before .before .before .before .before .before .before .which .ensures) 11 _ _ (c .before .before .before .before .before .before .before .before .if1 .left) (c .before .if8 .taken) (λ e. omega (arith, e)) (c .column .ensures)
+returns-8 c = head-by _ _ _ (c .before .before .before .before .before .before .before .before .before .before .before .before .before .pre .0 .fields) (c .before .before .before .before .before .before .before .before .before .before .before .before .before .pre .1) (c .before .before .before .before .before .before .before .before .before .part .ensures) 11 _ _ (c .before .before .before .before .before .before .before .before .if1 .left) (c .before .if8 .taken) (λ e. omega (arith, e)) (c .column .ensures)
 
 clause-requires-2 : tie.Need-clause-requires-2
 clause-requires-2 c κs = search needs
 
 returns-9 : tie.Need-returns-9
 unfolding keywords bytes
-returns-9 c = head-clause _ _ _ (c .before .before .before .before .before .before .before .before .before .before .before .before .before .before .pre .0 .fields) (c .before .before .before .before .before .before .before .before .before .before .before .before .before .before .pre .1) (c .before .before .before .before .before .before .before .before .before .which .ensures) _ _ (c .before .before .before .before .before .before .before .before .if1 .left) (c .before .before .before .before .before .before .before .if2 .left) (c .before .before .before .before .before .before .if3 .left) (c .before .before .before .before .before .if4 .left) (c .before .before .before .before .if5 .left) (c .before .before .before .if6 .left) (c .before .before .if7 .left) (c .before .if8 .left) (c .clause2 .ensures)
+returns-9 c = head-clause _ _ _ (c .before .before .before .before .before .before .before .before .before .before .before .before .before .pre .0 .fields) (c .before .before .before .before .before .before .before .before .before .before .before .before .before .pre .1) (c .before .before .before .before .before .before .before .before .before .part .ensures) _ _ (c .before .before .before .before .before .before .before .before .if1 .left) (c .before .before .before .before .before .before .before .if2 .left) (c .before .before .before .before .before .before .if3 .left) (c .before .before .before .before .before .if4 .left) (c .before .before .before .before .if5 .left) (c .before .before .before .if6 .left) (c .before .before .if7 .left) (c .before .if8 .left) (c .clause2 .ensures)
 
 pub entry-head-spec : {M : Type 1} → statement M
 entry-head-spec =
     tie.close
     (tie.spec
-    slice-aggregate-which
-    element-copy-out-which
-    element-copy-out-which-2
-    which-requires
+    element-copy-out-part
+    element-copy-out-part-2
+    part-requires
     plain-requires
     returns
     item-requires

@@ -10,35 +10,32 @@ use borrow.Author.Needs.{needs}
 use Rattle.literal.proofs.record.literal_at.Statement.{statement}
 use Rattle.literal.proofs.record.literal_at.Tie as tie
 
-slice-aggregate-which : tie.Need-slice-aggregate-which
-slice-aggregate-which c = search needs
+element-copy-out-literal : tie.Need-element-copy-out-literal
+element-copy-out-literal c = search needs
 
-element-copy-out-which : tie.Need-element-copy-out-which
-element-copy-out-which c = search needs
+element-copy-out-literal-2 : tie.Need-element-copy-out-literal-2
+element-copy-out-literal-2 c = search needs
 
-element-copy-out-which-2 : tie.Need-element-copy-out-which-2
-element-copy-out-which-2 c = search needs
-
-which-requires : tie.Need-which-requires
-which-requires c κs = search needs
+literal-requires : tie.Need-literal-requires
+literal-requires c κs = search needs
 
 no-literal-requires : tie.Need-no-literal-requires
 no-literal-requires c κs = search needs
 
 returns : tie.Need-returns
 unfolding bytes
-returns c = λ x l d k b. literal-as (literal-null-not x _ _ l d k _ (c .before .before .before .before .before .before .before .before .pre .1) _ _ literal-words (c .before .before .before .which .ensures) (c .before .before .if1 .taken) (c .before .if2 .taken)) (c .no-literal .ensures _ _)
+returns c = λ x l d k b. literal-as (literal-null-not x _ _ l d k _ (c .before .before .before .before .before .before .before .pre .1) _ _ literal-words (c .before .before .before .literal .ensures) (c .before .before .if1 .taken) (c .before .if2 .taken)) (c .no-literal .ensures _ _)
 
 returns-2 : tie.Need-returns-2
 unfolding bytes defaultNumbers valueNumbers LiteralFits ValueFits
-returns-2 c = λ x l d k b. literal-as (literal-null x _ _ l d k _ (c .before .before .before .before .before .before .before .pre .1) _ _ literal-words (c .before .before .which .ensures) (c .before .if1 .taken) (c .if2 .left)) (record { is = refl; fits = λ k e c q f. tt })
+returns-2 c = λ x l d k b. literal-as (literal-null x _ _ l d k _ (c .before .before .before .before .before .before .pre .1) _ _ literal-words (c .before .before .literal .ensures) (c .before .if1 .taken) (c .if2 .left)) (record { is = refl; fits = λ k e c q f. tt })
 
 no-literal-requires-2 : tie.Need-no-literal-requires-2
 no-literal-requires-2 c κs = search needs
 
 returns-3 : tie.Need-returns-3
 unfolding bytes
-returns-3 c = λ x l d k b. literal-as (literal-not x _ _ l d k _ (c .before .before .before .before .before .before .before .before .pre .1) _ _ literal-words (c .before .before .before .which .ensures) (c .before .before .if1 .left) (c .before .if3 .taken)) (c .no-literal2 .ensures _ _)
+returns-3 c = λ x l d k b. literal-as (literal-not x _ _ l d k _ (c .before .before .before .before .before .before .before .pre .1) _ _ literal-words (c .before .before .before .literal .ensures) (c .before .before .if1 .left) (c .before .if3 .taken)) (c .no-literal2 .ensures _ _)
 
 element-copy-out-literal-by : tie.Need-element-copy-out-literal-by
 element-copy-out-literal-by c = search needs
@@ -47,20 +44,19 @@ element-copy-out-literal-by-2 : tie.Need-element-copy-out-literal-by-2
 element-copy-out-literal-by-2 c = search needs
 
 literal-by-requires : tie.Need-literal-by-requires
-literal-by-requires c κs = (inside-field _ _ _ (c .before .before .before .before .before .before .before .before .before .pre .1) 1 (c .before .before .before .before .before .before .before .before .before .pre .0 .0) (c .before .before .before .before .before .before .before .before .before .pre .0 .1) (omega arith), (omega (arith, c .before .before .before .if1 .left), c .before .before .before .before .before .before .before .before .before .pre .0 .2))
+literal-by-requires c κs = (inside-field _ _ _ (c .before .before .before .before .before .before .before .before .pre .1) 1 (c .before .before .before .before .before .before .before .before .pre .0 .0) (c .before .before .before .before .before .before .before .before .pre .0 .1) (omega arith), (omega (arith, c .before .before .before .if1 .left), c .before .before .before .before .before .before .before .before .pre .0 .2))
 
 returns-4 : tie.Need-returns-4
 unfolding bytes
-returns-4 c = λ x l d k b. literal-as (literal-field x _ _ l d k _ (c .before .before .before .before .before .before .before .before .before .before .pre .1) _ _ literal-words (c .before .before .before .before .before .which .ensures) (c .before .before .before .if3 .left)) (rw b (c .literal-by .ensures))
+returns-4 c = λ x l d k b. literal-as (literal-field x _ _ l d k _ (c .before .before .before .before .before .before .before .before .before .pre .1) _ _ literal-words (c .before .before .before .before .before .literal .ensures) (c .before .before .before .if3 .left)) (rw b (c .literal-by .ensures))
 
 pub literal-at-spec : {M : Type 1} → statement M
 literal-at-spec =
     tie.close
     (tie.spec
-    slice-aggregate-which
-    element-copy-out-which
-    element-copy-out-which-2
-    which-requires
+    element-copy-out-literal
+    element-copy-out-literal-2
+    literal-requires
     no-literal-requires
     returns
     returns-2

@@ -11,185 +11,132 @@ use Rattle.read_expression.specs.Records.{other-words, head-op, head-op-
 use borrow.Author.Needs.{needs}
 use Rattle.read_expression.proofs.heads.head.Statement.{statement}
 use Rattle.read_expression.proofs.heads.head.Tie as tie
-use Rattle.read_expression.proofs.heads.head.Reads as reads
-use Rattle.read_expression.proofs.heads.head.Lts as lts
-use Rattle.read_expression.proofs.heads.call.Reads as call-reads
-use Rattle.read_expression.proofs.heads.column.Reads as column-reads
-use Rattle.literal.proofs.record.literal_at.Reads as literal-at-reads
-use Rattle.read_expression.proofs.heads.literal_row.Reads as literal-row-reads
-use Rattle.read_expression.proofs.heads.operator.Reads as operator-reads
-use Rattle.read_expression.proofs.heads.plain_row.Reads as plain-row-reads
-use Rattle.read_expression.proofs.heads.qualified.Reads as qualified-reads
-use Rattle.read_expression.proofs.heads.wrong.Reads as wrong-reads
-use Rattle.text.proofs.fields.Reads as fields-reads
-use Rattle.text.proofs.which.Reads as which-reads
 
--- src/heads.rt:348:25
-slice-aggregate-which : tie.Need-slice-aggregate-which
-slice-aggregate-which c = search needs
+element-copy-out-head : tie.Need-element-copy-out-head
+element-copy-out-head c = search needs
 
--- src/heads.rt:348:48
-element-copy-out-which : tie.Need-element-copy-out-which
-element-copy-out-which c = search needs
+element-copy-out-head-2 : tie.Need-element-copy-out-head-2
+element-copy-out-head-2 c = search needs
 
--- src/heads.rt:348:61
-element-copy-out-which-2 : tie.Need-element-copy-out-which-2
-element-copy-out-which-2 c = search needs
+head-requires : tie.Need-head-requires
+head-requires c κs = search needs
 
--- src/heads.rt:348:9
-which-requires : tie.Need-which-requires
-which-requires c κs = search needs
-
--- src/heads.rt:351:13
 wrong-requires : tie.Need-wrong-requires
 wrong-requires c κs = search needs
 
--- src/heads.rt:351:13
 returns : tie.Need-returns
 unfolding bytes
-returns c = λ l d k. row-of-as _ _ _ _ (head-op-not _ _ l d k _ (c .before .before .before .before .before .before .before .before .pre .1) _ _ other-words (c .before .before .before .which .ensures) (c .before .before .if1 .taken) (c .before .if2 .taken)) (c .wrong .ensures _)
+returns c = λ l d k. row-of-as _ _ _ _ (head-op-not _ _ l d k _ (c .before .before .before .before .before .before .before .pre .1) _ _ other-words (c .before .before .before .head .ensures) (c .before .before .if1 .taken) (c .before .if2 .taken)) (c .wrong .ensures _)
 
--- src/heads.rt:353:28
 element-copy-out-operator : tie.Need-element-copy-out-operator
 element-copy-out-operator c = search needs
 
--- src/heads.rt:353:41
 element-copy-out-operator-2 : tie.Need-element-copy-out-operator-2
 element-copy-out-operator-2 c = search needs
 
--- src/heads.rt:353:9
 operator-requires : tie.Need-operator-requires
 operator-requires c κs = search needs
 
--- src/heads.rt:353:9
 returns-2 : tie.Need-returns-2
 unfolding bytes
-returns-2 c = λ l d k. row-of-as _ _ _ _ (head-op _ _ l d k _ (c .before .before .before .before .before .before .before .before .before .before .pre .1) _ _ other-words (c .before .before .before .before .before .which .ensures) (c .before .before .before .before .if1 .taken) (c .before .before .before .if2 .left)) (c .operator .ensures)
+returns-2 c = λ l d k. row-of-as _ _ _ _ (head-op _ _ l d k _ (c .before .before .before .before .before .before .before .before .before .pre .1) _ _ other-words (c .before .before .before .before .before .head .ensures) (c .before .before .before .before .if1 .taken) (c .before .before .before .if2 .left)) (c .operator .ensures)
 
--- src/heads.rt:357:30
 element-copy-out-column : tie.Need-element-copy-out-column
 element-copy-out-column c = search needs
 
--- src/heads.rt:357:43
 element-copy-out-column-2 : tie.Need-element-copy-out-column-2
 element-copy-out-column-2 c = search needs
 
--- src/heads.rt:357:13
 column-requires : tie.Need-column-requires
-column-requires c κs = inside-field _ _ _ (c .before .before .before .before .before .before .before .before .before .before .pre .1) 1 (c .before .before .before .before .before .before .before .before .before .before .pre .0 .0) (c .before .before .before .before .before .before .before .before .before .before .pre .0 .1) (omega arith)
+column-requires c κs = inside-field _ _ _ (c .before .before .before .before .before .before .before .before .before .pre .1) 1 (c .before .before .before .before .before .before .before .before .before .pre .0 .0) (c .before .before .before .before .before .before .before .before .before .pre .0 .1) (omega arith)
 
--- src/heads.rt:357:13
 returns-3 : tie.Need-returns-3
 unfolding bytes
-returns-3 c = λ l d k. row-of-as _ _ _ _ (head-column _ _ l d k _ (c .before .before .before .before .before .before .before .before .before .before .before .pre .1) _ _ other-words (c .before .before .before .before .before .before .which .ensures) (c .before .before .before .before .if3 .taken) (c .before .before .before .if4 .taken)) (c .column .ensures)
+returns-3 c = λ l d k. row-of-as _ _ _ _ (head-column _ _ l d k _ (c .before .before .before .before .before .before .before .before .before .before .pre .1) _ _ other-words (c .before .before .before .before .before .before .head .ensures) (c .before .before .before .before .if3 .taken) (c .before .before .before .if4 .taken)) (c .column .ensures)
 
--- src/heads.rt:360:13
 wrong-requires-2 : tie.Need-wrong-requires-2
 wrong-requires-2 c κs = search needs
 
--- src/heads.rt:360:13
 returns-4 : tie.Need-returns-4
 unfolding bytes
-returns-4 c = λ l d k. row-of-as _ _ _ _ (head-column-not _ _ l d k _ (c .before .before .before .before .before .before .before .before .before .before .pre .1) _ _ other-words (c .before .before .before .before .before .which .ensures) (c .before .before .before .if3 .taken) (c .before .before .if4 .left) (c .before .if5 .taken)) (c .wrong2 .ensures _)
+returns-4 c = λ l d k. row-of-as _ _ _ _ (head-column-not _ _ l d k _ (c .before .before .before .before .before .before .before .before .before .pre .1) _ _ other-words (c .before .before .before .before .before .head .ensures) (c .before .before .before .if3 .taken) (c .before .before .if4 .left) (c .before .if5 .taken)) (c .wrong2 .ensures _)
 
--- src/heads.rt:362:29
 element-copy-out-qualified : tie.Need-element-copy-out-qualified
 element-copy-out-qualified c = search needs
 
--- src/heads.rt:362:42
 element-copy-out-qualified-2 : tie.Need-element-copy-out-qualified-2
 element-copy-out-qualified-2 c = search needs
 
--- src/heads.rt:362:53
 element-copy-out-qualified-3 : tie.Need-element-copy-out-qualified-3
 element-copy-out-qualified-3 c = search needs
 
--- src/heads.rt:362:66
 element-copy-out-qualified-4 : tie.Need-element-copy-out-qualified-4
 element-copy-out-qualified-4 c = search needs
 
--- src/heads.rt:362:9
 qualified-requires : tie.Need-qualified-requires
-qualified-requires c κs = (inside-field _ _ _ (c .before .before .before .before .before .before .before .before .before .before .before .before .before .pre .1) 1 (c .before .before .before .before .before .before .before .before .before .before .before .before .before .pre .0 .0) (c .before .before .before .before .before .before .before .before .before .before .before .before .before .pre .0 .1) (omega arith), inside-field _ _ _ (c .before .before .before .before .before .before .before .before .before .before .before .before .before .pre .1) 2 (c .before .before .before .before .before .before .before .before .before .before .before .before .before .pre .0 .0) (c .before .before .before .before .before .before .before .before .before .before .before .before .before .pre .0 .1) (omega arith))
+qualified-requires c κs = (inside-field _ _ _ (c .before .before .before .before .before .before .before .before .before .before .before .before .pre .1) 1 (c .before .before .before .before .before .before .before .before .before .before .before .before .pre .0 .0) (c .before .before .before .before .before .before .before .before .before .before .before .before .pre .0 .1) (omega arith), inside-field _ _ _ (c .before .before .before .before .before .before .before .before .before .before .before .before .pre .1) 2 (c .before .before .before .before .before .before .before .before .before .before .before .before .pre .0 .0) (c .before .before .before .before .before .before .before .before .before .before .before .before .pre .0 .1) (omega arith))
 
--- src/heads.rt:362:9
 returns-5 : tie.Need-returns-5
 unfolding bytes
-returns-5 c = λ l d k. row-of-as _ _ _ _ (head-qualified _ _ l d k _ (c .before .before .before .before .before .before .before .before .before .before .before .before .before .before .pre .1) _ _ other-words (c .before .before .before .before .before .before .before .before .before .which .ensures) (c .before .before .before .before .before .before .before .if3 .taken) (c .before .before .before .before .before .if5 .left)) (c .qualified .ensures)
+returns-5 c = λ l d k. row-of-as _ _ _ _ (head-qualified _ _ l d k _ (c .before .before .before .before .before .before .before .before .before .before .before .before .before .pre .1) _ _ other-words (c .before .before .before .before .before .before .before .before .before .head .ensures) (c .before .before .before .before .before .before .before .if3 .taken) (c .before .before .before .before .before .if5 .left)) (c .qualified .ensures)
 
--- src/heads.rt:366:13
 wrong-requires-3 : tie.Need-wrong-requires-3
 wrong-requires-3 c κs = search needs
 
--- src/heads.rt:366:13
 returns-6 : tie.Need-returns-6
 unfolding bytes
-returns-6 c = λ l d k. row-of-as _ _ _ _ (head-call-not _ _ l d k _ (c .before .before .before .before .before .before .before .before .before .before .pre .1) _ _ other-words (c .before .before .before .before .before .which .ensures) (c .before .before .if6 .taken) (c .before .if7 .taken)) (c .wrong3 .ensures _)
+returns-6 c = λ l d k. row-of-as _ _ _ _ (head-call-not _ _ l d k _ (c .before .before .before .before .before .before .before .before .before .pre .1) _ _ other-words (c .before .before .before .before .before .head .ensures) (c .before .before .if6 .taken) (c .before .if7 .taken)) (c .wrong3 .ensures _)
 
--- src/heads.rt:368:24
 element-copy-out-call : tie.Need-element-copy-out-call
 element-copy-out-call c = search needs
 
--- src/heads.rt:368:37
 element-copy-out-call-2 : tie.Need-element-copy-out-call-2
 element-copy-out-call-2 c = search needs
 
--- src/heads.rt:368:48
 element-copy-out-call-3 : tie.Need-element-copy-out-call-3
 element-copy-out-call-3 c = search needs
 
--- src/heads.rt:368:61
 element-copy-out-call-4 : tie.Need-element-copy-out-call-4
 element-copy-out-call-4 c = search needs
 
--- src/heads.rt:368:9
 call-requires : tie.Need-call-requires
-call-requires c κs = inside-field _ _ _ (c .before .before .before .before .before .before .before .before .before .before .before .before .before .pre .1) 1 (c .before .before .before .before .before .before .before .before .before .before .before .before .before .pre .0 .0) (c .before .before .before .before .before .before .before .before .before .before .before .before .before .pre .0 .1) (omega arith)
+call-requires c κs = inside-field _ _ _ (c .before .before .before .before .before .before .before .before .before .before .before .before .pre .1) 1 (c .before .before .before .before .before .before .before .before .before .before .before .before .pre .0 .0) (c .before .before .before .before .before .before .before .before .before .before .before .before .pre .0 .1) (omega arith)
 
--- src/heads.rt:368:9
 returns-7 : tie.Need-returns-7
 unfolding bytes
-returns-7 c = λ l d k. row-of-as _ _ _ _ (head-call _ _ l d k _ (c .before .before .before .before .before .before .before .before .before .before .before .before .before .before .pre .1) _ _ other-words (c .before .before .before .before .before .before .before .before .before .which .ensures) (c .before .before .before .before .before .before .if6 .taken) (c .before .before .before .before .before .if7 .left)) (c .call .ensures)
+returns-7 c = λ l d k. row-of-as _ _ _ _ (head-call _ _ l d k _ (c .before .before .before .before .before .before .before .before .before .before .before .before .before .pre .1) _ _ other-words (c .before .before .before .before .before .before .before .before .before .head .ensures) (c .before .before .before .before .before .before .if6 .taken) (c .before .before .before .before .before .if7 .left)) (c .call .ensures)
 
--- src/heads.rt:372:13
 wrong-requires-4 : tie.Need-wrong-requires-4
 wrong-requires-4 c κs = search needs
 
--- src/heads.rt:372:13
 returns-8 : tie.Need-returns-8
 unfolding bytes
-returns-8 c = λ l d k. row-of-as _ _ _ _ (head-star-not _ _ l d k _ (c .before .before .before .before .before .before .before .before .before .before .before .pre .1) _ _ other-words (c .before .before .before .before .before .before .which .ensures) (c .before .before .if8 .taken) (c .before .if9 .taken)) (c .wrong4 .ensures _)
+returns-8 c = λ l d k. row-of-as _ _ _ _ (head-star-not _ _ l d k _ (c .before .before .before .before .before .before .before .before .before .before .pre .1) _ _ other-words (c .before .before .before .before .before .before .head .ensures) (c .before .before .if8 .taken) (c .before .if9 .taken)) (c .wrong4 .ensures _)
 
--- src/heads.rt:374:9
 plain-row-requires : tie.Need-plain-row-requires
 plain-row-requires c κs = search needs
 
--- src/heads.rt:374:9
 returns-9 : tie.Need-returns-9
 unfolding bytes
-returns-9 c = λ l d k. row-of-as _ _ _ _ (head-star _ _ l d k _ (c .before .before .before .before .before .before .before .before .before .before .before .pre .1) _ _ other-words (c .before .before .before .before .before .before .which .ensures) (c .before .before .if8 .taken) (c .before .if9 .left)) (row-of-plain _ _ _ _ _ _ star-plainly (c .plain-row .ensures))
+returns-9 c = λ l d k. row-of-as _ _ _ _ (head-star _ _ l d k _ (c .before .before .before .before .before .before .before .before .before .before .pre .1) _ _ other-words (c .before .before .before .before .before .before .head .ensures) (c .before .before .if8 .taken) (c .before .if9 .left)) (row-of-plain _ _ _ _ _ _ star-plainly (c .plain-row .ensures))
 
--- src/heads.rt:376:17
 literal-at-requires : tie.Need-literal-at-requires
 literal-at-requires c κs = search needs
 
--- src/heads.rt:376:5
 literal-row-requires : tie.Need-literal-row-requires
 literal-row-requires c κs = search needs
 
--- src/heads.rt:343:1
 returns-10 : tie.Need-returns-10
 unfolding bytes baseAddress
-returns-10 c = λ l d k. row-of-as _ _ _ _ (head-literal _ _ l d k _ (c .before .before .before .before .before .before .before .before .before .before .before .pre .1) _ _ other-words (c .before .before .before .before .before .before .which .ensures) (omega (arith, c .before .before .before .before .before .if1 .left, c .before .before .before .before .if3 .left, c .before .before .before .if6 .left, c .before .before .if8 .left))) (c .literal-row .ensures _ _ (c .before .literal-at .ensures rule.statement l d k refl))
+returns-10 c = λ l d k. row-of-as _ _ _ _ (head-literal _ _ l d k _ (c .before .before .before .before .before .before .before .before .before .before .pre .1) _ _ other-words (c .before .before .before .before .before .before .head .ensures) (omega (arith, c .before .before .before .before .before .if1 .left, c .before .before .before .before .if3 .left, c .before .before .before .if6 .left, c .before .before .if8 .left))) (c .literal-row .ensures _ _ (c .before .literal-at .ensures rule.statement l d k refl))
 
 pub head-spec : {M : Type 1} → statement M
 head-spec =
     tie.close
     (tie.spec
-    slice-aggregate-which
-    element-copy-out-which
-    element-copy-out-which-2
-    which-requires
+    element-copy-out-head
+    element-copy-out-head-2
+    head-requires
     wrong-requires
     returns
     element-copy-out-operator

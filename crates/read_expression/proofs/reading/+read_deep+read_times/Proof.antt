@@ -7,7 +7,7 @@ use Rattle.rules.specs.ReadExpression.{deep}
 use mathlib.Core.Path.{_∙_}
 use Rattle.read_expression.specs.Given.{given-done}
 use Rattle.read_expression.specs.Rows.{rows-length}
-use Rattle.read_expression.specs.ExpressionRuns.{Loop, loop-start, loop-length, loop-end, loop-wrong, loop-limit, loop-on, no-record, no-room, too-deep, operands-position, operands-wrong, operands-limit, deep-done, deep-is}
+use Rattle.read_expression.specs.ExpressionRuns.{Loop, loop-start, loop-length, loop-end, loop-wrong, loop-limit, loop-on, no-record, no-room, too-deep, operands-position, operands-wrong, operands-limit, deep-done, deep-is, leaf-done}
 use borrow.Fn.Kinds.{In}
 use borrow.Fn.PlainCycle.{Measures, is, falls, and}
 use Rattle.read_expression.proofs.reading.read_deep.Reads as read-deep
@@ -50,12 +50,12 @@ read-deep-fields-requires : (t : ℕ) → read-deep-lts.Need-fields-requires (
   fields-reads.Learnt,
   head-reads.Asked,
   head-reads.Learnt,
+  put-row-reads.Asked,
+  put-row-reads.Learnt,
   read-times-below t,
   read-times.Post,
   read-is-reads.Asked,
   read-is-reads.Learnt,
-  put-row-reads.Asked,
-  put-row-reads.Learnt,
 ) (read-deep-at t) read-deep.Post
 read-deep-fields-requires t c κs = search needs
 
@@ -64,12 +64,12 @@ read-deep-head-requires : (t : ℕ) → read-deep-lts.Need-head-requires (
   fields-reads.Learnt,
   head-reads.Asked,
   head-reads.Learnt,
+  put-row-reads.Asked,
+  put-row-reads.Learnt,
   read-times-below t,
   read-times.Post,
   read-is-reads.Asked,
   read-is-reads.Learnt,
-  put-row-reads.Asked,
-  put-row-reads.Learnt,
 ) (read-deep-at t) read-deep.Post
 read-deep-head-requires t c κs = search needs
 
@@ -78,12 +78,12 @@ read-deep-returns : (t : ℕ) → read-deep-lts.Need-returns (
   fields-reads.Learnt,
   head-reads.Asked,
   head-reads.Learnt,
+  put-row-reads.Asked,
+  put-row-reads.Learnt,
   read-times-below t,
   read-times.Post,
   read-is-reads.Asked,
   read-is-reads.Learnt,
-  put-row-reads.Asked,
-  put-row-reads.Learnt,
 ) (read-deep-at t) read-deep.Post
 read-deep-returns t c = λ k. no-record _ _ _ k (c .before .before .head .ensures) _ _ (c .if1 .taken)
 
@@ -92,12 +92,12 @@ read-deep-returns-2 : (t : ℕ) → read-deep-lts.Need-returns-2 (
   fields-reads.Learnt,
   head-reads.Asked,
   head-reads.Learnt,
+  put-row-reads.Asked,
+  put-row-reads.Learnt,
   read-times-below t,
   read-times.Post,
   read-is-reads.Asked,
   read-is-reads.Learnt,
-  put-row-reads.Asked,
-  put-row-reads.Learnt,
 ) (read-deep-at t) read-deep.Post
 read-deep-returns-2 t c = λ k. no-room _ _ _ k (c .before .before .before .head .ensures) _ _ (c .before .if1 .left) (omega (arith, c .if2 .taken))
 
@@ -106,138 +106,68 @@ read-deep-returns-3 : (t : ℕ) → read-deep-lts.Need-returns-3 (
   fields-reads.Learnt,
   head-reads.Asked,
   head-reads.Learnt,
+  put-row-reads.Asked,
+  put-row-reads.Learnt,
   read-times-below t,
   read-times.Post,
   read-is-reads.Asked,
   read-is-reads.Learnt,
-  put-row-reads.Asked,
-  put-row-reads.Learnt,
 ) (read-deep-at t) read-deep.Post
 read-deep-returns-3 t c = λ k. too-deep _ _ _ k (c .before .before .before .before .head .ensures) _ _ (c .before .before .if1 .left) (omega (arith, c .before .if2 .left)) (c .if3 .taken)
 
-read-deep-add-read-times : (t : ℕ) → read-deep-lts.Need-add-read-times (
+read-deep-put-row-requires : (t : ℕ) → read-deep-lts.Need-put-row-requires (
   fields-reads.Asked,
   fields-reads.Learnt,
   head-reads.Asked,
   head-reads.Learnt,
+  put-row-reads.Asked,
+  put-row-reads.Learnt,
   read-times-below t,
   read-times.Post,
   read-is-reads.Asked,
   read-is-reads.Learnt,
-  put-row-reads.Asked,
-  put-row-reads.Learnt,
 ) (read-deep-at t) read-deep.Post
-read-deep-add-read-times t c = search needs
+read-deep-put-row-requires t c κs = (omega (arith, c .before .before .before .before .if2 .left), c .before .before .before .before .before .before .before .before .before .before .before .pre .1 .1 .1)
 
-read-deep-add-read-times-2 : (t : ℕ) → read-deep-lts.Need-add-read-times-2 (
+read-deep-add-t20 : (t : ℕ) → read-deep-lts.Need-add-t20 (
   fields-reads.Asked,
   fields-reads.Learnt,
   head-reads.Asked,
   head-reads.Learnt,
+  put-row-reads.Asked,
+  put-row-reads.Learnt,
   read-times-below t,
   read-times.Post,
   read-is-reads.Asked,
   read-is-reads.Learnt,
-  put-row-reads.Asked,
-  put-row-reads.Learnt,
 ) (read-deep-at t) read-deep.Post
-read-deep-add-read-times-2 t c = search needs
+read-deep-add-t20 t c = search needs
 
-read-deep-sub-read-times : (t : ℕ) → read-deep-lts.Need-sub-read-times (
+read-deep-add-t21 : (t : ℕ) → read-deep-lts.Need-add-t21 (
   fields-reads.Asked,
   fields-reads.Learnt,
   head-reads.Asked,
   head-reads.Learnt,
+  put-row-reads.Asked,
+  put-row-reads.Learnt,
   read-times-below t,
   read-times.Post,
   read-is-reads.Asked,
   read-is-reads.Learnt,
-  put-row-reads.Asked,
-  put-row-reads.Learnt,
 ) (read-deep-at t) read-deep.Post
-read-deep-sub-read-times t c = search needs
-
-read-deep-read-times-requires : (t : ℕ) → read-deep-lts.Need-read-times-requires (
-  fields-reads.Asked,
-  fields-reads.Learnt,
-  head-reads.Asked,
-  head-reads.Learnt,
-  read-times-below t,
-  read-times.Post,
-  read-is-reads.Asked,
-  read-is-reads.Learnt,
-  put-row-reads.Asked,
-  put-row-reads.Learnt,
-) (read-deep-at t) read-deep.Post
-read-deep-read-times-requires t c κs = (omega (arith, c .before .before .before .before .before .before .before .before .before .pre .0, c .before .if3 .left), (operands-position (c .before .before .before .before .before .before .before .before .before .pre .1 .0) (c .before .before .before .before .before .head .ensures) (c .before .before .before .if1 .left) (omega (arith, c .before .before .if2 .left)) (c .before .before .before .before .before .before .fields .ensures .next), (omega (arith, c .before .before .before .before .before .before .before .before .before .pre .1 .1 .0), c .before .before .before .before .before .head .ensures 0 0 0 .small, c .before .before .before .before .before .before .before .before .before .pre .1 .1 .1)))
-
-read-deep-enum-known-r : (t : ℕ) → read-deep-lts.Need-enum-known-r (
-  fields-reads.Asked,
-  fields-reads.Learnt,
-  head-reads.Asked,
-  head-reads.Learnt,
-  read-times-below t,
-  read-times.Post,
-  read-is-reads.Asked,
-  read-is-reads.Learnt,
-  put-row-reads.Asked,
-  put-row-reads.Learnt,
-) (read-deep-at t) read-deep.Post
-read-deep-enum-known-r t c = search needs
-
-read-deep-enum-known-r-2 : (t : ℕ) → read-deep-lts.Need-enum-known-r-2 (
-  fields-reads.Asked,
-  fields-reads.Learnt,
-  head-reads.Asked,
-  head-reads.Learnt,
-  read-times-below t,
-  read-times.Post,
-  read-is-reads.Asked,
-  read-is-reads.Learnt,
-  put-row-reads.Asked,
-  put-row-reads.Learnt,
-) (read-deep-at t) read-deep.Post
-read-deep-enum-known-r-2 t c = search needs
-
-read-deep-enum-known-r-3 : (t : ℕ) → read-deep-lts.Need-enum-known-r-3 (
-  fields-reads.Asked,
-  fields-reads.Learnt,
-  head-reads.Asked,
-  head-reads.Learnt,
-  read-times-below t,
-  read-times.Post,
-  read-is-reads.Asked,
-  read-is-reads.Learnt,
-  put-row-reads.Asked,
-  put-row-reads.Learnt,
-) (read-deep-at t) read-deep.Post
-read-deep-enum-known-r-3 t c = search needs
-
-read-deep-read-is-requires : (t : ℕ) → read-deep-lts.Need-read-is-requires (
-  fields-reads.Asked,
-  fields-reads.Learnt,
-  head-reads.Asked,
-  head-reads.Learnt,
-  read-times-below t,
-  read-times.Post,
-  read-is-reads.Asked,
-  read-is-reads.Learnt,
-  put-row-reads.Asked,
-  put-row-reads.Learnt,
-) (read-deep-at t) read-deep.Post
-read-deep-read-is-requires t c κs = let w = (given-done _ _ _ _ _ _ 0 _ _ _ (c .before .before .before .before .before .before .before .before .read-times .ensures 0) (c .before .before .before .before .r3 .given .1)) in (w .position, (omega (arith, w .more), rows-length (w .holds) ∙ c .before .before .before .before .before .before .before .before .before .before .before .before .before .before .before .before .before .before .pre .1 .1 .1))
+read-deep-add-t21 t c = search needs
 
 read-deep-same-length : (t : ℕ) → read-deep-lts.Need-same-length (
   fields-reads.Asked,
   fields-reads.Learnt,
   head-reads.Asked,
   head-reads.Learnt,
+  put-row-reads.Asked,
+  put-row-reads.Learnt,
   read-times-below t,
   read-times.Post,
   read-is-reads.Asked,
   read-is-reads.Learnt,
-  put-row-reads.Asked,
-  put-row-reads.Learnt,
 ) (read-deep-at t) read-deep.Post
 read-deep-same-length t c = search needs
 
@@ -246,54 +176,138 @@ read-deep-returns-4 : (t : ℕ) → read-deep-lts.Need-returns-4 (
   fields-reads.Learnt,
   head-reads.Asked,
   head-reads.Learnt,
+  put-row-reads.Asked,
+  put-row-reads.Learnt,
   read-times-below t,
   read-times.Post,
   read-is-reads.Asked,
   read-is-reads.Learnt,
-  put-row-reads.Asked,
-  put-row-reads.Learnt,
 ) (read-deep-at t) read-deep.Post
-read-deep-returns-4 t c = λ k. deep-is _ _ _ k (c .before .before .before .before .before .before .before .before .before .before .before .before .before .before .before .before .before .head .ensures) _ (c .before .before .before .before .before .before .before .before .before .before .before .before .before .before .before .if1 .left) (omega (arith, c .before .before .before .before .before .before .before .before .before .before .before .before .before .before .if2 .left)) (c .before .before .before .before .before .before .before .before .before .before .before .before .before .if3 .left) (c .before .before .before .before .before .before .before .before .before .before .before .before .before .before .before .before .before .before .fields .ensures .next) _ _ (c .before .before .before .before .before .before .before .before .before .before .before .read-times .ensures k) _ _ _ (c .before .before .before .before .before .before .before .r3 .given .1) (c .before .before .before .before .if4 .taken) _ _ (c .before .before .read-is .ensures k)
+read-deep-returns-4 t c = λ k. leaf-done _ _ _ k (c .before .before .before .before .before .before .before .before .before .before .head .ensures) _ (c .before .before .before .before .before .before .before .before .if1 .left) (c .before .before .before .before .if4 .taken) (c .before .before .before .before .before .before .before .before .before .before .before .before .before .before .pre .1 .0) (omega (arith, c .before .before .before .before .before .before .before .if2 .left)) (c .before .before .before .before .before .before .if3 .left) (c .before .before .before .before .before .before .before .before .before .before .before .fields .ensures .next) _ _ (c .before .before .put-row .ensures)
 
-read-deep-sub-put-row : (t : ℕ) → read-deep-lts.Need-sub-put-row (
+read-deep-add-read-times : (t : ℕ) → read-deep-lts.Need-add-read-times (
   fields-reads.Asked,
   fields-reads.Learnt,
   head-reads.Asked,
   head-reads.Learnt,
+  put-row-reads.Asked,
+  put-row-reads.Learnt,
   read-times-below t,
   read-times.Post,
   read-is-reads.Asked,
   read-is-reads.Learnt,
-  put-row-reads.Asked,
-  put-row-reads.Learnt,
 ) (read-deep-at t) read-deep.Post
-read-deep-sub-put-row t c = let w = (given-done _ _ _ _ _ _ 0 _ _ _ (c .before .before .before .before .before .before .before .before .read-times .ensures 0) (c .before .before .before .before .r3 .given .1)) in omega (arith, w .more)
+read-deep-add-read-times t c = search needs
 
-read-deep-put-row-requires : (t : ℕ) → read-deep-lts.Need-put-row-requires (
+read-deep-add-read-times-2 : (t : ℕ) → read-deep-lts.Need-add-read-times-2 (
   fields-reads.Asked,
   fields-reads.Learnt,
   head-reads.Asked,
   head-reads.Learnt,
+  put-row-reads.Asked,
+  put-row-reads.Learnt,
   read-times-below t,
   read-times.Post,
   read-is-reads.Asked,
   read-is-reads.Learnt,
+) (read-deep-at t) read-deep.Post
+read-deep-add-read-times-2 t c = search needs
+
+read-deep-sub-read-times : (t : ℕ) → read-deep-lts.Need-sub-read-times (
+  fields-reads.Asked,
+  fields-reads.Learnt,
+  head-reads.Asked,
+  head-reads.Learnt,
   put-row-reads.Asked,
   put-row-reads.Learnt,
+  read-times-below t,
+  read-times.Post,
+  read-is-reads.Asked,
+  read-is-reads.Learnt,
 ) (read-deep-at t) read-deep.Post
-read-deep-put-row-requires t c κs = let w = (given-done _ _ _ _ _ _ 0 _ _ _ (c .before .before .before .before .before .before .before .before .read-times .ensures 0) (c .before .before .before .before .r3 .given .1)) in (omega (arith, c .before .before .before .before .before .before .before .before .before .before .before .if2 .left), rows-length (w .holds) ∙ c .before .before .before .before .before .before .before .before .before .before .before .before .before .before .before .before .before .before .pre .1 .1 .1)
+read-deep-sub-read-times t c = search needs
+
+read-deep-read-times-requires : (t : ℕ) → read-deep-lts.Need-read-times-requires (
+  fields-reads.Asked,
+  fields-reads.Learnt,
+  head-reads.Asked,
+  head-reads.Learnt,
+  put-row-reads.Asked,
+  put-row-reads.Learnt,
+  read-times-below t,
+  read-times.Post,
+  read-is-reads.Asked,
+  read-is-reads.Learnt,
+) (read-deep-at t) read-deep.Post
+read-deep-read-times-requires t c κs = (omega (arith, c .before .before .before .before .before .before .before .before .before .before .before .pre .0, c .before .before .before .if3 .left), (operands-position (c .before .before .before .before .before .before .before .before .before .before .before .pre .1 .0) (c .before .before .before .before .before .before .before .head .ensures) (c .before .before .before .before .before .if1 .left) (omega (arith, c .before .before .before .before .if2 .left)) (c .before .before .before .before .before .before .before .before .fields .ensures .next), (omega (arith, c .before .before .before .before .before .before .before .before .before .before .before .pre .1 .1 .0), c .before .before .before .before .before .before .before .head .ensures 0 0 0 .small, c .before .before .before .before .before .before .before .before .before .before .before .pre .1 .1 .1)))
+
+read-deep-enum-known-r : (t : ℕ) → read-deep-lts.Need-enum-known-r (
+  fields-reads.Asked,
+  fields-reads.Learnt,
+  head-reads.Asked,
+  head-reads.Learnt,
+  put-row-reads.Asked,
+  put-row-reads.Learnt,
+  read-times-below t,
+  read-times.Post,
+  read-is-reads.Asked,
+  read-is-reads.Learnt,
+) (read-deep-at t) read-deep.Post
+read-deep-enum-known-r t c = search needs
+
+read-deep-enum-known-r-2 : (t : ℕ) → read-deep-lts.Need-enum-known-r-2 (
+  fields-reads.Asked,
+  fields-reads.Learnt,
+  head-reads.Asked,
+  head-reads.Learnt,
+  put-row-reads.Asked,
+  put-row-reads.Learnt,
+  read-times-below t,
+  read-times.Post,
+  read-is-reads.Asked,
+  read-is-reads.Learnt,
+) (read-deep-at t) read-deep.Post
+read-deep-enum-known-r-2 t c = search needs
+
+read-deep-enum-known-r-3 : (t : ℕ) → read-deep-lts.Need-enum-known-r-3 (
+  fields-reads.Asked,
+  fields-reads.Learnt,
+  head-reads.Asked,
+  head-reads.Learnt,
+  put-row-reads.Asked,
+  put-row-reads.Learnt,
+  read-times-below t,
+  read-times.Post,
+  read-is-reads.Asked,
+  read-is-reads.Learnt,
+) (read-deep-at t) read-deep.Post
+read-deep-enum-known-r-3 t c = search needs
+
+read-deep-read-is-requires : (t : ℕ) → read-deep-lts.Need-read-is-requires (
+  fields-reads.Asked,
+  fields-reads.Learnt,
+  head-reads.Asked,
+  head-reads.Learnt,
+  put-row-reads.Asked,
+  put-row-reads.Learnt,
+  read-times-below t,
+  read-times.Post,
+  read-is-reads.Asked,
+  read-is-reads.Learnt,
+) (read-deep-at t) read-deep.Post
+read-deep-read-is-requires t c κs = let w = (given-done _ _ _ _ _ _ 0 _ _ _ (c .before .before .before .before .before .before .before .before .read-times .ensures 0) (c .before .before .before .before .r3 .given .1)) in (w .position, (omega (arith, w .more), rows-length (w .holds) ∙ c .before .before .before .before .before .before .before .before .before .before .before .before .before .before .before .before .before .before .before .before .pre .1 .1 .1))
 
 read-deep-same-length-2 : (t : ℕ) → read-deep-lts.Need-same-length-2 (
   fields-reads.Asked,
   fields-reads.Learnt,
   head-reads.Asked,
   head-reads.Learnt,
+  put-row-reads.Asked,
+  put-row-reads.Learnt,
   read-times-below t,
   read-times.Post,
   read-is-reads.Asked,
   read-is-reads.Learnt,
-  put-row-reads.Asked,
-  put-row-reads.Learnt,
 ) (read-deep-at t) read-deep.Post
 read-deep-same-length-2 t c = search needs
 
@@ -302,26 +316,54 @@ read-deep-returns-5 : (t : ℕ) → read-deep-lts.Need-returns-5 (
   fields-reads.Learnt,
   head-reads.Asked,
   head-reads.Learnt,
+  put-row-reads.Asked,
+  put-row-reads.Learnt,
   read-times-below t,
   read-times.Post,
   read-is-reads.Asked,
   read-is-reads.Learnt,
+) (read-deep-at t) read-deep.Post
+read-deep-returns-5 t c = λ k. deep-is _ _ _ k (c .before .before .before .before .before .before .before .before .before .before .before .before .before .before .before .before .before .before .before .head .ensures) _ (c .before .before .before .before .before .before .before .before .before .before .before .before .before .before .before .before .before .if1 .left) (omega (arith, c .before .before .before .before .before .before .before .before .before .before .before .before .before .before .before .before .if2 .left)) (c .before .before .before .before .before .before .before .before .before .before .before .before .before .before .before .if3 .left) (c .before .before .before .before .before .before .before .before .before .before .before .before .before .before .before .before .before .before .before .before .fields .ensures .next) _ _ (c .before .before .before .before .before .before .before .before .before .before .before .read-times .ensures k) _ _ _ (c .before .before .before .before .before .before .before .r3 .given .1) (c .before .before .before .before .if5 .taken) _ _ (c .before .before .read-is .ensures k)
+
+read-deep-sub-put-row : (t : ℕ) → read-deep-lts.Need-sub-put-row (
+  fields-reads.Asked,
+  fields-reads.Learnt,
+  head-reads.Asked,
+  head-reads.Learnt,
   put-row-reads.Asked,
   put-row-reads.Learnt,
+  read-times-below t,
+  read-times.Post,
+  read-is-reads.Asked,
+  read-is-reads.Learnt,
 ) (read-deep-at t) read-deep.Post
-read-deep-returns-5 t c = λ k. operands-wrong _ _ _ k (c .before .before .before .before .before .before .before .before .before .before .before .head .ensures) _ _ (c .before .before .before .before .before .before .before .before .before .if1 .left) (omega (arith, c .before .before .before .before .before .before .before .before .if2 .left)) (c .before .before .before .before .before .before .before .if3 .left) (c .before .before .before .before .before .before .before .before .before .before .before .before .fields .ensures .next) _ (c .before .before .before .before .before .read-times .ensures k) _ (c .before .r .given .1)
+read-deep-sub-put-row t c = let w = (given-done _ _ _ _ _ _ 0 _ _ _ (c .before .before .before .before .before .before .before .before .read-times .ensures 0) (c .before .before .before .before .r3 .given .1)) in omega (arith, w .more)
+
+read-deep-put-row-requires-2 : (t : ℕ) → read-deep-lts.Need-put-row-requires-2 (
+  fields-reads.Asked,
+  fields-reads.Learnt,
+  head-reads.Asked,
+  head-reads.Learnt,
+  put-row-reads.Asked,
+  put-row-reads.Learnt,
+  read-times-below t,
+  read-times.Post,
+  read-is-reads.Asked,
+  read-is-reads.Learnt,
+) (read-deep-at t) read-deep.Post
+read-deep-put-row-requires-2 t c κs = let w = (given-done _ _ _ _ _ _ 0 _ _ _ (c .before .before .before .before .before .before .before .before .read-times .ensures 0) (c .before .before .before .before .r3 .given .1)) in (omega (arith, c .before .before .before .before .before .before .before .before .before .before .before .before .before .if2 .left), rows-length (w .holds) ∙ c .before .before .before .before .before .before .before .before .before .before .before .before .before .before .before .before .before .before .before .before .pre .1 .1 .1)
 
 read-deep-same-length-3 : (t : ℕ) → read-deep-lts.Need-same-length-3 (
   fields-reads.Asked,
   fields-reads.Learnt,
   head-reads.Asked,
   head-reads.Learnt,
+  put-row-reads.Asked,
+  put-row-reads.Learnt,
   read-times-below t,
   read-times.Post,
   read-is-reads.Asked,
   read-is-reads.Learnt,
-  put-row-reads.Asked,
-  put-row-reads.Learnt,
 ) (read-deep-at t) read-deep.Post
 read-deep-same-length-3 t c = search needs
 
@@ -330,26 +372,26 @@ read-deep-returns-6 : (t : ℕ) → read-deep-lts.Need-returns-6 (
   fields-reads.Learnt,
   head-reads.Asked,
   head-reads.Learnt,
+  put-row-reads.Asked,
+  put-row-reads.Learnt,
   read-times-below t,
   read-times.Post,
   read-is-reads.Asked,
   read-is-reads.Learnt,
-  put-row-reads.Asked,
-  put-row-reads.Learnt,
 ) (read-deep-at t) read-deep.Post
-read-deep-returns-6 t c = λ k. operands-limit _ _ _ k (c .before .before .before .before .before .before .before .before .before .before .before .head .ensures) _ _ (c .before .before .before .before .before .before .before .before .before .if1 .left) (omega (arith, c .before .before .before .before .before .before .before .before .if2 .left)) (c .before .before .before .before .before .before .before .if3 .left) (c .before .before .before .before .before .before .before .before .before .before .before .before .fields .ensures .next) _ (c .before .before .before .before .before .read-times .ensures k) _ (c .before .r2 .given .1)
+read-deep-returns-6 t c = λ k. operands-wrong _ _ _ k (c .before .before .before .before .before .before .before .before .before .before .before .before .before .head .ensures) _ _ (c .before .before .before .before .before .before .before .before .before .before .before .if1 .left) (omega (arith, c .before .before .before .before .before .before .before .before .before .before .if2 .left)) (c .before .before .before .before .before .before .before .before .before .if3 .left) (c .before .before .before .before .before .before .before .before .before .before .before .before .before .before .fields .ensures .next) _ (c .before .before .before .before .before .read-times .ensures k) _ (c .before .r .given .1)
 
 read-deep-same-length-4 : (t : ℕ) → read-deep-lts.Need-same-length-4 (
   fields-reads.Asked,
   fields-reads.Learnt,
   head-reads.Asked,
   head-reads.Learnt,
+  put-row-reads.Asked,
+  put-row-reads.Learnt,
   read-times-below t,
   read-times.Post,
   read-is-reads.Asked,
   read-is-reads.Learnt,
-  put-row-reads.Asked,
-  put-row-reads.Learnt,
 ) (read-deep-at t) read-deep.Post
 read-deep-same-length-4 t c = search needs
 
@@ -358,14 +400,42 @@ read-deep-returns-7 : (t : ℕ) → read-deep-lts.Need-returns-7 (
   fields-reads.Learnt,
   head-reads.Asked,
   head-reads.Learnt,
+  put-row-reads.Asked,
+  put-row-reads.Learnt,
   read-times-below t,
   read-times.Post,
   read-is-reads.Asked,
   read-is-reads.Learnt,
+) (read-deep-at t) read-deep.Post
+read-deep-returns-7 t c = λ k. operands-limit _ _ _ k (c .before .before .before .before .before .before .before .before .before .before .before .before .before .head .ensures) _ _ (c .before .before .before .before .before .before .before .before .before .before .before .if1 .left) (omega (arith, c .before .before .before .before .before .before .before .before .before .before .if2 .left)) (c .before .before .before .before .before .before .before .before .before .if3 .left) (c .before .before .before .before .before .before .before .before .before .before .before .before .before .before .fields .ensures .next) _ (c .before .before .before .before .before .read-times .ensures k) _ (c .before .r2 .given .1)
+
+read-deep-same-length-5 : (t : ℕ) → read-deep-lts.Need-same-length-5 (
+  fields-reads.Asked,
+  fields-reads.Learnt,
+  head-reads.Asked,
+  head-reads.Learnt,
   put-row-reads.Asked,
   put-row-reads.Learnt,
+  read-times-below t,
+  read-times.Post,
+  read-is-reads.Asked,
+  read-is-reads.Learnt,
 ) (read-deep-at t) read-deep.Post
-read-deep-returns-7 t c = λ k. deep-done _ _ _ k (c .before .before .before .before .before .before .before .before .before .before .before .before .before .before .before .before .before .head .ensures) _ (c .before .before .before .before .before .before .before .before .before .before .before .before .before .before .before .if1 .left) (omega (arith, c .before .before .before .before .before .before .before .before .before .before .before .before .before .before .if2 .left)) (c .before .before .before .before .before .before .before .before .before .before .before .before .before .if3 .left) (c .before .before .before .before .before .before .before .before .before .before .before .before .before .before .before .before .before .before .fields .ensures .next) _ _ (c .before .before .before .before .before .before .before .before .before .before .before .read-times .ensures k) _ _ _ (c .before .before .before .before .before .before .before .r3 .given .1) _ (c .before .before .before .before .if4 .left) (c .before .before .put-row .ensures)
+read-deep-same-length-5 t c = search needs
+
+read-deep-returns-8 : (t : ℕ) → read-deep-lts.Need-returns-8 (
+  fields-reads.Asked,
+  fields-reads.Learnt,
+  head-reads.Asked,
+  head-reads.Learnt,
+  put-row-reads.Asked,
+  put-row-reads.Learnt,
+  read-times-below t,
+  read-times.Post,
+  read-is-reads.Asked,
+  read-is-reads.Learnt,
+) (read-deep-at t) read-deep.Post
+read-deep-returns-8 t c = λ k. deep-done _ _ _ k (c .before .before .before .before .before .before .before .before .before .before .before .before .before .before .before .before .before .before .before .head .ensures) _ (c .before .before .before .before .before .before .before .before .before .before .before .before .before .before .before .before .before .if1 .left) (omega (arith, c .before .before .before .before .before .before .before .before .before .before .before .before .before .before .before .before .if2 .left)) (c .before .before .before .before .before .before .before .before .before .before .before .before .before .before .before .if3 .left) (c .before .before .before .before .before .before .before .before .before .before .before .before .before .before .before .before .before .before .before .before .fields .ensures .next) _ _ (c .before .before .before .before .before .before .before .before .before .before .before .read-times .ensures k) _ _ _ (c .before .before .before .before .before .before .before .r3 .given .1) _ (c .before .before .before .before .if5 .left) (c .before .before .put-row2 .ensures)
 
 abbrev read-times-Inv-loop : read-times-lts.InvT-loop
 read-times-Inv-loop t p l c depth n cells₀ q₀ m₀ d₀ left₀ cells q m d left = (k : ℕ) → Loop t (deep depth) n p l c cells₀ k q m d left cells
@@ -483,12 +553,12 @@ pub +read-deep+read-times-spec : {M : Type 1} → statement M
   fields-reads.Learnt,
   head-reads.Asked,
   head-reads.Learnt,
+  put-row-reads.Asked,
+  put-row-reads.Learnt,
   read-times-below t,
   read-times.Post,
   read-is-reads.Asked,
   read-is-reads.Learnt,
-  put-row-reads.Asked,
-  put-row-reads.Learnt,
 )
     (read-deep-at t)
     read-deep.Post
@@ -497,6 +567,11 @@ pub +read-deep+read-times-spec : {M : Type 1} → statement M
     (read-deep-returns t)
     (read-deep-returns-2 t)
     (read-deep-returns-3 t)
+    (read-deep-put-row-requires t)
+    (read-deep-add-t20 t)
+    (read-deep-add-t21 t)
+    (read-deep-same-length t)
+    (read-deep-returns-4 t)
     (read-deep-add-read-times t)
     (read-deep-add-read-times-2 t)
     (read-deep-sub-read-times t)
@@ -505,16 +580,16 @@ pub +read-deep+read-times-spec : {M : Type 1} → statement M
     (read-deep-enum-known-r-2 t)
     (read-deep-enum-known-r-3 t)
     (read-deep-read-is-requires t)
-    (read-deep-same-length t)
-    (read-deep-returns-4 t)
-    (read-deep-sub-put-row t)
-    (read-deep-put-row-requires t)
     (read-deep-same-length-2 t)
     (read-deep-returns-5 t)
+    (read-deep-sub-put-row t)
+    (read-deep-put-row-requires-2 t)
     (read-deep-same-length-3 t)
     (read-deep-returns-6 t)
     (read-deep-same-length-4 t)
-    (read-deep-returns-7 t))
+    (read-deep-returns-7 t)
+    (read-deep-same-length-5 t)
+    (read-deep-returns-8 t))
     λ t. read-times-lts.spec
     (read-deep-below t, read-deep.Post)
     (read-times-at t)

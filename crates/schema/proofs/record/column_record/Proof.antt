@@ -42,65 +42,59 @@ returns-3 : tie.Need-returns-3
 unfolding bytes
 returns-3 c = column-name _ _ _ (c .before .before .before .before .before .before .before .before .before .fields .ensures) (c .before .before .before .before .before .holds .ensures) (not-false _ (c .before .before .before .before .if1 .left)) (c .before .before .before .if2 .left) (sym (c .before .is-name .ensures) ∙ not-true _ (c .if3 .taken))
 
-slice-aggregate-which : tie.Need-slice-aggregate-which
-slice-aggregate-which c = search needs
+element-copy-out-datatype : tie.Need-element-copy-out-datatype
+element-copy-out-datatype c = search needs
 
-element-copy-out-which : tie.Need-element-copy-out-which
-element-copy-out-which c = search needs
+element-copy-out-datatype-2 : tie.Need-element-copy-out-datatype-2
+element-copy-out-datatype-2 c = search needs
 
-element-copy-out-which-2 : tie.Need-element-copy-out-which-2
-element-copy-out-which-2 c = search needs
-
-which-requires : tie.Need-which-requires
-which-requires c κs = search needs
+datatype-requires : tie.Need-datatype-requires
+datatype-requires c κs = search needs
 
 returns-4 : tie.Need-returns-4
 unfolding bytes
-returns-4 c = column-type _ _ _ (c .before .before .before .before .before .before .before .before .before .before .before .before .before .before .fields .ensures) (c .before .before .before .before .before .before .before .before .before .before .holds .ensures) (not-false _ (c .before .before .before .before .before .before .before .before .before .if1 .left)) (c .before .before .before .before .before .before .before .before .if2 .left) (sym (c .before .before .before .before .before .before .is-name .ensures) ∙ not-false _ (c .before .before .before .before .before .if3 .left)) (c .before .which .ensures) (c .if4 .taken)
+returns-4 c = column-type _ _ _ (c .before .before .before .before .before .before .before .before .before .before .before .before .before .fields .ensures) (c .before .before .before .before .before .before .before .before .before .holds .ensures) (not-false _ (c .before .before .before .before .before .before .before .before .if1 .left)) (c .before .before .before .before .before .before .before .if2 .left) (sym (c .before .before .before .before .before .is-name .ensures) ∙ not-false _ (c .before .before .before .before .if3 .left)) (c .before .datatype .ensures) (c .if4 .taken)
 
-slice-aggregate-which-2 : tie.Need-slice-aggregate-which-2
-slice-aggregate-which-2 c = search needs
+element-copy-out-nullable : tie.Need-element-copy-out-nullable
+element-copy-out-nullable c = search needs
 
-element-copy-out-which-3 : tie.Need-element-copy-out-which-3
-element-copy-out-which-3 c = search needs
+element-copy-out-nullable-2 : tie.Need-element-copy-out-nullable-2
+element-copy-out-nullable-2 c = search needs
 
-element-copy-out-which-4 : tie.Need-element-copy-out-which-4
-element-copy-out-which-4 c = search needs
-
-which-requires-2 : tie.Need-which-requires-2
-which-requires-2 c κs = search needs
+nullable-requires : tie.Need-nullable-requires
+nullable-requires c κs = search needs
 
 returns-5 : tie.Need-returns-5
 unfolding bytes
-returns-5 c = column-null _ _ _ (c .before .before .before .before .before .before .before .before .before .before .before .before .before .before .before .before .before .before .before .fields .ensures) (c .before .before .before .before .before .before .before .before .before .before .before .before .before .before .before .holds .ensures) (not-false _ (c .before .before .before .before .before .before .before .before .before .before .before .before .before .before .if1 .left)) (c .before .before .before .before .before .before .before .before .before .before .before .before .before .if2 .left) (sym (c .before .before .before .before .before .before .before .before .before .before .before .is-name .ensures) ∙ not-false _ (c .before .before .before .before .before .before .before .before .before .before .if3 .left)) (c .before .before .before .before .before .before .which .ensures) (c .before .before .before .before .before .if4 .left) (c .before .which2 .ensures) (c .if5 .taken)
+returns-5 c = column-null _ _ _ (c .before .before .before .before .before .before .before .before .before .before .before .before .before .before .before .before .before .fields .ensures) (c .before .before .before .before .before .before .before .before .before .before .before .before .before .holds .ensures) (not-false _ (c .before .before .before .before .before .before .before .before .before .before .before .before .if1 .left)) (c .before .before .before .before .before .before .before .before .before .before .before .if2 .left) (sym (c .before .before .before .before .before .before .before .before .before .is-name .ensures) ∙ not-false _ (c .before .before .before .before .before .before .before .before .if3 .left)) (c .before .before .before .before .before .datatype .ensures) (c .before .before .before .before .if4 .left) (c .before .nullable .ensures) (c .if5 .taken)
 
-element-copy-out-t13 : tie.Need-element-copy-out-t13
-element-copy-out-t13 c = search needs
+element-copy-out-t11 : tie.Need-element-copy-out-t11
+element-copy-out-t11 c = search needs
 
-cast-t36 : tie.Need-cast-t36
-cast-t36 c = record { fits = omega (arith, field-most _ _ _ (c .before .before .before .before .before .before .before .before .before .before .before .before .before .before .before .before .before .before .before .before .fields .ensures) (c .before .before .before .before .before .before .before .before .before .before .before .before .before .before .before .before .before .before .before .before .before .before .pre) 1 (omega (arith, c .before .before .before .before .before .before .before .before .before .before .before .before .before .before .if2 .left))) }
+cast-t30 : tie.Need-cast-t30
+cast-t30 c = record { fits = omega (arith, field-most _ _ _ (c .before .before .before .before .before .before .before .before .before .before .before .before .before .before .before .before .before .before .fields .ensures) (c .before .before .before .before .before .before .before .before .before .before .before .before .before .before .before .before .before .before .before .before .pre) 1 (omega (arith, c .before .before .before .before .before .before .before .before .before .before .before .before .if2 .left))) }
 
-element-copy-out-t16 : tie.Need-element-copy-out-t16
-element-copy-out-t16 c = search needs
+element-copy-out-t14 : tie.Need-element-copy-out-t14
+element-copy-out-t14 c = search needs
 
-cast-t39 : tie.Need-cast-t39
-cast-t39 c = record { fits = omega (arith, field-most _ _ _ (c .before .before .before .before .before .before .before .before .before .before .before .before .before .before .before .before .before .before .before .before .before .fields .ensures) (c .before .before .before .before .before .before .before .before .before .before .before .before .before .before .before .before .before .before .before .before .before .before .before .pre) 1 (omega (arith, c .before .before .before .before .before .before .before .before .before .before .before .before .before .before .before .if2 .left))) }
+cast-t33 : tie.Need-cast-t33
+cast-t33 c = record { fits = omega (arith, field-most _ _ _ (c .before .before .before .before .before .before .before .before .before .before .before .before .before .before .before .before .before .before .before .fields .ensures) (c .before .before .before .before .before .before .before .before .before .before .before .before .before .before .before .before .before .before .before .before .before .pre) 1 (omega (arith, c .before .before .before .before .before .before .before .before .before .before .before .before .before .if2 .left))) }
 
-add-t40 : tie.Need-add-t40
-add-t40 c = search needs
+add-t34 : tie.Need-add-t34
+add-t34 c = search needs
 
-cast-t41 : tie.Need-cast-t41
-cast-t41 c = search needs
+cast-t35 : tie.Need-cast-t35
+cast-t35 c = search needs
 
-sub-t42 : tie.Need-sub-t42
-sub-t42 c = search needs
+sub-t36 : tie.Need-sub-t36
+sub-t36 c = search needs
 
-cast-t43 : tie.Need-cast-t43
-cast-t43 c = search needs
+cast-t37 : tie.Need-cast-t37
+cast-t37 c = search needs
 
 returns-6 : tie.Need-returns-6
 unfolding bytes
-returns-6 c = column-right _ _ _ (c .before .before .before .before .before .before .before .before .before .before .before .before .before .before .before .before .before .before .before .before .before .fields .ensures) (c .before .before .before .before .before .before .before .before .before .before .before .before .before .before .before .before .before .holds .ensures) (not-false _ (c .before .before .before .before .before .before .before .before .before .before .before .before .before .before .before .before .if1 .left)) (c .before .before .before .before .before .before .before .before .before .before .before .before .before .before .before .if2 .left) (sym (c .before .before .before .before .before .before .before .before .before .before .before .before .before .is-name .ensures) ∙ not-false _ (c .before .before .before .before .before .before .before .before .before .before .before .before .if3 .left)) (c .before .before .before .before .before .before .before .before .which .ensures) (c .before .before .before .before .before .before .before .if4 .left) (c .before .before .before .which2 .ensures) (c .before .before .before .before .before .before .before .before .before .before .before .before .before .before .before .before .before .before .before .before .before .before .before .pre) (c .before .before .if5 .left)
+returns-6 c = column-right _ _ _ (c .before .before .before .before .before .before .before .before .before .before .before .before .before .before .before .before .before .before .before .fields .ensures) (c .before .before .before .before .before .before .before .before .before .before .before .before .before .before .before .holds .ensures) (not-false _ (c .before .before .before .before .before .before .before .before .before .before .before .before .before .before .if1 .left)) (c .before .before .before .before .before .before .before .before .before .before .before .before .before .if2 .left) (sym (c .before .before .before .before .before .before .before .before .before .before .before .is-name .ensures) ∙ not-false _ (c .before .before .before .before .before .before .before .before .before .before .if3 .left)) (c .before .before .before .before .before .before .before .datatype .ensures) (c .before .before .before .before .before .before .if4 .left) (c .before .before .before .nullable .ensures) (c .before .before .before .before .before .before .before .before .before .before .before .before .before .before .before .before .before .before .before .before .before .pre) (c .before .before .if5 .left)
 
 pub column-record-spec : {M : Type 1} → statement M
 column-record-spec =
@@ -116,22 +110,20 @@ column-record-spec =
     element-copy-out-is-name
     is-name-requires
     returns-3
-    slice-aggregate-which
-    element-copy-out-which
-    element-copy-out-which-2
-    which-requires
+    element-copy-out-datatype
+    element-copy-out-datatype-2
+    datatype-requires
     returns-4
-    slice-aggregate-which-2
-    element-copy-out-which-3
-    element-copy-out-which-4
-    which-requires-2
+    element-copy-out-nullable
+    element-copy-out-nullable-2
+    nullable-requires
     returns-5
-    element-copy-out-t13
-    cast-t36
-    element-copy-out-t16
-    cast-t39
-    add-t40
-    cast-t41
-    sub-t42
-    cast-t43
+    element-copy-out-t11
+    cast-t30
+    element-copy-out-t14
+    cast-t33
+    add-t34
+    cast-t35
+    sub-t36
+    cast-t37
     returns-6)
