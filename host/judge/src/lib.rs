@@ -12,4 +12,6 @@ pub mod random;
 pub mod reading;
 pub mod sample;
 pub mod shrink;
+pub mod traps;
 pub mod values;
+pub mod worked_out;

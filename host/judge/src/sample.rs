@@ -25,8 +25,8 @@ pub fn sample(seed: u64, each: usize) -> Vec<Sampled> {
         let prediction = predict(&case.catalog, &case.statement);
         let kind = match compare(&case, &prediction.listing) {
             Verdict::Agree(kind) => kind,
-            Verdict::Apart(kind, Reason::NotOfTheRust | Reason::Trap | Reason::NoSources) => kind,
             Verdict::Apart(_, Reason::NotUtf8 | Reason::TooLarge) | Verdict::Differ(_) => continue,
+            Verdict::Apart(kind, _) => kind,
         };
         let count = taken.entry(kind).or_default();
         if *count >= wanted(kind, each) || !is_small(&case, kind) {
