@@ -15,6 +15,7 @@ use crate::listing::{self, Printed};
 use crate::predict::predict;
 use crate::{traps, worked_out};
 
+pub use size::is_too_large;
 pub use tally::Tally;
 
 /// What a comparison comes to.
@@ -55,7 +56,7 @@ pub enum Reason {
 
 impl Kind {
     /// The kind of a printed answer, by its first line.
-    fn of(printed: &[u8]) -> Option<Kind> {
+    pub fn of(printed: &[u8]) -> Option<Kind> {
         let head = printed.split(|&b| b == b'\n').next()?;
         let mut fields = head.split(|&b| b == b'\t');
         let (word, kind) = (fields.next()?, std::str::from_utf8(fields.next()?).ok()?);
@@ -118,9 +119,7 @@ pub fn compare(case: &Case, printed: &[u8]) -> Verdict {
         (Ok(_), Kind::Refused(1 | 2 | 4)) => {
             Verdict::Differ(format!("printed {}, but the texts are good", printed.escape_ascii()))
         }
-        (Ok(texts), _) if size::unfolded_size(&texts.statement) > size::LARGEST => {
-            Verdict::Apart(kind, Reason::TooLarge)
-        }
+        (Ok(texts), _) if is_too_large(&texts) => Verdict::Apart(kind, Reason::TooLarge),
         (Ok(texts), _) => match listing::read(printed) {
             Ok(printed) => compare_answer(kind, &printed, &texts, &oracle::answer(&texts)),
             Err(error) => Verdict::Differ(format!("the printed answer: {error}")),

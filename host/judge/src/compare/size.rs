@@ -1,15 +1,17 @@
 //! The size of a statement's expressions with nothing shared, as the Rust builds them.
 
-use texts::{Expr, ExprKind, Operator, Statement};
+use texts::{Expr, ExprKind, Operator, Texts};
 
 /// Statements whose expressions unfold to more cells than this are not put to the Rust.
-pub const LARGEST: u64 = 1 << 17;
+const LARGEST: u64 = 1 << 17;
 
-/// The number of cells of a statement's expressions with nothing shared: each `ge` and `le` doubles its operands.
-pub fn unfolded_size(statement: &Statement) -> u64 {
-    statement.expressions().into_iter().fold(0, |sum, expr| sum.saturating_add(unfolded(expr)))
+/// Whether a statement's expressions are too large to be put to the Rust.
+pub fn is_too_large(texts: &Texts) -> bool {
+    let expressions = texts.statement.expressions();
+    expressions.into_iter().fold(0u64, |sum, expr| sum.saturating_add(unfolded(expr))) > LARGEST
 }
 
+/// The number of cells of an expression with nothing shared: each `ge` and `le` doubles its operands.
 fn unfolded(expr: &Expr) -> u64 {
     let operands = expr.operands().iter().fold(0u64, |sum, e| sum.saturating_add(unfolded(e)));
     match expr.kind {
