@@ -1,5 +1,6 @@
 //! Tries the planner and its rules against the Rust planner: generated cases, predictions, and comparison.
 
+mod checksum;
 pub mod compare;
 pub mod dropin;
 pub mod folder;
@@ -13,6 +14,7 @@ pub mod random;
 pub mod reading;
 pub mod sample;
 pub mod shrink;
+pub mod stale;
 pub mod traps;
 pub mod values;
 pub mod worked_out;

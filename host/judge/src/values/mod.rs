@@ -14,6 +14,9 @@ pub use operands::{Pair, edge_pairs, pair};
 pub use tally::Tally;
 pub use times::times;
 
+/// Whether the proved operators were linked.
+pub const LINKED: bool = values::AVAILABLE;
+
 /// Whether the proved operators and the Rust's sources were at hand when this was built.
 pub const AVAILABLE: bool = values::AVAILABLE && oracle::AVAILABLE;
 
