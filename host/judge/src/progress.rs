@@ -23,7 +23,7 @@ impl Progress {
     /// One case more is done.
     pub fn step(&self) {
         let done = self.done.fetch_add(1, Ordering::Relaxed) + 1;
-        if done % self.every == 0 && done < self.total {
+        if done.is_multiple_of(self.every) && done < self.total {
             let seconds = self.start.elapsed().as_secs();
             error_line(format_args!("judge: {done} of {} cases in {seconds} s", self.total));
         }

@@ -7,8 +7,10 @@ use judge::predict::predict;
 
 use super::Named;
 
-/// The cases that a generator with a fault makes of those from a seed.
-const FAULTS: [Named<fn(&Case) -> bool>; 5] = [
+/// Whether a generator with a fault makes a case of those from a seed.
+type Fault = fn(&Case) -> bool;
+
+const FAULTS: [Named<Fault>; 5] = [
     ("only DROP is made", |case| case.word() == b"drop"),
     ("no SELECT is made", |case| case.word() != b"select"),
     ("nothing that is refused is made", |case| predict(&case.catalog, &case.statement).refusal.is_none()),
