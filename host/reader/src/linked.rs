@@ -91,3 +91,28 @@ fn answer(numbers: &Numbers) -> Answer {
         _ => panic!("reading gave the number {number} and the text {text}"),
     }
 }
+
+#[cfg(test)]
+mod tests {
+    use super::*;
+
+    /// The number of a constant in the source of a Rattle crate.
+    fn constant(source: &str, name: &str) -> usize {
+        let line = source.lines().find_map(|line| line.split_once(&format!("const {name}: ")));
+        let (_, rest) = line.unwrap_or_else(|| panic!("no constant {name}"));
+        let value = rest.split_once(" = ").and_then(|(_, value)| value.strip_suffix(';'));
+        value.and_then(|value| value.parse().ok()).unwrap_or_else(|| panic!("{name} is no number: {rest}"))
+    }
+
+    #[test]
+    fn sizes_are_those_of_the_crates() {
+        let schema = include_str!("../../../crates/schema/src/lib.rt");
+        let statement = include_str!("../../../crates/statement/src/lib.rt");
+        let rows = include_str!("../../../crates/ast/src/rows.rt");
+        assert_eq!(TABLE_NUMBERS, constant(schema, "NUMBERS"));
+        let count = constant(rows, "STATEMENT_ROWS") + constant(rows, "STARRED_ROWS");
+        assert_eq!(CELL_NUMBERS, constant(rows, "ROW_SIZE") * count);
+        assert_eq!(FROM_NUMBERS, constant(statement, "FROM_NUMBERS"));
+        assert_eq!(PART_NUMBERS, constant(statement, "PART_NUMBERS"));
+    }
+}
