@@ -15,6 +15,9 @@ use crate::progress::Progress;
 /// How many of the cases that differ are shown.
 pub const SHOWN: usize = 10;
 
+/// The bytes of each thread's stack, as many as a program's first thread has.
+const STACK: usize = 8 << 20;
+
 /// Prints the tally. True where nothing differs, and something was compared with the Rust or the host's own reading.
 pub fn report(tally: &Tally) -> bool {
     println!("{tally}");
@@ -56,8 +59,11 @@ pub fn judge_cases(numbers: Numbers, cases: &Cases, verdict: impl Fn(u64, &Case)
     let mut tally = Tally::default();
     thread::scope(|scope| {
         let judge_share = &judge_share;
-        let threads: Vec<_> =
-            (0..numbers.threads).map(|thread| scope.spawn(move || judge_share(thread))).collect();
+        let start = |thread| {
+            let builder = thread::Builder::new().stack_size(STACK);
+            builder.spawn_scoped(scope, move || judge_share(thread)).expect("a thread is started")
+        };
+        let threads: Vec<_> = (0..numbers.threads).map(start).collect();
         for thread in threads {
             tally.merge(thread.join().unwrap_or_else(|panic| std::panic::resume_unwind(panic)));
         }

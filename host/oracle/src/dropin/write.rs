@@ -1,4 +1,5 @@
-//! toydb's tables and statement as the line texts. The error says what the texts cannot hold.
+//! toydb's tables and statement as the line texts. The error names a field with a tab or a line end, which the texts cannot
+//! hold; a name that is empty or too long is written, and the planner refuses it.
 
 use crate::sql::parser::ast::{Column, Direction, Expression, From, JoinType, Literal, Operator, Statement};
 use crate::sql::types::{self, DataType, Table, Value};
@@ -228,5 +229,31 @@ fn datatype(datatype: &DataType) -> &'static str {
         DataType::Integer => "int",
         DataType::Float => "float",
         DataType::String => "text",
+    }
+}
+
+#[cfg(test)]
+mod tests {
+    use super::*;
+
+    #[test]
+    fn statements_that_are_not_planned_are_other() {
+        let explained = Statement::Explain(Box::new(Statement::Commit));
+        let begin = Statement::Begin { read_only: true, as_of: Some(1) };
+        for other in [begin, Statement::Commit, Statement::Rollback, explained] {
+            assert_eq!(statement(&other), Ok(b"other\nend\n".to_vec()));
+        }
+    }
+
+    #[test]
+    fn fields_that_would_be_two_are_refused() {
+        for name in ["a\tb", "a\nb", "\n"] {
+            assert!(statement(&Statement::DropTable { name: name.to_string(), if_exists: true }).is_err());
+        }
+        let name = "a b\u{0}é".to_string();
+        assert_eq!(
+            statement(&Statement::DropTable { name, if_exists: true }),
+            Ok("drop\ta b\0é\tyes\nend\n".into())
+        );
     }
 }
