@@ -73,6 +73,8 @@ fn a_listing_that_is_not_well_formed_is_refused() {
         ("remap 3 0 1 -/", "remap 3 0 1 -/node 5 limit 4 1/"),
         ("scan t as u", "scan t u"),
         ("int 5", "int 05"),
+        ("float 7ff8000000000001", "float 7FF8000000000001"),
+        ("float 7ff8000000000001", "float 7ff800000000001"),
     ] {
         let changed = LISTING.replace(from, to);
         assert_ne!(changed, LISTING, "{from}");
