@@ -89,7 +89,7 @@ pub fn run(mut arguments: Vec<String>) -> Result<bool, String> {
             let arguments = Arguments::new(arguments, &Numbers::OPTIONS)?;
             let numbers = Numbers::of(&arguments, 100_000)?;
             let [] = arguments.words([])?;
-            linked("planner", planner::AVAILABLE)?;
+            linked("planner", planning::AVAILABLE)?;
             Ok(judge_cases(numbers, &Cases::Read, |number, case| dropin::compare(case, numbers.seed, number)))
         }
         "list" => {
@@ -137,7 +137,7 @@ pub fn run(mut arguments: Vec<String>) -> Result<bool, String> {
 
 /// Judges what the planner makes of each case.
 fn compare_plans(numbers: Numbers, cases: &Cases) -> Result<bool, String> {
-    linked("planner", planner::AVAILABLE)?;
+    linked("planner", planning::AVAILABLE)?;
     Ok(judge_cases(numbers, cases, |number, case| planning::compare(case, numbers.seed, number)))
 }
 

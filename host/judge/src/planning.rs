@@ -1,12 +1,10 @@
 //! The proved planner held to the prediction and to the Rust planner.
 
-use planner::listing;
-
 use crate::compare::{Verdict, compare_exactly};
 use crate::generate::{Case, case};
 use crate::random::Random;
 
-pub use planner::{Answer, LEAST_AREA, plan};
+pub use planner::{AVAILABLE, Answer, LEAST_AREA, listing, plan};
 
 /// A planner: the proved one, or one with a fault that tests plant.
 pub trait Plans: Fn(&[u8], &[u8], &mut [u32]) -> Answer {}

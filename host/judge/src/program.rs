@@ -124,7 +124,8 @@ impl Program {
 impl Drop for Program {
     fn drop(&mut self) {
         if let Err(error) = fs::remove_dir_all(&self.folder) {
-            eprintln!("{}: {error}", self.folder.display());
+            // There is nowhere left to say that this failed too.
+            let _ = writeln!(io::stderr(), "{}: {error}", self.folder.display());
         }
     }
 }

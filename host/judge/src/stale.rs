@@ -9,7 +9,7 @@ use crate::checksum::checksum;
 
 const REPOSITORY: &str = concat!(env!("CARGO_MANIFEST_DIR"), "/../..");
 
-/// The libraries with the checksums of those that were linked; none where there was none.
+/// The libraries with the checksums of those that stood in `target/` when this was built; none where there was none.
 const LINKED: [(&str, Option<&str>); 3] = [
     ("planner", option_env!("LINKED_PLANNER")),
     ("reader_host", option_env!("LINKED_READER_HOST")),
@@ -17,11 +17,13 @@ const LINKED: [(&str, Option<&str>); 3] = [
 ];
 
 /// The library of a crate, as it stands in `target/`, is the one that was linked, and no source of the crate or of those
-/// that it uses is newer. The error says what is to be done.
+/// that it uses is newer. The error says what is to be done. Of a library from elsewhere there is nothing to say.
 pub fn check(name: &str) -> Result<(), String> {
-    let linked = LINKED.iter().find(|(known, _)| *known == name).and_then(|(_, sum)| *sum);
-    let linked = linked.ok_or(format!("`rt staticlib {name}` was not run"))?;
-    check_in(Path::new(REPOSITORY), name, linked)
+    match LINKED.iter().find(|(known, _)| *known == name) {
+        Some((_, Some(linked))) => check_in(Path::new(REPOSITORY), name, linked),
+        Some((_, None)) => Ok(()),
+        None => Err(format!("no library {name}")),
+    }
 }
 
 fn check_in(repository: &Path, name: &str, linked: &str) -> Result<(), String> {

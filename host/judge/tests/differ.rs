@@ -1,7 +1,7 @@
 //! Answers that are wrong in one place are found to be wrong.
 
 use judge::compare::{Kind, Reason, Verdict, compare, compare_answer};
-use judge::generate::Case;
+use judge::generate::{Case, limits};
 use judge::listing::{self, Printed};
 use oracle::Answer;
 use texts::read;
@@ -140,9 +140,10 @@ fn refusal_28_is_right_only_where_an_operator_is_not_worked_out() {
         assert!(matches!(verdict(statement, &printed), Verdict::Differ(_)), "{statement}");
     }
     // What the Rust works out and document 01 refuses.
-    let planned = "plan select 3 1/cell 0 int 1/node 0 values row 0/node 1 project 0 0/node 2 limit 1 2/";
-    let statement = "select/item/int 1/limit/op add/int 2/op is/fn sqrt 1/int 4/null/end/";
-    assert!(matches!(verdict(statement, planned), Verdict::Differ(_)));
+    let statement = "create t/column a float pk - - - default/fn sqrt 1/int 4/end/";
+    let planned = "plan create 0 0/create t 0/column a float notnull unique -/float 4000000000000000/";
+    let Verdict::Differ(message) = verdict(statement, planned) else { panic!("28 is due") };
+    assert!(message.contains("28 is due at line 3"), "{message}");
 }
 
 #[test]
@@ -175,6 +176,21 @@ fn a_wrong_text_is_refused_as_the_host_reads_it() {
 #[cfg_attr(not(planner), ignore = "the Rust planner's sources are not at hand")]
 fn a_limit_that_nothing_passes_is_no_refusal() {
     assert!(matches!(verdict(STATEMENT, "refused 3 statement 3/"), Verdict::Differ(_)));
+}
+
+#[test]
+#[cfg_attr(not(planner), ignore = "the Rust planner's sources are not at hand")]
+fn a_plan_of_too_many_columns_differs() {
+    let mut wide = limits::all().into_iter().filter(|known| known.what == "columns in a list");
+    let (_, Some(past)) = (wide.next(), wide.next()) else { panic!("at the limit, and past it") };
+    assert_eq!(past.refusal.map(|refusal| refusal.number), Some(3));
+    let mut printed = "plan select 9 0/node 0 scan t0 as a0/".to_string();
+    for (table, scan) in ["t0 as a1", "t0 as a2", "t0 as a3", "t1"].iter().enumerate() {
+        let node = 2 * table + 1;
+        printed += &format!("node {node} scan {scan}/node {} join {} {node} inner/", node + 1, node - 1);
+    }
+    let Verdict::Differ(message) = compare(&past.case, &bytes(&printed)) else { panic!("3 is due") };
+    assert!(message.contains("3 is due"), "{message}");
 }
 
 #[test]

@@ -4,9 +4,8 @@
 use judge::compare::{Kind, STATEMENTS, Tally, Verdict, compare_exactly};
 use judge::generate::{Case, Known, case, damaged, edges, limits, pairs};
 use judge::list;
-use judge::planning::{cases_of, compare, printed, random_area};
+use judge::planning::{Answer, LEAST_AREA, cases_of, compare, listing, plan, printed, random_area};
 use judge::random::Random;
-use planner::{Answer, LEAST_AREA, listing, plan};
 use texts::Refusal;
 
 const CASES: u64 = 2_000;
