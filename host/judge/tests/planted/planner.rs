@@ -183,6 +183,28 @@ fn an_area_that_is_not_wholly_written_is_noticed() {
     }
 }
 
+/// A planner that answers otherwise, or leaves something, where the area held the same number throughout.
+#[test]
+#[cfg_attr(not(planning), ignore = "`rt staticlib planner` was not run")]
+fn minding_what_the_area_held_is_noticed() {
+    for refuses in [false, true] {
+        let planner = |catalog: &[u8], statement: &[u8], area: &mut [u32]| {
+            let even = area.iter().all(|number| *number == area[0]);
+            let mut answer = plan(catalog, statement, area);
+            match (even, refuses) {
+                (true, true) => refuse(&mut answer, &mut Area(area), 8, 99),
+                (true, false) => area[LEAST_AREA - 1] = 1,
+                (false, _) => {}
+            }
+            answer
+        };
+        for case in cases(50) {
+            let verdict = compare_by(planner, &case, 49, 0);
+            assert!(matches!(verdict, Verdict::Differ(_)), "{verdict:?}");
+        }
+    }
+}
+
 #[test]
 #[cfg_attr(not(planning), ignore = "`rt staticlib planner` was not run")]
 fn an_untouched_area_with_success_is_noticed() {
