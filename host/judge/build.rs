@@ -1,14 +1,22 @@
 //! Lets the tests know what is at hand: the Rust planner's sources, the proved operators, the proved reading, the
 //! proved planner, the program.
 
-use std::env;
+#[path = "src/checksum.rs"]
+mod checksum;
+
 use std::path::Path;
+use std::{env, fs};
 
 /// The program, for x86-64 Linux, which `rt check read_texts` writes into the repository's `target/`.
 const PROGRAM: &str = "../../target/bin/read_texts";
 
+/// The static libraries that are linked, where they are at hand.
+const LIBRARIES: [&str; 3] = ["planner", "reader_host", "value_host"];
+
 fn main() {
     println!("cargo::rerun-if-changed=build.rs");
+    println!("cargo::rerun-if-changed=src/checksum.rs");
+    LIBRARIES.iter().for_each(|name| note_checksum(name));
     println!("cargo::rerun-if-changed={PROGRAM}");
     let named = |variable| env::var_os(variable).is_some();
     let runs = cfg!(all(target_arch = "x86_64", target_os = "linux"));
@@ -23,5 +31,15 @@ fn main() {
         if at_hand {
             println!("cargo::rustc-cfg={cfg}");
         }
+    }
+}
+
+/// The checksum of the library that is linked, so that another in its place is noticed.
+fn note_checksum(name: &str) {
+    let library = format!("../../target/staticlib/lib{name}.a");
+    println!("cargo::rerun-if-changed={library}");
+    if let Ok(bytes) = fs::read(&library) {
+        let checksum = checksum::checksum(&bytes);
+        println!("cargo::rustc-env=LINKED_{}={checksum}", name.to_uppercase());
     }
 }

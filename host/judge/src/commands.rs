@@ -2,37 +2,41 @@
 
 use std::fs;
 use std::path::{Path, PathBuf};
+use std::time::Duration;
 
 use judge::bench::Which;
-use judge::compare::{STATEMENTS, Tally, Verdict, compare, compare_exactly};
-use judge::folder;
+use judge::compare::{STATEMENTS, Verdict, compare, compare_exactly};
 use judge::generate::{Case, limits, pairs};
 use judge::list::{self, Answered};
-use judge::planning;
 use judge::predict::predict;
-use judge::program::Program;
-use judge::reading;
+use judge::program::{Fault, Program};
 use judge::sample::sample;
-use judge::shrink::shrink;
-use judge::values;
+use judge::{dropin, folder, planning, reading, stale, values};
 
 use crate::arguments::Arguments;
-use crate::numbers::Numbers;
+use crate::numbers::{Cases, Numbers};
+use crate::out::println;
+use crate::progress::Progress;
+use crate::run::{judge_cases, judge_printed, show};
 use crate::timing;
 
-const USAGE: &str = "commands:
-  compare [--seed S] [--first N] [--count N]             predictions with the Rust planner
-  cases FOLDER [--seed S] [--first N] [--count N] [--bytes N]    writes cases of at most some bytes
+const USAGE: &str = "judge COMMAND ..; --help shows this. Cases are those of a seed (--seed S, 1 unless given), from a number on
+(--first N), so many (--count N). Exit status: 0 all well, 1 something differs or nothing was compared, 2 bad usage or input.
+
+commands:
+  compare [--threads N]                                  predictions with the Rust planner
+  cases FOLDER [--bytes N]                               writes cases of at most some bytes
   limits FOLDER [--bytes N]                              writes the cases at the limits and with two faults
   sample FOLDER [--seed S] [--each N]                    writes a sample of small cases of every kind
   hold FOLDER                                            what was printed of a folder's cases with the Rust planner
-  program PATH [--seed S] [--first N] [--count N]        a planning program with the Rust planner
+  program PATH [--seconds N]                             a planning program with the Rust planner
+  dropin [--threads N]                                   toydb's own plans from its planner and from the proved one
   list FOLDER FILE                                       writes the fixed list from a folder's cases
   replay FILE                                            the fixed list with the Rust planner
-  values [--seed S] [--first N] [--count N]              the proved operators with the Rust's, on pairs of values
-  reading [--seed S] [--first N] [--count N]             the proved reading with the host's own, on damaged texts
-  planned [--seed S] [--first N] [--count N] [--statements WORD,WORD..]    the proved planner with both
-  damaged [--seed S] [--first N] [--count N]             the proved planner with both, on damaged texts
+  values                                                 the proved operators with the Rust's, on pairs of values
+  reading                                                the proved reading with the host's own, on damaged texts
+  planned [--threads N] [--statements WORD,WORD..]       the proved planner with predictions and the Rust planner
+  damaged [--threads N]                                  the same on damaged texts
   bench [--rounds N] [--median] [--check]                the proved planner's time beside toydb's and SQLite's
   growth                                                 how those times grow, by cells of the plan
   page PICTURE [--runs N] [--rounds N]                   the rows of docs/PERFORMANCE.md, and its picture";
@@ -41,17 +45,22 @@ pub fn run(mut arguments: Vec<String>) -> Result<bool, String> {
     if arguments.is_empty() {
         return Err(USAGE.to_string());
     }
+    if arguments.iter().any(|argument| argument == "--help" || argument == "-h") || arguments[0] == "help" {
+        println!("{USAGE}");
+        return Ok(true);
+    }
     let command = arguments.remove(0);
     match command.as_str() {
         "compare" => {
-            let arguments = Arguments::new(arguments, &["seed", "first", "count"])?;
-            let numbers = Numbers::of(&arguments, 100_000);
+            let arguments = Arguments::new(arguments, &Numbers::OPTIONS)?;
+            let numbers = Numbers::of(&arguments, 100_000)?;
             let [] = arguments.words([])?;
-            Ok(compare_predictions(numbers))
+            let predicted = |case: &Case| predict(&case.catalog, &case.statement).listing;
+            Ok(judge_cases(numbers, &Cases::All, |_, case| compare(case, &predicted(case))))
         }
         "cases" => {
             let arguments = Arguments::new(arguments, &["seed", "first", "count", "bytes"])?;
-            let numbers = Numbers::of(&arguments, 1_000);
+            let numbers = Numbers::of(&arguments, 1_000)?;
             let bytes = arguments.option("bytes", 2_000) as usize;
             let [folder] = arguments.words(["FOLDER"])?;
             write_cases(&PathBuf::from(folder), numbers, bytes)
@@ -73,10 +82,18 @@ pub fn run(mut arguments: Vec<String>) -> Result<bool, String> {
             hold(&PathBuf::from(folder))
         }
         "program" => {
-            let arguments = Arguments::new(arguments, &["seed", "first", "count"])?;
-            let numbers = Numbers::of(&arguments, 1_000);
+            let arguments = Arguments::new(arguments, &["seed", "first", "count", "seconds"])?;
+            let numbers = Numbers::of(&arguments, 1_000)?;
+            let limit = Duration::from_secs(arguments.option("seconds", 10));
             let [program] = arguments.words(["PATH"])?;
-            run_program(&PathBuf::from(program), numbers)
+            run_program(&PathBuf::from(program), limit, numbers)
+        }
+        "dropin" => {
+            let arguments = Arguments::new(arguments, &Numbers::OPTIONS)?;
+            let numbers = Numbers::of(&arguments, 100_000)?;
+            let [] = arguments.words([])?;
+            linked("planner", planning::AVAILABLE)?;
+            Ok(judge_cases(numbers, &Cases::Read, |number, case| dropin::compare(case, numbers.seed, number)))
         }
         "list" => {
             let [folder, file] = Arguments::new(arguments, &[])?.words(["FOLDER", "FILE"])?;
@@ -88,31 +105,28 @@ pub fn run(mut arguments: Vec<String>) -> Result<bool, String> {
         }
         "values" => {
             let arguments = Arguments::new(arguments, &["seed", "first", "count"])?;
-            let numbers = Numbers::of(&arguments, 1_000_000);
+            let numbers = Numbers::of(&arguments, 1_000_000)?;
             let [] = arguments.words([])?;
-            Ok(compare_values(numbers))
+            compare_values(numbers)
         }
         "reading" => {
             let arguments = Arguments::new(arguments, &["seed", "first", "count"])?;
-            let numbers = Numbers::of(&arguments, 1_000_000);
+            let numbers = Numbers::of(&arguments, 1_000_000)?;
             let [] = arguments.words([])?;
-            Ok(compare_reading(numbers))
+            compare_reading(numbers)
         }
         "planned" => {
-            let arguments = Arguments::with_lists(arguments, &["seed", "first", "count"], &["statements"])?;
-            let numbers = Numbers::of(&arguments, 100_000);
+            let arguments = Arguments::with_lists(arguments, &Numbers::OPTIONS, &["statements"])?;
+            let numbers = Numbers::of(&arguments, 100_000)?;
             let statements = arguments.list("statements", &STATEMENTS)?;
             let [] = arguments.words([])?;
-            match statements {
-                Some(statements) => compare_plans(numbers.seed, numbers.cases_of(statements)),
-                None => compare_plans(numbers.seed, numbers.cases()),
-            }
+            compare_plans(numbers, &statements.map_or(Cases::All, Cases::Of))
         }
         "damaged" => {
-            let arguments = Arguments::new(arguments, &["seed", "first", "count"])?;
-            let numbers = Numbers::of(&arguments, 100_000);
+            let arguments = Arguments::new(arguments, &Numbers::OPTIONS)?;
+            let numbers = Numbers::of(&arguments, 100_000)?;
             let [] = arguments.words([])?;
-            compare_plans(numbers.seed, numbers.damaged_cases())
+            compare_plans(numbers, &Cases::Damaged)
         }
         "bench" => {
             let arguments = Arguments::with_flags(arguments, &["rounds"], &["median", "check"])?;
@@ -136,52 +150,18 @@ pub fn run(mut arguments: Vec<String>) -> Result<bool, String> {
     }
 }
 
-/// Says whether the Rust planner is there, then the tally; true where nothing differs.
-fn report(tally: &Tally) -> bool {
-    println!("{tally}");
-    if !oracle::AVAILABLE {
-        println!("the Rust planner's sources are not at hand: nothing was compared with it");
-    }
-    tally.differ == 0
-}
-
-fn show(name: &str, case: &Case, message: &str) {
-    println!("{name} differs: {message}");
-    for (text, bytes) in [("catalog", &case.catalog), ("statement", &case.statement)] {
-        println!(" {text}:");
-        String::from_utf8_lossy(bytes).lines().for_each(|line| println!("   {}", line.replace('\t', " ")));
-    }
-}
-
-/// How many of the cases that differ are shown.
-const SHOWN: usize = 10;
-
-/// Comes to a verdict on each case, and shows those that differ, made small.
-fn judge_cases(cases: impl Iterator<Item = (u64, Case)>, verdict: impl Fn(u64, &Case) -> Verdict) -> bool {
-    let mut tally = Tally::default();
-    for (number, case) in cases {
-        let found = verdict(number, &case);
-        tally.add(&found);
-        if matches!(found, Verdict::Differ(_)) && tally.differ <= SHOWN {
-            let smallest = shrink(&case, |case| matches!(verdict(number, case), Verdict::Differ(_)));
-            if let Verdict::Differ(message) = verdict(number, &smallest) {
-                show(&format!("case {number}, made small,"), &smallest, &message);
-            }
-        }
-    }
-    report(&tally)
-}
-
-fn compare_predictions(numbers: Numbers) -> bool {
-    judge_cases(numbers.cases(), |_, case| compare(case, &predict(&case.catalog, &case.statement).listing))
-}
-
 /// Judges what the planner makes of each case.
-fn compare_plans(seed: u64, cases: impl Iterator<Item = (u64, Case)>) -> Result<bool, String> {
-    if !planner::AVAILABLE {
-        return Err("`rt staticlib planner` was not run".to_string());
+fn compare_plans(numbers: Numbers, cases: &Cases) -> Result<bool, String> {
+    linked("planner", planning::AVAILABLE)?;
+    Ok(judge_cases(numbers, cases, |number, case| planning::compare(case, numbers.seed, number)))
+}
+
+/// The library of a Rattle crate was linked, and is the one that its sources give.
+fn linked(name: &str, is_linked: bool) -> Result<(), String> {
+    if !is_linked {
+        return Err(format!("`rt staticlib {name}` was not run"));
     }
-    Ok(judge_cases(cases, |number, case| planning::compare(case, seed, number)))
+    stale::check(name)
 }
 
 fn make_folder(folder: &Path) -> Result<(), String> {
@@ -195,15 +175,17 @@ fn make_folder(folder: &Path) -> Result<(), String> {
 
 fn write_cases(folder: &Path, numbers: Numbers, bytes: usize) -> Result<bool, String> {
     make_folder(folder)?;
-    let mut written = 0;
+    let (mut written, mut too_long) = (0u64, 0u64);
     for (number, case) in numbers.cases() {
         if case.catalog.len() + case.statement.len() <= bytes {
             let expected = predict(&case.catalog, &case.statement).listing;
             folder::write(folder, number, &case, &expected)?;
             written += 1;
+        } else {
+            too_long += 1;
         }
     }
-    println!("{written} cases written, {} too long", numbers.count - written);
+    println!("{written} cases written, {too_long} too long");
     Ok(true)
 }
 
@@ -231,44 +213,32 @@ fn write_sample(folder: &Path, seed: u64, each: usize) -> Result<bool, String> {
     Ok(true)
 }
 
-/// Judges printed answers and shows those that differ.
-fn judge_all<'a>(printed: impl Iterator<Item = (String, &'a Case, &'a [u8])>) -> Result<bool, String> {
-    let mut tally = Tally::default();
-    for (name, case, printed) in printed {
-        let verdict = compare_exactly(case, printed);
-        tally.add(&verdict);
-        if let Verdict::Differ(message) = verdict
-            && tally.differ <= SHOWN
-        {
-            show(&name, case, &message);
-        }
-    }
-    Ok(report(&tally))
-}
-
 fn hold(folder: &Path) -> Result<bool, String> {
     let cases = folder::read(folder)?;
     let missing = cases.iter().filter(|filed| filed.listing.is_none()).count();
-    let held = judge_all(cases.iter().filter_map(|filed| {
-        Some((format!("case {}", filed.number), &filed.case, filed.listing.as_deref()?))
-    }))?;
+    let held =
+        judge_printed(cases.into_iter().filter_map(|filed| {
+            Some(Ok((format!("case {}", filed.number), filed.case, Ok(filed.listing?))))
+        }))?;
     if missing > 0 {
         println!("{missing} cases have no listing");
     }
     Ok(held && missing == 0)
 }
 
-fn run_program(path: &Path, numbers: Numbers) -> Result<bool, String> {
-    let program = Program::new(path)?;
-    let mut printed = Vec::new();
-    for (number, case) in numbers.cases() {
-        let listing =
-            program.print(&case).map_err(|error| format!("{} on case {number}: {error}", path.display()))?;
-        printed.push((number, case, listing));
-    }
-    judge_all(
-        printed.iter().map(|(number, case, listing)| (format!("case {number}"), case, listing.as_slice())),
-    )
+/// Judges what a program prints of each case, and how it ends.
+fn run_program(path: &Path, limit: Duration, numbers: Numbers) -> Result<bool, String> {
+    let program = Program::new(path, limit)?;
+    let progress = Progress::of(numbers.count);
+    judge_printed(numbers.cases().map(|(number, case)| {
+        let printed = match program.print(&case) {
+            Err(Fault::System(error)) => return Err(format!("{} on case {number}: {error}", path.display())),
+            Err(Fault::Ended(how)) => Err(how),
+            Ok(printed) => Ok(printed),
+        };
+        progress.step();
+        Ok((format!("case {number}"), case, printed))
+    }))
 }
 
 fn write_list(folder: &Path, file: &Path) -> Result<bool, String> {
@@ -289,37 +259,43 @@ fn write_list(folder: &Path, file: &Path) -> Result<bool, String> {
 fn replay(file: &Path) -> Result<bool, String> {
     let bytes = fs::read(file).map_err(|error| format!("{}: {error}", file.display()))?;
     let answers = list::read(&bytes)?;
-    judge_all(
-        answers
-            .iter()
-            .enumerate()
-            .map(|(i, answer)| (format!("record {}", i + 1), &answer.case, answer.listing.as_slice())),
+    let answers = answers.into_iter().enumerate();
+    judge_printed(
+        answers.map(|(i, answer)| Ok((format!("record {}", i + 1), answer.case, Ok(answer.listing)))),
     )
 }
 
 /// Compares all pairs at the edges, and pairs from a seed; then times the calls that could take long.
-fn compare_values(numbers: Numbers) -> bool {
+fn compare_values(numbers: Numbers) -> Result<bool, String> {
+    linked("value_host", values::LINKED)?;
     let mut tally = values::Tally::default();
     let edges = values::edge_pairs().inspect(|pair| values::compare_all(pair, &mut tally)).count();
-    numbers.all().for_each(|number| values::compare_all(&values::pair(numbers.seed, number), &mut tally));
+    let progress = Progress::of(numbers.count);
+    for number in numbers.all() {
+        values::compare_all(&values::pair(numbers.seed, number), &mut tally);
+        progress.step();
+    }
     println!("{edges} pairs at the edges and {} from seed {}", numbers.count, numbers.seed);
     println!("{tally}");
     tally.shown.iter().for_each(|message| println!("differs: {message}"));
     if !values::AVAILABLE {
-        println!("the proved operators or the Rust planner's sources are not at hand: nothing was compared");
+        println!("the Rust planner's sources are not at hand: nothing was compared");
     }
     values::times().iter().for_each(|timed| println!("{timed}"));
-    tally.differ() == 0
+    Ok(tally.differ() == 0 && tally.agreed() > 0)
 }
 
 /// Compares the reading of damaged texts from a seed.
-fn compare_reading(numbers: Numbers) -> bool {
+fn compare_reading(numbers: Numbers) -> Result<bool, String> {
+    linked("reader_host", reader::AVAILABLE)?;
     let mut reader = reader::Reader::default();
     let mut tally = reading::Tally::default();
-    for (number, case) in numbers.damaged_cases() {
+    let progress = Progress::of(numbers.count);
+    for (number, case) in Cases::Damaged.of_thread(numbers, 0) {
         tally.add(&format!("damaged case {number}"), reading::compare(&mut reader, &case));
+        progress.step();
     }
     println!("{tally}");
     tally.shown.iter().for_each(|message| println!("differs: {message}"));
-    tally.differ() == 0
+    Ok(tally.differ() == 0 && tally.agreed() > 0)
 }

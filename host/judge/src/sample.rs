@@ -21,12 +21,15 @@ pub fn sample(seed: u64, each: usize) -> Vec<Sampled> {
     let mut seen = HashSet::new();
     let mut sample = Vec::new();
     for number in 0..MOST_TRIED {
+        if sample.len() >= total(each) {
+            break;
+        }
         let case = case(seed, number);
         let prediction = predict(&case.catalog, &case.statement);
         let kind = match compare(&case, &prediction.listing) {
             Verdict::Agree(kind) => kind,
-            Verdict::Apart(kind, Reason::NotOfTheRust | Reason::Trap | Reason::NoSources) => kind,
             Verdict::Apart(_, Reason::NotUtf8 | Reason::TooLarge) | Verdict::Differ(_) => continue,
+            Verdict::Apart(kind, _) => kind,
         };
         let count = taken.entry(kind).or_default();
         if *count >= wanted(kind, each) || !is_small(&case, kind) {
@@ -36,24 +39,21 @@ pub fn sample(seed: u64, each: usize) -> Vec<Sampled> {
             *count += 1;
             sample.push(Sampled { number, case, prediction });
         }
-        if sample.len() == total(each) {
-            break;
-        }
     }
     sample
 }
 
 fn wanted(kind: Kind, each: usize) -> usize {
     match kind {
-        Kind::Planned("select") => 10 * each,
-        Kind::Planned(_) => 3 * each,
+        Kind::Planned("select") => each.saturating_mul(10),
+        Kind::Planned(_) => each.saturating_mul(3),
         Kind::Refused(_) => each,
     }
 }
 
 /// The number of cases wanted: SELECT, the five other statements, and the refusals 2 to 29.
 fn total(each: usize) -> usize {
-    10 * each + 5 * 3 * each + 28 * each
+    each.saturating_mul(10 + 5 * 3 + 28)
 }
 
 /// Whether both texts are UTF-8 and short. A case at a limit may be longer.

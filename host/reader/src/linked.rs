@@ -4,6 +4,12 @@ use texts::{Refusal, Text};
 
 use crate::{Answer, Kind, Read};
 
+/// How many numbers each slice has: the constants of crates/schema and crates/statement, which the library does not export.
+const TABLE_NUMBERS: usize = 16_545;
+const CELL_NUMBERS: usize = 6_144;
+const FROM_NUMBERS: usize = 248;
+const PART_NUMBERS: usize = 3_863;
+
 #[repr(C)]
 struct Numbers {
     number: u32,
@@ -22,28 +28,28 @@ unsafe extern "C" {
         catalog_length: usize,
         statement: *const u8,
         statement_length: usize,
-        tables: *mut [u32; 16_545],
-        cells: *mut [u32; 6_144],
-        froms: *mut [u32; 248],
-        parts: *mut [u32; 3_863],
+        tables: *mut [u32; TABLE_NUMBERS],
+        cells: *mut [u32; CELL_NUMBERS],
+        froms: *mut [u32; FROM_NUMBERS],
+        parts: *mut [u32; PART_NUMBERS],
     ) -> Numbers;
 }
 
 /// The slices that are lent for reading.
 pub struct Reader {
-    tables: Box<[u32; 16_545]>,
-    cells: Box<[u32; 6_144]>,
-    froms: Box<[u32; 248]>,
-    parts: Box<[u32; 3_863]>,
+    tables: Box<[u32; TABLE_NUMBERS]>,
+    cells: Box<[u32; CELL_NUMBERS]>,
+    froms: Box<[u32; FROM_NUMBERS]>,
+    parts: Box<[u32; PART_NUMBERS]>,
 }
 
 impl Default for Reader {
     fn default() -> Self {
         Reader {
-            tables: Box::new([0; 16_545]),
-            cells: Box::new([0; 6_144]),
-            froms: Box::new([0; 248]),
-            parts: Box::new([0; 3_863]),
+            tables: Box::new([0; TABLE_NUMBERS]),
+            cells: Box::new([0; CELL_NUMBERS]),
+            froms: Box::new([0; FROM_NUMBERS]),
+            parts: Box::new([0; PART_NUMBERS]),
         }
     }
 }
@@ -83,5 +89,30 @@ fn answer(numbers: &Numbers) -> Answer {
             Answer::Refused(Refusal { number: number as u8, text, line: line as usize })
         }
         _ => panic!("reading gave the number {number} and the text {text}"),
+    }
+}
+
+#[cfg(test)]
+mod tests {
+    use super::*;
+
+    /// The number of a constant in the source of a Rattle crate.
+    fn constant(source: &str, name: &str) -> usize {
+        let line = source.lines().find_map(|line| line.split_once(&format!("const {name}: ")));
+        let (_, rest) = line.unwrap_or_else(|| panic!("no constant {name}"));
+        let value = rest.split_once(" = ").and_then(|(_, value)| value.strip_suffix(';'));
+        value.and_then(|value| value.parse().ok()).unwrap_or_else(|| panic!("{name} is no number: {rest}"))
+    }
+
+    #[test]
+    fn sizes_are_those_of_the_crates() {
+        let schema = include_str!("../../../crates/schema/src/lib.rt");
+        let statement = include_str!("../../../crates/statement/src/lib.rt");
+        let rows = include_str!("../../../crates/ast/src/rows.rt");
+        assert_eq!(TABLE_NUMBERS, constant(schema, "NUMBERS"));
+        let count = constant(rows, "STATEMENT_ROWS") + constant(rows, "STARRED_ROWS");
+        assert_eq!(CELL_NUMBERS, constant(rows, "ROW_SIZE") * count);
+        assert_eq!(FROM_NUMBERS, constant(statement, "FROM_NUMBERS"));
+        assert_eq!(PART_NUMBERS, constant(statement, "PART_NUMBERS"));
     }
 }

@@ -1,6 +1,7 @@
 //! Calls of the static library: a value goes over as its kind and 64 bits, a text as a place in two byte slices.
 
 use texts::Literal;
+use texts::limits::TEXT_BYTES;
 
 use crate::{Operation, Worked};
 
@@ -55,7 +56,7 @@ struct Lent {
 }
 
 /// The address of the second slice's first byte.
-const STATEMENT: u64 = 65_536;
+const STATEMENT: u64 = TEXT_BYTES as u64;
 
 impl Lent {
     /// A value's kind and 64 bits.
@@ -77,7 +78,7 @@ impl Lent {
         };
         let address = first + slice.len() as u64;
         slice.extend(bytes);
-        assert!(slice.len() as u64 <= STATEMENT, "a text of at most 65,536 bytes");
+        assert!(slice.len() as u64 <= STATEMENT, "a text of at most {STATEMENT} bytes");
         address
     }
 

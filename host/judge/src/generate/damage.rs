@@ -65,15 +65,19 @@ impl Maker {
         *text = fields.concat();
     }
 
-    /// Drops, doubles, swaps or moves lines.
+    /// Drops, doubles, swaps or moves lines, or doubles a run of them.
     fn damage_lines(&mut self, text: &mut Vec<u8>) {
         let mut lines: Vec<&[u8]> = text.split_inclusive(|&b| b == b'\n').collect();
         let last = lines.len() - 1;
         let (one, other) = (self.random.between(0, last), self.random.between(0, last));
-        match self.random.between(0, 3) {
+        match self.random.between(0, 4) {
             0 => drop(lines.remove(one)),
             1 => lines.insert(one, lines[one]),
             2 => lines.swap(one, other),
+            3 => {
+                let run = lines[one..lines.len().min(one + self.random.between(2, 4))].to_vec();
+                lines.splice(one..one, run);
+            }
             _ => {
                 let line = lines.remove(one);
                 lines.insert(other.min(lines.len()), line);

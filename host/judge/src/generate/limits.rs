@@ -8,6 +8,7 @@ use texts::{Refusal, Text};
 
 use super::Case;
 use super::known::{Known, Lines, catalog, limited, planned, refused};
+use super::wide::most_aggregates;
 
 /// All cases.
 pub fn all() -> Vec<Known> {
@@ -40,6 +41,7 @@ pub fn all() -> Vec<Known> {
         ]);
     }
     cases.push(open_joins());
+    cases.push(most_aggregates());
     cases
 }
 

@@ -11,6 +11,9 @@ mod names;
 mod other;
 pub mod pairs;
 mod select;
+mod wide;
+
+use std::sync::OnceLock;
 
 use texts::{Statement, Table, write_catalog, write_statement};
 
@@ -39,19 +42,17 @@ pub fn case(seed: u64, number: u64) -> Case {
     let mut case = maker.case();
     match maker.random.between(0, 99) {
         0..8 => maker.damage(&mut case),
-        8 => {
-            let mut limits = limits::all();
-            case = limits.swap_remove(maker.random.between(0, limits.len() - 1)).case;
-        }
+        8 => case = maker.at_limit(),
+        9 => case = maker.texts_of(Maker::wide),
         _ => {}
     }
     case
 }
 
-/// The damaged case of a number under a seed.
+/// The damaged case of a number under a seed. One of ten stands at a limit or one past it before it is damaged.
 pub fn damaged(seed: u64, number: u64) -> Case {
     let mut maker = Maker::new(Random::new(seed, number));
-    let mut case = maker.case();
+    let mut case = if maker.random.percent(10) { maker.at_limit() } else { maker.case() };
     maker.damage(&mut case);
     case
 }
@@ -82,8 +83,19 @@ impl Maker {
             (2, Maker::drop),
             (1, Maker::other),
         ]);
+        self.texts_of(statement)
+    }
+
+    /// A case with both texts whole, of a kind of statement.
+    fn texts_of(&mut self, statement: fn(&mut Maker) -> Statement) -> Case {
         let statement = statement(self);
         Case { catalog: write_catalog(&self.tables), statement: write_statement(&statement) }
+    }
+
+    /// A case at a limit or one past it.
+    fn at_limit(&mut self) -> Case {
+        static LIMITS: OnceLock<Vec<Known>> = OnceLock::new();
+        self.random.pick(LIMITS.get_or_init(limits::all)).case.clone()
     }
 
     /// Whether to make a choice that is likely to be refused.

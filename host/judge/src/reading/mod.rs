@@ -35,7 +35,11 @@ pub fn expected(case: &Case) -> Answer {
 
 /// Compares what reading answers with what the host's own answers.
 pub fn compare(reader: &mut Reader, case: &Case) -> Verdict {
-    let answer = reader.read(&case.catalog, &case.statement);
+    compare_answer(reader.read(&case.catalog, &case.statement), case)
+}
+
+/// Compares an answer with what the host's own reading answers.
+pub fn compare_answer(answer: Answer, case: &Case) -> Verdict {
     let expected = expected(case);
     match answer {
         Answer::Unavailable => Verdict::NotCompared,

@@ -36,6 +36,11 @@ impl Tally {
         self.agree.get(verdict).copied().unwrap_or_default()
     }
 
+    /// The comparisons that agree.
+    pub fn agreed(&self) -> u64 {
+        self.agree.values().sum()
+    }
+
     pub fn differ(&self) -> u64 {
         self.differ
     }
@@ -51,7 +56,6 @@ impl fmt::Display for Tally {
             };
             writeln!(f, "{verdict:<20} {count:>10}")?;
         }
-        let agree: u64 = self.agree.values().sum();
-        write!(f, "{agree} agree, {} not compared, {} differ", self.not_compared, self.differ)
+        write!(f, "{} agree, {} not compared, {} differ", self.agreed(), self.not_compared, self.differ)
     }
 }

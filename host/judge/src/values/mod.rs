@@ -8,9 +8,14 @@ use oracle::Answer;
 use texts::Literal;
 use values::{Operation, Worked};
 
+use crate::{traps, worked_out};
+
 pub use operands::{Pair, edge_pairs, pair};
 pub use tally::Tally;
 pub use times::times;
+
+/// Whether the proved operators were linked.
+pub const LINKED: bool = values::AVAILABLE;
 
 /// Whether the proved operators and the Rust's sources were at hand when this was built.
 pub const AVAILABLE: bool = values::AVAILABLE && oracle::AVAILABLE;
@@ -37,13 +42,21 @@ const NAN: u64 = 0x7ff8_0000_0000_0000;
 /// Compares an operator on as many of two operands as it takes.
 pub fn compare(operation: Operation, pair: &Pair) -> Verdict {
     let operands = &pair[..operation.arity()];
-    let worked = values::work_out(operation, operands);
-    let answer = oracle::evaluate(&operation.expression(operands));
-    match (&worked, &answer) {
+    compare_answers(operation, operands, &values::work_out(operation, operands))
+}
+
+/// Compares what an operator gave with the Rust's.
+pub fn compare_answers(operation: Operation, operands: &[Literal], worked: &Worked) -> Verdict {
+    let expression = operation.expression(operands);
+    let answer = oracle::evaluate(&expression);
+    let not_worked_out = worked_out::is_refused(&expression.kind, operands);
+    match (worked, &answer) {
         (Worked::Unavailable, _) | (_, Answer::Unavailable) => Verdict::NotCompared,
-        (Worked::Value(value), Answer::Given(rust)) if same(value, rust) => Verdict::Value,
-        (Worked::Refused(28), Answer::Given(_) | Answer::NotSupplied) => Verdict::NotWorkedOut,
-        (Worked::Refused(25), Answer::Trapped(_)) => Verdict::Trap,
+        (Worked::Refused(28), Answer::Given(_) | Answer::NotSupplied) if not_worked_out => {
+            Verdict::NotWorkedOut
+        }
+        (Worked::Value(value), Answer::Given(rust)) if !not_worked_out && same(value, rust) => Verdict::Value,
+        (Worked::Refused(25), Answer::Trapped(message)) if traps::is_overflow(message) => Verdict::Trap,
         (Worked::Refused(number @ 25..=27), Answer::Refused { number: rust, .. })
             if *number == u32::from(*rust) =>
         {

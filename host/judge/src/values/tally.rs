@@ -60,9 +60,19 @@ impl Tally {
         self.sum(|row| row.differ)
     }
 
+    /// The operators that are refused with 28.
+    pub fn not_worked_out(&self) -> u64 {
+        self.sum(|row| row.not_worked_out)
+    }
+
+    /// The operators on which the Rust traps.
+    pub fn traps(&self) -> u64 {
+        self.sum(|row| row.traps)
+    }
+
     /// The comparisons that neither agree nor differ.
     pub fn apart(&self) -> u64 {
-        self.sum(|row| row.not_worked_out + row.traps + row.not_compared)
+        self.not_worked_out() + self.traps() + self.sum(|row| row.not_compared)
     }
 }
 

@@ -1,7 +1,7 @@
 //! Puts a statement or a constant expression to the planner and brings its answer to the common form.
 
 mod kind;
-mod statement;
+pub mod statement;
 mod timing;
 mod tree;
 
@@ -19,7 +19,7 @@ use crate::sql::types::Table;
 
 pub use timing::Question;
 
-struct Tables(Vec<Table>);
+pub struct Tables(pub Vec<Table>);
 
 impl Catalog for Tables {
     fn get_table(&self, table: &str) -> Result<Option<Table>> {
@@ -48,7 +48,7 @@ pub fn evaluate(expr: &Expr) -> Answer<Literal> {
 }
 
 /// What the planner answers when a question is run.
-fn asked<T>(run: impl FnOnce() -> Result<T>) -> Answer<T> {
+pub fn asked<T>(run: impl FnOnce() -> Result<T>) -> Answer<T> {
     match quietly(run) {
         Ok(Ok(given)) => Answer::Given(given),
         Ok(Err(Error::InvalidInput { format, message })) => match kind::number(format) {
