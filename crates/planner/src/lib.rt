@@ -5,6 +5,7 @@ ghost use mathlib.Core.Path.{_≡_};
 ghost use Prim.Native.Nat.{_≤_};
 ghost use lib.ListN.{length, replicate};
 ghost use Rattle.rules.specs.Limits.{leastArea};
+ghost use Rattle.rules.specs.Area.{layout};
 ghost use Rattle.rules.specs.BuildStatement.{buildStatement};
 ghost use Rattle.rules.specs.Entry.{outcome, plan};
 ghost use Rattle.schema.specs.Layout.{catalogAt};
@@ -30,6 +31,8 @@ use statement::PART_NUMBERS;
 pub const LEAST_AREA: usize = 16384;
 
 const SHORT_AREA: u32 = 1;
+
+const LAYOUT: u32 = 1;
 
 // Document 01's number of a refusal, its text (1 catalog, 2 statement) and line; or 0 and how many cells the plan has.
 #[repr(C)]
@@ -143,4 +146,20 @@ pub extern "C" fn planner_plan(catalog: &[u8], statement: &[u8], area: &mut [u32
     }
     let mut tables = [0u32; NUMBERS];
     plan_with(catalog, statement, &mut tables, area)
+}
+
+// The number of the area's layout, which is the first of a plan's numbers.
+#[no_mangle]
+pub extern "C" fn planner_layout() -> u32
+    ensures { λ r. ⌜ r ≡ layout ⌝ }
+{
+    LAYOUT
+}
+
+// The least numbers of an area.
+#[no_mangle]
+pub extern "C" fn planner_area_length() -> usize
+    ensures { λ r. ⌜ r ≡ leastArea ⌝ }
+{
+    LEAST_AREA
 }
