@@ -1,6 +1,7 @@
 //! Tries the planner and its rules against the Rust planner: generated cases, predictions, and comparison.
 
 pub mod compare;
+pub mod entry;
 pub mod folder;
 pub mod generate;
 pub mod list;

@@ -1,8 +1,7 @@
 //! The proved planner held to the prediction and to the Rust planner.
 
-use planner::{Answer, LEAST_AREA, listing, plan};
-
 use crate::compare::{Verdict, compare_exactly};
+use crate::entry::{Answer, LEAST_AREA, listing, plan};
 use crate::generate::{Case, case};
 use crate::random::Random;
 

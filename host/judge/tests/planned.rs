@@ -2,11 +2,11 @@
 //! special texts; and what it does with the area. The README says how to run a long comparison.
 
 use judge::compare::{Kind, STATEMENTS, Tally, Verdict, compare_exactly};
+use judge::entry::{Answer, LEAST_AREA, listing, plan};
 use judge::generate::{Case, Known, case, damaged, edges, limits, pairs};
 use judge::list;
 use judge::planning::{cases_of, compare, printed, random_area};
 use judge::random::Random;
-use planner::{Answer, LEAST_AREA, listing, plan};
 use texts::Refusal;
 
 const CASES: u64 = 2_000;
