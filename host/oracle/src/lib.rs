@@ -2,7 +2,7 @@
 //!
 //! The planner's sources are compiled as they are (see build.rs). What they need and what is not supplied has a stand-in
 //! here: the error type and its macros, the encoding, engine and execution modules. Where the sources are not at hand,
-//! [`AVAILABLE`] is false and [`answer`] and [`evaluate`] always give [`Answer::Unavailable`].
+//! [`AVAILABLE`] is false and [`answer`], [`explain`] and [`evaluate`] always give [`Answer::Unavailable`].
 
 #[cfg(planner)]
 mod ask;
@@ -47,6 +47,18 @@ pub fn answer(texts: &Texts) -> Answer {
 /// Has the Rust planner plan the statement.
 #[cfg(not(planner))]
 pub fn answer(_: &Texts) -> Answer {
+    Answer::Unavailable
+}
+
+/// Has the Rust planner plan the statement, and show the plan as EXPLAIN does.
+#[cfg(planner)]
+pub fn explain(texts: &Texts) -> Answer<String> {
+    ask::explain(texts)
+}
+
+/// Has the Rust planner plan the statement, and show the plan as EXPLAIN does.
+#[cfg(not(planner))]
+pub fn explain(_: &Texts) -> Answer<String> {
     Answer::Unavailable
 }
 
