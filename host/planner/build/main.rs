@@ -23,6 +23,8 @@ fn main() {
     println!("cargo::rustc-env=PLANNER_LIBRARY_SHA256={sha256}");
     println!("cargo::rustc-env=PLANNER_LIBRARY_SHIPPED={}", if shipped { "yes" } else { "no" });
     println!("cargo::rustc-env=PLANNER_LIBRARY_TOOLCHAIN={toolchain}");
+    // For the tests, which link it into a program in C.
+    println!("cargo::rustc-env=PLANNER_LIBRARY_FILE={}", folder.join(LIBRARY).display());
     if found.is_none() {
         return;
     }
@@ -30,7 +32,6 @@ fn main() {
     println!("cargo::rustc-link-lib=static=planner");
     println!("cargo::rustc-cfg=planning");
     println!("cargo::metadata=available=yes");
-    println!("cargo::metadata=folder={}", folder.display());
     if shipped {
         compare_with_proved(&repository, &sha256);
     } else {

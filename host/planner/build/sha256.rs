@@ -37,7 +37,9 @@ pub fn hex(bytes: &[u8]) -> String {
     let mut state: [u32; 8] = std::array::from_fn(|i| root_bits(PRIMES[i], 2));
     let mut padded = bytes.to_vec();
     padded.push(0x80);
-    padded.resize(padded.len().next_multiple_of(64) + if padded.len() % 64 > 56 { 64 } else { 0 } - 8, 0);
+    while padded.len() % 64 != 56 {
+        padded.push(0);
+    }
     padded.extend((bytes.len() as u64 * 8).to_be_bytes());
     for block in padded.chunks_exact(64) {
         compress(&mut state, &constants, block);

@@ -1,0 +1,96 @@
+//! The header and the example in C: compiled without a warning, and held to stored and worked plans.
+
+#![cfg(all(target_arch = "x86_64", target_os = "linux"))]
+
+mod worked;
+
+use std::fs;
+use std::path::{Path, PathBuf};
+use std::process::{Command, Output};
+
+use worked::{WORKED, bytes};
+
+const WARNINGS: [&str; 5] = ["-std=c99", "-Wall", "-Wextra", "-Werror", "-pedantic"];
+
+fn repository() -> PathBuf {
+    Path::new(env!("CARGO_MANIFEST_DIR")).join("../..")
+}
+
+fn folder(name: &str) -> PathBuf {
+    let folder = Path::new(env!("CARGO_TARGET_TMPDIR")).join(name);
+    fs::create_dir_all(&folder).expect("a folder for the test");
+    folder
+}
+
+/// Runs the compiler, which must be content.
+fn compile(arguments: &mut Command) {
+    let output = arguments.output().expect("a C compiler, cc, is on the PATH");
+    assert!(output.status.success(), "{}", String::from_utf8_lossy(&output.stderr));
+    assert_eq!(String::from_utf8_lossy(&output.stderr), "");
+}
+
+/// The example, compiled and linked with the library.
+fn compiled(name: &str) -> PathBuf {
+    let program = folder(name).join("plan");
+    compile(
+        Command::new("cc")
+            .args(WARNINGS)
+            .arg("-I")
+            .arg(repository().join("include"))
+            .arg(repository().join("examples/plan.c"))
+            .arg(env!("PLANNER_LIBRARY_FILE"))
+            .args(["-lm", "-o"])
+            .arg(&program),
+    );
+    program
+}
+
+fn run(program: &Path, catalog: &Path, statement: &Path) -> Output {
+    Command::new(program).args([catalog, statement]).output().expect("the example runs")
+}
+
+#[test]
+fn the_header_stands_alone() {
+    let file = folder("header").join("alone.c");
+    fs::write(&file, "#include \"planner.h\"\n#include \"planner.h\"\nstruct planner_outcome kept;\n")
+        .expect("written");
+    compile(
+        Command::new("cc")
+            .args(WARNINGS)
+            .args(["-fsyntax-only", "-I"])
+            .arg(repository().join("include"))
+            .arg(file),
+    );
+}
+
+#[test]
+fn the_example_prints_the_stored_plans() {
+    let program = compiled("stored");
+    let example = |name: String| repository().join("examples").join(name);
+    let catalog = example("heap.catalog".to_string());
+    for (name, status) in [("p1", 0), ("star", 0), ("right-join", 0), ("groups", 0), ("refusal", 1)] {
+        let output = run(&program, &catalog, &example(format!("{name}.statement")));
+        let stored = fs::read(example(format!("{name}.plan"))).expect("a stored plan");
+        assert_eq!(String::from_utf8_lossy(&output.stdout), String::from_utf8_lossy(&stored), "{name}");
+        assert_eq!(output.status.code(), Some(status), "{name}");
+    }
+    assert_eq!(run(&program, &catalog, Path::new("no such file")).status.code(), Some(2));
+}
+
+/// Statements of every kind.
+#[test]
+fn the_example_prints_worked_plans() {
+    let program = compiled("worked");
+    let (catalog, statement) = (folder("worked").join("catalog"), folder("worked").join("statement"));
+    for worked in &WORKED {
+        fs::write(&catalog, bytes(worked.catalog)).expect("written");
+        fs::write(&statement, bytes(worked.statement)).expect("written");
+        let output = run(&program, &catalog, &statement);
+        assert_eq!(
+            String::from_utf8_lossy(&output.stdout),
+            String::from_utf8_lossy(&bytes(worked.printed)),
+            "{}",
+            worked.statement
+        );
+    }
+}
