@@ -139,6 +139,10 @@ fn mistakes_that_cannot_be_seen_get_a_hint() {
         said_of(b"select\nitem\nint\t1\ntext\ta b\nend\n", false),
         format!("{line}{wrong}    text\\ta b\n")
     );
+    assert_eq!(
+        said_of(b"select\nitem\ncol\tp 3\nfrom\theap\nend\n", false),
+        "standard input:3: there is no such column (refusal 8)\n    col\\tp 3\n"
+    );
     assert_eq!(said_of(b"select\nitem\nint\t1\n", false), format!("{line}{wrong}    the text ends here\n"));
     assert_eq!(said_of(b"", false), format!("standard input:1: {wrong}    the text ends here\n"));
 }
@@ -148,6 +152,12 @@ fn long_texts_and_records_are_cut() {
     let too_long = "standard input: a limit is passed (refusal 3)\n";
     assert_eq!(said_of(&vec![b'\n'; 65_537], false), too_long);
     assert_eq!(said_of(&vec![b'\n'; 1_000_000], true), too_long);
+    // From a file, and one byte less.
+    let file = Path::new(env!("CARGO_TARGET_TMPDIR")).join("long.statement");
+    for (length, listed) in [(65_537, "refused\t3\tstatement\t0\n"), (65_536, "refused\t2\tstatement\t1\n")] {
+        fs::write(&file, vec![b'\n'; length]).expect("written");
+        assert_eq!(said(&run(&[&catalog(), &file])).1, listed);
+    }
     let record = said_of(&[&[b'x'; 60_000][..], b"\n"].concat(), false);
     assert!(record.contains("x .. (60000 bytes)") && record.len() < 400, "{record}");
 }

@@ -150,7 +150,7 @@ impl<'a> Plan<'a> {
 
     pub(crate) fn try_cell(&self, number: CellNumber) -> Result<Cell<'a>, Fault> {
         let mut numbers = Numbers::of(self.numbers);
-        numbers.part(HEADER + number.index().saturating_mul(CELL))?;
+        numbers.part(number.index().saturating_mul(CELL).saturating_add(HEADER))?;
         if number.get() >= self.cells {
             return Err(numbers.fault("no cell's number"));
         }

@@ -148,11 +148,46 @@ fn a_short_area_is_left_as_it_was() {
     assert!(area.iter().all(|number| *number == 7));
 }
 
+/// The names of the reasons, by their numbers from 1.
+const REASONS: [&str; 29] = [
+    "AreaTooShort",
+    "WrongRecord",
+    "LimitPassed",
+    "OtherStatement",
+    "UnknownTable",
+    "TableNameTaken",
+    "UnknownQualifier",
+    "UnknownColumn",
+    "AmbiguousColumn",
+    "NoColumns",
+    "UngroupedColumn",
+    "MisplacedStar",
+    "UnknownFunction",
+    "AggregateArguments",
+    "NestedAggregate",
+    "StarWithoutFrom",
+    "HavingWithoutAggregate",
+    "OffsetNoCount",
+    "LimitNoCount",
+    "NoKey",
+    "SeveralKeys",
+    "UnknownInsertedColumn",
+    "RepeatedInsertedColumn",
+    "NoDefault",
+    "Overflow",
+    "DivisionByZero",
+    "OperandKinds",
+    "NotWorkedOut",
+    "IsNeitherNullNorNan",
+];
+
 #[test]
 fn reasons_have_their_numbers() {
-    let numbers: Vec<u8> = Reason::ALL.iter().map(|reason| reason.number()).collect();
-    assert_eq!(numbers, (1..=29).collect::<Vec<u8>>());
-    assert_eq!(Reason::of(8), Some(Reason::UnknownColumn));
+    for (number, name) in (1..).zip(REASONS) {
+        let reason = Reason::of(number).expect("a reason");
+        assert_eq!((format!("{reason:?}").as_str(), u32::from(reason.number())), (name, number));
+    }
+    assert_eq!(Reason::ALL.len(), REASONS.len());
     assert!([0, 30, 256 + 8, u32::MAX].iter().all(|number| Reason::of(*number).is_none()));
 }
 
