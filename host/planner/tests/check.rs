@@ -191,6 +191,7 @@ fn columns_are_there() {
     assert_eq!(said(UPDATE, &[(39, 2)]), "37: no column of the table");
     assert_eq!(said(UPDATE, &[(43, 2)]), "37: no column of the table");
     assert_eq!(said(INSERT, &[(32, 3)]), "29: no column of the table");
+    assert_eq!(said(INSERT, &[(29, STATEMENT)]), "29: a table that the catalog does not have");
     assert_eq!(said(CREATE, &[(8, 4)]), "8: a key that is no column");
 }
 
