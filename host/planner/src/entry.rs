@@ -77,15 +77,21 @@ impl core::error::Error for Unusable {}
 ///
 /// Where it cannot be used; [`plan`](crate::plan) would panic.
 pub fn library() -> Result<Library, Unusable> {
-    match (linked::layout(), linked::area_length()) {
+    usable(linked::layout(), linked::area_length())?;
+    Ok(Library {
+        sha256: env!("PLANNER_LIBRARY_SHA256"),
+        shipped: matches!(env!("PLANNER_LIBRARY_SHIPPED").as_bytes(), b"yes"),
+        toolchain: env!("PLANNER_LIBRARY_TOOLCHAIN"),
+    })
+}
+
+/// Whether a library that answers this can be used.
+fn usable(layout: Option<u32>, area_length: Option<usize>) -> Result<(), Unusable> {
+    match (layout, area_length) {
         (None, _) | (_, None) => Err(Unusable::NotLinked),
-        (Some(crate::LAYOUT), Some(crate::LEAST_AREA)) => Ok(Library {
-            sha256: env!("PLANNER_LIBRARY_SHA256"),
-            shipped: matches!(env!("PLANNER_LIBRARY_SHIPPED").as_bytes(), b"yes"),
-            toolchain: env!("PLANNER_LIBRARY_TOOLCHAIN"),
-        }),
-        (Some(crate::LAYOUT), Some(length)) => Err(Unusable::AreaLength(length)),
-        (Some(layout), _) => Err(Unusable::Layout(layout)),
+        (Some(layout), _) if layout != crate::LAYOUT => Err(Unusable::Layout(layout)),
+        (_, Some(length)) if length != crate::LEAST_AREA => Err(Unusable::AreaLength(length)),
+        _ => Ok(()),
     }
 }
 
@@ -157,5 +163,20 @@ mod linked {
 
     pub fn plan(_: &[u8], _: &[u8], _: &mut [u32]) -> Outcome {
         panic!("{}", Unusable::NotLinked)
+    }
+}
+
+#[cfg(test)]
+mod tests {
+    use super::{Unusable, usable};
+
+    #[test]
+    fn a_library_of_another_layout_or_area_is_not_used() {
+        assert_eq!(usable(Some(1), Some(16_384)), Ok(()));
+        assert_eq!(usable(Some(2), Some(16_384)), Err(Unusable::Layout(2)));
+        assert_eq!(usable(Some(0), Some(0)), Err(Unusable::Layout(0)));
+        assert_eq!(usable(Some(1), Some(16_385)), Err(Unusable::AreaLength(16_385)));
+        assert_eq!(usable(Some(1), Some(16_383)), Err(Unusable::AreaLength(16_383)));
+        assert_eq!(usable(None, None), Err(Unusable::NotLinked));
     }
 }

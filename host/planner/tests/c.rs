@@ -31,6 +31,11 @@ fn compile(arguments: &mut Command) {
 
 /// The example, compiled and linked with the library.
 fn compiled(name: &str) -> PathBuf {
+    compiled_with(name, Path::new(env!("PLANNER_LIBRARY_FILE")))
+}
+
+/// The example, compiled and linked with a library or a source in its place.
+fn compiled_with(name: &str, library: &Path) -> PathBuf {
     let program = folder(name).join("plan");
     compile(
         Command::new("cc")
@@ -38,7 +43,7 @@ fn compiled(name: &str) -> PathBuf {
             .arg("-I")
             .arg(repository().join("include"))
             .arg(repository().join("examples/plan.c"))
-            .arg(env!("PLANNER_LIBRARY_FILE"))
+            .arg(library)
             .args(["-lm", "-o"])
             .arg(&program),
     );
@@ -92,5 +97,26 @@ fn the_example_prints_worked_plans() {
             "{}",
             worked.statement
         );
+    }
+}
+
+/// A library that says it writes another layout, or takes another area, is not asked for a plan.
+#[test]
+fn the_example_minds_what_the_library_is() {
+    for (layout, length) in [("2u", "PLANNER_LEAST_AREA"), ("PLANNER_LAYOUT", "PLANNER_LEAST_AREA + 1")] {
+        let library = folder("other").join("other.c");
+        let source = format!(
+            "#include \"planner.h\"\n\
+            uint32_t planner_layout(void) {{ return {layout}; }}\n\
+            size_t planner_area_length(void) {{ return {length}; }}\n\
+            struct planner_outcome planner_plan(const uint8_t *c, size_t m, const uint8_t *s, size_t n, uint32_t *a,\n\
+            size_t k) {{ struct planner_outcome o = {{0, 0, 0, 0}}; (void)c; (void)m; (void)s; (void)n; (void)a; (void)k;\n\
+            return o; }}\n"
+        );
+        fs::write(&library, source).expect("written");
+        let examples = repository().join("examples");
+        let program = compiled_with("other", &library);
+        let output = run(&program, &examples.join("heap.catalog"), &examples.join("p1.statement"));
+        assert_eq!((output.status.code(), output.stdout.len()), (Some(2), 0), "{layout}, {length}");
     }
 }
