@@ -8,6 +8,7 @@ use std::fs;
 use std::path::{Path, PathBuf};
 use std::process::{Command, Output};
 
+use planner::{Binary, Kind, LAYOUT, LEAST_AREA, Unary};
 use worked::{WORKED, bytes};
 
 const WARNINGS: [&str; 5] = ["-std=c99", "-Wall", "-Wextra", "-Werror", "-pedantic"];
@@ -118,5 +119,47 @@ fn the_example_minds_what_the_library_is() {
         let program = compiled_with("other", &library);
         let output = run(&program, &examples.join("heap.catalog"), &examples.join("p1.statement"));
         assert_eq!((output.status.code(), output.stdout.len()), (Some(2), 0), "{layout}, {length}");
+    }
+}
+
+/// `SquareRoot` as `SQUARE_ROOT`.
+fn constant(name: &impl std::fmt::Debug) -> String {
+    let mut constant = String::new();
+    for letter in format!("{name:?}").chars() {
+        if letter.is_uppercase() && !constant.is_empty() {
+            constant.push('_');
+        }
+        constant.extend(letter.to_uppercase());
+    }
+    constant
+}
+
+/// The numbers of the header are those that this crate reads; the nodes' are seen in the plans printed above.
+#[test]
+fn the_header_has_this_crates_numbers() {
+    let header = fs::read_to_string(repository().join("include/planner.h")).expect("the header");
+    let mut expected: Vec<String> = ["NULL", "BOOL", "INT", "FLOAT", "TEXT", "COLUMN"]
+        .iter()
+        .zip(1..)
+        .map(|(name, number)| format!("PLANNER_{name} = {number}"))
+        .collect();
+    expected.extend(
+        Kind::ALL.iter().zip(1..).map(|(kind, number)| format!("PLANNER_{} = {number}", constant(kind))),
+    );
+    expected.extend(
+        Unary::ALL.iter().zip(8..).map(|(of, number)| format!("PLANNER_{} = {number}", constant(of))),
+    );
+    expected.extend(
+        Binary::ALL.iter().zip(16..).map(|(of, number)| format!("PLANNER_{} = {number}", constant(of))),
+    );
+    expected.extend([
+        "PLANNER_IS_NULL = 14".to_string(),
+        "PLANNER_IS_NAN = 15".to_string(),
+        format!("#define PLANNER_LAYOUT {LAYOUT}u"),
+        format!("#define PLANNER_LEAST_AREA {LEAST_AREA}u"),
+    ]);
+    let lines: Vec<&str> = header.lines().map(|line| line.trim().trim_end_matches(',')).collect();
+    for line in expected {
+        assert!(lines.contains(&line.as_str()), "the header has no {line}");
     }
 }
