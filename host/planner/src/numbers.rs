@@ -105,12 +105,13 @@ impl<'a> Numbers<'a> {
         Ok(u64::from(high) << 32 | u64::from(low))
     }
 
-    /// All numbers that are left are 0.
+    /// All numbers that are left are 0. They are looked at in runs, since most of an area is zero.
     pub fn expect_zeros(&self) -> Result<(), Fault> {
-        match self.numbers.iter().position(|number| *number != 0) {
-            Some(place) => Err(Fault { at: self.at + place, what: "not 0" }),
-            None => Ok(()),
-        }
+        const RUN: usize = 64;
+        let any = |run: &[u32]| run.iter().fold(0, |any, number| any | number) != 0;
+        let Some(run) = self.numbers.chunks(RUN).position(any) else { return Ok(()) };
+        let zeros = self.numbers[run * RUN..].iter().take_while(|number| **number == 0).count();
+        Err(Fault { at: self.at + run * RUN + zeros, what: "not 0" })
     }
 
     pub fn expect_end(&self) -> Result<(), Fault> {

@@ -54,8 +54,10 @@ fn the_parts_fit() {
     // 3: the end, and zeros behind it.
     assert_eq!(said(P1, &[(5, 67)]), "4: behind the end of the plan");
     assert_eq!(said(P1, &[(5, 16_385)]), "5: behind the end of the area");
-    assert_eq!(said(P1, &[(70, 1)]), "70: not 0");
-    assert_eq!(said(P1, &[(16_383, 1)]), "16383: not 0");
+    for place in [68, 70, 131, 132, 133, 16_382, 16_383] {
+        assert_eq!(said(P1, &[(place, 1)]), format!("{place}: not 0"));
+        assert_eq!(said(P1, &[(place, 1 << 31), (16_383, 1)]), format!("{place}: not 0"));
+    }
     // 4: as many own numbers as the statement has.
     assert_eq!(said(P1, &[(5, 69)]), "68: a number is left over");
     assert_eq!(said(DROP, &[(5, 10)]), "9: a number is left over");
