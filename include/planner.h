@@ -35,7 +35,7 @@ enum { PLANNER_CATALOG = 1, PLANNER_STATEMENT = 2 };
 
 /*
  * Plans the statement over the catalog, into the area. It takes whatever the texts and the area hold, reads no further than
- * the lengths, writes to the area alone, keeps nothing, and takes no memory but the stack (at most some 255 KB).
+ * the lengths, writes to the area alone, keeps nothing, and takes no memory but the stack (docs/DECISIONS.md has how much).
  *
  * After a plan the area holds it, and zeros behind it. After refusal 1 (the area is too short) the area is as it was, after
  * any other all zero. The area must not overlap a text. A text of length 0 is not read.

@@ -8,8 +8,8 @@ use planner::{LEAST_AREA, Plan, plan};
 
 const CASES: u64 = 10_000;
 
-/// Plans whose expressions unfold to more cells than this are not put to the Rust.
-const LARGEST: usize = 100_000;
+/// No more cells than this are shown, so larger plans are not compared.
+const LARGEST: usize = 16_384;
 
 /// How many cells there are with nothing shared.
 fn unfolded(plan: &Plan) -> usize {

@@ -37,6 +37,9 @@ impl<'a> Plan<'a> {
         let mut behind = Numbers::of(area);
         behind.part(plan.numbers.len())?;
         behind.expect_zeros()?;
+        if plan.numbers.len() > crate::LEAST_AREA {
+            return Err(Fault { at: 5, what: "more numbers than a plan can have" });
+        }
         if plan.cell_count() > MOST_CELLS {
             return Err(Fault { at: 2, what: "more cells than a statement can have" });
         }

@@ -50,7 +50,8 @@
 //! # Features
 //!
 //! `std`, on by default, adds the listing as a vector ([`Plan::listing`]). Without it the crate needs neither the standard
-//! library nor memory beyond the area and the stack, of which the library takes 255 KB at most (docs/DECISIONS.md).
+//! library nor memory beyond the area and the stack; `docs/DECISIONS.md` says how much of the stack the library takes. The
+//! library calls `memcpy`, `memset` and `fmod`.
 
 #![no_std]
 #![deny(missing_docs, unsafe_code)]

@@ -251,5 +251,15 @@ fn a_plan_is_no_larger_than_the_limits_allow() {
         area
     };
     assert_eq!(said_of(&ordered(2_304)), "taken");
+    let keys = |keys: u32| {
+        let mut area = vec![1, 1, 1, 2, 0, 0, 2, 1, 0, 0];
+        area.extend(SCAN);
+        area.extend([7, 1 + 2 * keys, 0]);
+        (0..keys).for_each(|_| area.extend([0, 0]));
+        (area[4], area[5]) = (area.len() as u32, area.len() as u32);
+        area
+    };
+    assert_eq!(said_of(&keys(8_182)), "taken");
+    assert_eq!(said_of(&keys(8_183)), "5: more numbers than a plan can have");
     assert_eq!(said_of(&ordered(2_305)), "2: more cells than a statement can have");
 }

@@ -16,12 +16,12 @@ use crate::values::{CellNumber, Column, NodeNumber};
 /// A plan shown as a tree, the last node first, each node's sources below it.
 ///
 /// Shared cells are shown wherever they are used, so an expression of nested comparisons can be very long: what is beyond
-/// 131,072 cells in all is shown as `..`.
+/// 16,384 cells in all is shown as `..`.
 #[derive(Clone, Copy, Debug)]
 pub struct Tree<'a>(pub(crate) Plan<'a>);
 
 /// The most cells that are shown.
-const MOST_SHOWN: u32 = 131_072;
+const MOST_SHOWN: u32 = 16_384;
 
 impl Display for Tree<'_> {
     fn fmt(&self, f: &mut Formatter<'_>) -> fmt::Result {
