@@ -25,7 +25,7 @@ pub const INSERT: u32 = 5;
 pub const UPDATE: u32 = 6;
 
 // The number of this layout.
-const LAYOUT: u32 = 1;
+pub const LAYOUT: u32 = 1;
 
 // Where in the header the place of the own numbers stands, and how many numbers there are in all.
 const OWN_PLACE: usize = 4;

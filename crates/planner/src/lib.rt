@@ -5,6 +5,7 @@ ghost use mathlib.Core.Path.{_≡_};
 ghost use Prim.Native.Nat.{_≤_};
 ghost use lib.ListN.{length, replicate};
 ghost use Rattle.rules.specs.Limits.{leastArea};
+ghost use Rattle.rules.specs.Area.{layout};
 ghost use Rattle.rules.specs.BuildStatement.{buildStatement};
 ghost use Rattle.rules.specs.Entry.{outcome, plan};
 ghost use Rattle.schema.specs.Layout.{catalogAt};
@@ -16,6 +17,7 @@ use building::build;
 use numbers::refusals::SHORT_AREA;
 use plan::NODES_SIZE;
 use plan::cells::Written;
+use plan::finish::LAYOUT;
 use plan::finish::clear;
 use reader::STATEMENT;
 use reader::Texts;
@@ -142,4 +144,20 @@ pub extern "C" fn planner_plan(catalog: &[u8], statement: &[u8], area: &mut [u32
     }
     let mut tables = [0u32; NUMBERS];
     plan_with(catalog, statement, &mut tables, area)
+}
+
+// The number of the area's layout, which is the first of a plan's numbers.
+#[no_mangle]
+pub extern "C" fn planner_layout() -> u32
+    ensures { λ r. ⌜ r ≡ layout ⌝ }
+{
+    LAYOUT
+}
+
+// The least numbers of an area.
+#[no_mangle]
+pub extern "C" fn planner_area_length() -> usize
+    ensures { λ r. ⌜ r ≡ leastArea ⌝ }
+{
+    LEAST_AREA
 }

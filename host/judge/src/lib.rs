@@ -4,6 +4,7 @@ pub mod bench;
 mod checksum;
 pub mod compare;
 pub mod dropin;
+pub mod entry;
 pub mod folder;
 pub mod generate;
 pub mod list;

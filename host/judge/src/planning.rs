@@ -4,7 +4,7 @@ use crate::compare::{Verdict, compare_exactly};
 use crate::generate::{Case, case};
 use crate::random::Random;
 
-pub use planner::{AVAILABLE, Answer, LEAST_AREA, listing, plan};
+pub use crate::entry::{AVAILABLE, Answer, LEAST_AREA, listing, plan};
 
 /// A planner: the proved one, or one with a fault that tests plant.
 pub trait Plans: Fn(&[u8], &[u8], &mut [u32]) -> Answer {}

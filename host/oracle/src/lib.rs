@@ -2,7 +2,8 @@
 //!
 //! The planner's sources are compiled as they are (see build.rs). What they need and what is not supplied has a stand-in
 //! here: the error type and its macros, the encoding, engine and execution modules. Where the sources are not at hand,
-//! [`AVAILABLE`] is false, [`answer`] and [`evaluate`] always give [`Answer::Unavailable`], and there is no [`Question`].
+//! [`AVAILABLE`] is false, [`answer`], [`explain`] and [`evaluate`] always give [`Answer::Unavailable`], and there is no
+//! [`Question`].
 
 #[cfg(planner)]
 mod ask;
@@ -79,6 +80,18 @@ pub fn answer(texts: &Texts) -> Answer {
 /// Has the Rust planner plan the statement.
 #[cfg(not(planner))]
 pub fn answer(_: &Texts) -> Answer {
+    Answer::Unavailable
+}
+
+/// Has the Rust planner plan the statement, and show the plan as EXPLAIN does.
+#[cfg(planner)]
+pub fn explain(texts: &Texts) -> Answer<String> {
+    ask::explain(texts)
+}
+
+/// Has the Rust planner plan the statement, and show the plan as EXPLAIN does.
+#[cfg(not(planner))]
+pub fn explain(_: &Texts) -> Answer<String> {
     Answer::Unavailable
 }
 

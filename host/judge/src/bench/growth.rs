@@ -2,11 +2,10 @@
 
 use std::time::Duration;
 
-use planner::{Answer, LEAST_AREA, plan};
-
 use super::sides::{self, Side};
 use super::sqlite::Sqlite;
 use super::times::{Times, Which};
+use crate::entry::{Answer, LEAST_AREA, plan};
 use crate::generate::{Case, Lines, catalog};
 
 /// Questions of one form, by their sizes.

@@ -3,11 +3,10 @@
 use std::hint::black_box;
 use std::time::{Duration, Instant};
 
-use planner::LEAST_AREA;
-
 use super::sql;
 use super::sqlite::{Database, Sqlite};
 use crate::compare::{Kind, Reason, Verdict};
+use crate::entry::{self, LEAST_AREA};
 use crate::generate::Case;
 use crate::planning;
 
@@ -27,7 +26,7 @@ pub fn ours(case: &Case) -> Side {
     let (Case { catalog, statement }, mut area) = (case.clone(), vec![0; LEAST_AREA]);
     Box::new(move |count| {
         timed(count, || {
-            black_box(planner::plan(black_box(&catalog), black_box(&statement), black_box(&mut area)));
+            black_box(entry::plan(black_box(&catalog), black_box(&statement), black_box(&mut area)));
         })
     })
 }

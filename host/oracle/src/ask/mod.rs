@@ -37,6 +37,16 @@ pub fn answer(texts: &Texts) -> Answer {
     asked(|| Ok(tree::plan(&Planner::new(&catalog).build(statement)?)))
 }
 
+pub fn explain(texts: &Texts) -> Answer<String> {
+    let (Some(tables), Some(statement)) =
+        (statement::tables(&texts.tables), statement::statement(&texts.statement))
+    else {
+        return Answer::NotUtf8;
+    };
+    let catalog = Tables(tables);
+    asked(|| Ok(Planner::new(&catalog).build(statement)?.to_string()))
+}
+
 pub fn evaluate(expr: &Expr) -> Answer<Literal> {
     let Some(expr) = statement::expression(expr) else {
         return Answer::NotUtf8;

@@ -1,11 +1,13 @@
 //! The area's numbers, taken one after the other.
 
-use std::fmt;
+use core::fmt;
 
 /// What is wrong with an area, and which of its numbers says so.
 #[derive(Clone, Copy, Debug, PartialEq, Eq)]
 pub struct Fault {
+    /// The place of that number in the area, from 0.
     pub at: usize,
+    /// What is wrong there.
     pub what: &'static str,
 }
 
@@ -15,9 +17,10 @@ impl fmt::Display for Fault {
     }
 }
 
-impl std::error::Error for Fault {}
+impl core::error::Error for Fault {}
 
 /// A run of numbers of an area, from a place in it on.
+#[derive(Clone, Copy)]
 pub struct Numbers<'a> {
     numbers: &'a [u32],
     at: usize,
@@ -39,6 +42,10 @@ impl<'a> Numbers<'a> {
         Fault { at: self.at, what }
     }
 
+    pub fn len(&self) -> usize {
+        self.numbers.len()
+    }
+
     pub fn is_empty(&self) -> bool {
         self.numbers.is_empty()
     }
@@ -50,6 +57,13 @@ impl<'a> Numbers<'a> {
         let part = Numbers { numbers, at: self.at };
         *self = Numbers { numbers: rest, at: self.at + count };
         Ok(part)
+    }
+
+    /// All that are left, as a run of their own.
+    pub fn rest(&mut self) -> Numbers<'a> {
+        let rest = *self;
+        *self = Numbers { numbers: &[], at: self.at + rest.len() };
+        rest
     }
 
     pub fn take(&mut self) -> Result<u32, Fault> {
@@ -78,15 +92,11 @@ impl<'a> Numbers<'a> {
         Ok(self.take_below(2, "neither 0 nor 1")? == 1)
     }
 
-    /// A word by its position in a list.
-    pub fn take_word(
-        &mut self,
-        words: &[&'static str],
-        otherwise: &'static str,
-    ) -> Result<&'static str, Fault> {
+    /// One of a list by its code, of which the first is 1.
+    pub fn take_code<T: Copy>(&mut self, of: &[T], otherwise: &'static str) -> Result<T, Fault> {
         let fault = self.fault(otherwise);
-        let number = self.take()?;
-        words.get(number as usize).copied().filter(|word| !word.is_empty()).ok_or(fault)
+        let place = self.take()?.checked_sub(1).ok_or(fault)?;
+        of.get(place as usize).copied().ok_or(fault)
     }
 
     /// 64 bits, the low half first.
@@ -95,12 +105,13 @@ impl<'a> Numbers<'a> {
         Ok(u64::from(high) << 32 | u64::from(low))
     }
 
-    /// All numbers that are left are 0.
+    /// All numbers that are left are 0. They are looked at in runs, since most of an area is zero.
     pub fn expect_zeros(&self) -> Result<(), Fault> {
-        match self.numbers.iter().position(|number| *number != 0) {
-            Some(place) => Err(Fault { at: self.at + place, what: "not 0" }),
-            None => Ok(()),
-        }
+        const RUN: usize = 64;
+        let any = |run: &[u32]| run.iter().fold(0, |any, number| any | number) != 0;
+        let Some(run) = self.numbers.chunks(RUN).position(any) else { return Ok(()) };
+        let zeros = self.numbers[run * RUN..].iter().take_while(|number| **number == 0).count();
+        Err(Fault { at: self.at + run * RUN + zeros, what: "not 0" })
     }
 
     pub fn expect_end(&self) -> Result<(), Fault> {
