@@ -2,7 +2,6 @@
 //! special texts; and what it does with the area. The README says how to run a long comparison.
 
 use judge::compare::{Kind, STATEMENTS, Tally, Verdict, compare_exactly};
-use judge::entry::{Answer, LEAST_AREA, listing, plan};
 use judge::generate::{Case, Known, case, damaged, edges, limits, pairs};
 use judge::list;
 use judge::planning::{Answer, LEAST_AREA, cases_of, compare, listing, plan, printed, random_area};
