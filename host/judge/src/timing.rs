@@ -12,7 +12,7 @@ pub const ROUNDS: u64 = 3_000;
 /// An error where a library that is timed is not linked.
 fn linked() -> Result<(), String> {
     match (planner::AVAILABLE, reader::AVAILABLE) {
-        (false, _) => Err("`rt staticlib planner` was not run".to_string()),
+        (false, _) => Err("the planner's library is not linked".to_string()),
         (_, false) => Err("`rt staticlib reader_host` was not run".to_string()),
         _ => Ok(()),
     }

@@ -11,7 +11,7 @@ use judge::planning::compare;
 use texts::{Expr, Select, Statement};
 
 #[test]
-#[cfg_attr(not(planning), ignore = "`rt staticlib planner` was not run")]
+#[cfg_attr(not(planning), ignore = "the planner's library is not linked")]
 #[cfg_attr(all(planning, not(planner)), ignore = "the Rust planner's sources are not at hand")]
 fn questions_are_planned_as_the_rust_planner_does() {
     for Question { name, case } in questions() {
@@ -52,7 +52,7 @@ fn questions_are_of_the_form_they_are_named_for() {
 }
 
 #[test]
-#[cfg_attr(not(planning), ignore = "`rt staticlib planner` was not run")]
+#[cfg_attr(not(planning), ignore = "the planner's library is not linked")]
 #[cfg_attr(all(planning, not(planner)), ignore = "the Rust planner's sources are not at hand")]
 fn growing_questions_are_planned_as_the_rust_planner_does() {
     for series in series() {

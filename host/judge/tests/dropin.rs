@@ -7,7 +7,7 @@ use judge::generate::limits;
 const CASES: usize = 5_000;
 
 #[test]
-#[cfg_attr(not(planning), ignore = "`rt staticlib planner` was not run")]
+#[cfg_attr(not(planning), ignore = "the planner's library is not linked")]
 #[cfg_attr(all(planning, not(planner)), ignore = "the Rust planner's sources are not at hand")]
 fn toydb_has_the_same_plans_from_both() {
     let mut tally = Tally::default();
@@ -25,7 +25,7 @@ fn toydb_has_the_same_plans_from_both() {
 }
 
 #[test]
-#[cfg_attr(not(planning), ignore = "`rt staticlib planner` was not run")]
+#[cfg_attr(not(planning), ignore = "the planner's library is not linked")]
 #[cfg_attr(all(planning, not(planner)), ignore = "the Rust planner's sources are not at hand")]
 fn toydb_has_the_same_plans_at_the_limits() {
     let mut tally = Tally::default();

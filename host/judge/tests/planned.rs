@@ -29,7 +29,7 @@ fn add(tally: &mut Tally, name: &str, verdict: &Verdict) {
 }
 
 #[test]
-#[cfg_attr(not(planning), ignore = "`rt staticlib planner` was not run")]
+#[cfg_attr(not(planning), ignore = "the planner's library is not linked")]
 fn statements_are_planned_as_predicted() {
     let mut tally = Tally::default();
     for number in 0..CASES {
@@ -40,7 +40,7 @@ fn statements_are_planned_as_predicted() {
 }
 
 #[test]
-#[cfg_attr(not(planning), ignore = "`rt staticlib planner` was not run")]
+#[cfg_attr(not(planning), ignore = "the planner's library is not linked")]
 #[cfg_attr(all(planning, not(planner)), ignore = "the Rust planner's sources are not at hand")]
 fn plans_agree_with_the_rust_planner() {
     let mut tally = Tally::default();
@@ -52,7 +52,7 @@ fn plans_agree_with_the_rust_planner() {
 }
 
 #[test]
-#[cfg_attr(not(planning), ignore = "`rt staticlib planner` was not run")]
+#[cfg_attr(not(planning), ignore = "the planner's library is not linked")]
 fn statements_that_change_are_planned_as_predicted() {
     let statements = vec!["create", "drop", "delete", "insert", "update"];
     let mut tally = Tally::default();
@@ -65,7 +65,7 @@ fn statements_that_change_are_planned_as_predicted() {
 }
 
 #[test]
-#[cfg_attr(not(planning), ignore = "`rt staticlib planner` was not run")]
+#[cfg_attr(not(planning), ignore = "the planner's library is not linked")]
 fn damaged_texts_are_answered_as_predicted() {
     let mut tally = Tally::default();
     for number in 0..DAMAGED {
@@ -77,7 +77,7 @@ fn damaged_texts_are_answered_as_predicted() {
 }
 
 #[test]
-#[cfg_attr(not(planning), ignore = "`rt staticlib planner` was not run")]
+#[cfg_attr(not(planning), ignore = "the planner's library is not linked")]
 fn the_fixed_list_is_answered() {
     let path = concat!(env!("CARGO_MANIFEST_DIR"), "/../answers/list.txt");
     let bytes = std::fs::read(path).expect("the fixed list is in the repository");
@@ -93,7 +93,7 @@ fn special_texts() -> impl Iterator<Item = Known> {
 }
 
 #[test]
-#[cfg_attr(not(planning), ignore = "`rt staticlib planner` was not run")]
+#[cfg_attr(not(planning), ignore = "the planner's library is not linked")]
 fn special_texts_are_answered_as_they_are_made() {
     for (number, Known { what, case, refusal }) in special_texts().enumerate() {
         let printed = printed(&case, &mut Random::new(15, number as u64)).expect(what);
@@ -107,7 +107,7 @@ fn special_texts_are_answered_as_they_are_made() {
 }
 
 #[test]
-#[cfg_attr(not(planning), ignore = "`rt staticlib planner` was not run")]
+#[cfg_attr(not(planning), ignore = "the planner's library is not linked")]
 fn a_short_area_is_refused_and_left_as_it_was() {
     let too_short = Answer::Refused(Refusal::in_statement(1, 0));
     for Known { what, case, .. } in special_texts() {
@@ -132,7 +132,7 @@ fn mixed_cases() -> impl Iterator<Item = Case> {
 }
 
 #[test]
-#[cfg_attr(not(planning), ignore = "`rt staticlib planner` was not run")]
+#[cfg_attr(not(planning), ignore = "the planner's library is not linked")]
 fn a_longer_area_is_zero_to_its_end() {
     for case in mixed_cases() {
         let (answer, area) = planned(&case, vec![7; LEAST_AREA]);
@@ -151,7 +151,7 @@ fn a_longer_area_is_zero_to_its_end() {
 }
 
 #[test]
-#[cfg_attr(not(planning), ignore = "`rt staticlib planner` was not run")]
+#[cfg_attr(not(planning), ignore = "the planner's library is not linked")]
 fn what_the_area_held_does_not_count() {
     let mut noise = Random::new(18, 0);
     let mut before = vec![0; LEAST_AREA];
@@ -166,7 +166,7 @@ fn what_the_area_held_does_not_count() {
 }
 
 #[test]
-#[cfg_attr(not(planning), ignore = "`rt staticlib planner` was not run")]
+#[cfg_attr(not(planning), ignore = "the planner's library is not linked")]
 fn numbers_around_the_area_are_left_as_they_were() {
     const AROUND: usize = 64;
     for length in [LEAST_AREA - 1, LEAST_AREA, 20_000] {

@@ -3,7 +3,7 @@
 use judge::stale::check;
 
 #[test]
-#[cfg_attr(not(planning), ignore = "`rt staticlib planner` was not run")]
+#[cfg_attr(not(planning), ignore = "the planner's library is not linked")]
 fn the_planner_is_not_stale() {
     assert_eq!(check("planner"), Ok(()));
 }

@@ -37,7 +37,7 @@ fn compare(name: &str, case: &Case, area: &mut [u32]) -> Option<&'static str> {
 }
 
 #[test]
-#[cfg_attr(not(planning), ignore = "`rt staticlib planner` was not run")]
+#[cfg_attr(not(planning), ignore = "the planner's library is not linked")]
 #[cfg_attr(all(planning, not(planner)), ignore = "the Rust planner's sources are not at hand")]
 fn trees_are_those_of_explain() {
     let mut area = vec![0; LEAST_AREA];
@@ -56,7 +56,7 @@ fn trees_are_those_of_explain() {
 }
 
 #[test]
-#[cfg_attr(not(planning), ignore = "`rt staticlib planner` was not run")]
+#[cfg_attr(not(planning), ignore = "the planner's library is not linked")]
 #[cfg_attr(all(planning, not(planner)), ignore = "the Rust planner's sources are not at hand")]
 fn trees_at_the_limits_are_those_of_explain() {
     let mut area = vec![0; LEAST_AREA];

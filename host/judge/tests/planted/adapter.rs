@@ -80,7 +80,7 @@ fn outcome(case: &Case, between: &Between) -> (bool, bool) {
 }
 
 #[test]
-#[cfg_attr(not(planning), ignore = "`rt staticlib planner` was not run")]
+#[cfg_attr(not(planning), ignore = "the planner's library is not linked")]
 #[cfg_attr(all(planning, not(planner)), ignore = "the Rust planner's sources are not at hand")]
 fn faults_of_what_the_adapter_writes_are_noticed() {
     let cases = planned();
@@ -92,7 +92,7 @@ fn faults_of_what_the_adapter_writes_are_noticed() {
 }
 
 #[test]
-#[cfg_attr(not(planning), ignore = "`rt staticlib planner` was not run")]
+#[cfg_attr(not(planning), ignore = "the planner's library is not linked")]
 #[cfg_attr(all(planning, not(planner)), ignore = "the Rust planner's sources are not at hand")]
 fn faults_of_what_the_adapter_reads_are_noticed() {
     let cases = planned();

@@ -154,7 +154,7 @@ fn judged(case: &Case, number: u64, fault: Fault) -> (bool, Verdict) {
 }
 
 #[test]
-#[cfg_attr(not(planning), ignore = "`rt staticlib planner` was not run")]
+#[cfg_attr(not(planning), ignore = "the planner's library is not linked")]
 fn faults_of_a_planner_are_noticed() {
     let cases = cases(400);
     for (what, fault) in FAULTS {
@@ -167,7 +167,7 @@ fn faults_of_a_planner_are_noticed() {
 
 /// An area that keeps a number which it held before.
 #[test]
-#[cfg_attr(not(planning), ignore = "`rt staticlib planner` was not run")]
+#[cfg_attr(not(planning), ignore = "the planner's library is not linked")]
 fn an_area_that_is_not_wholly_written_is_noticed() {
     for place in [0, 2, 6, 1_000, LEAST_AREA - 1] {
         let planner = |catalog: &[u8], statement: &[u8], area: &mut [u32]| {
@@ -185,7 +185,7 @@ fn an_area_that_is_not_wholly_written_is_noticed() {
 
 /// A planner that answers otherwise, or leaves something, where the area held the same number throughout.
 #[test]
-#[cfg_attr(not(planning), ignore = "`rt staticlib planner` was not run")]
+#[cfg_attr(not(planning), ignore = "the planner's library is not linked")]
 fn minding_what_the_area_held_is_noticed() {
     for refuses in [false, true] {
         let planner = |catalog: &[u8], statement: &[u8], area: &mut [u32]| {
@@ -206,7 +206,7 @@ fn minding_what_the_area_held_is_noticed() {
 }
 
 #[test]
-#[cfg_attr(not(planning), ignore = "`rt staticlib planner` was not run")]
+#[cfg_attr(not(planning), ignore = "the planner's library is not linked")]
 fn an_untouched_area_with_success_is_noticed() {
     for case in cases(50) {
         let verdict = compare_by(|_, _, _| Answer::Planned { cells: 0 }, &case, 44, 0);
@@ -216,7 +216,7 @@ fn an_untouched_area_with_success_is_noticed() {
 
 /// Of a planner that refuses all that has an operator with 28, the judge once found no difference.
 #[test]
-#[cfg_attr(not(planning), ignore = "`rt staticlib planner` was not run")]
+#[cfg_attr(not(planning), ignore = "the planner's library is not linked")]
 #[cfg_attr(all(planning, not(planner)), ignore = "the Rust planner's sources are not at hand")]
 fn refusing_operators_with_28_is_noticed_by_the_rust_alone() {
     for case in cases(400).iter().filter(|case| is_good(case)) {
