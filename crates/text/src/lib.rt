@@ -140,13 +140,13 @@ fn any_fields(t: &[u8], at: usize) -> Line
     }
 }
 
-// A line of at most four fields.
-fn few(starts: [usize; 4], lens: [usize; 4], count: usize, next: usize) -> Line
-    ensures { λ r. ⌜ r ≡ fewFields starts lens count next ⌝ }
+// A line of at most four fields, by their starts and lengths.
+fn few(s: [usize; 4], l: [usize; 4], count: usize, next: usize) -> Line
+    ensures { λ r. ⌜ r ≡ fewFields s l count next ⌝ }
 {
     Line {
-        starts: [starts[0], starts[1], starts[2], starts[3], 0, 0, 0, 0, 0, 0, 0, 0],
-        lens: [lens[0], lens[1], lens[2], lens[3], 0, 0, 0, 0, 0, 0, 0, 0],
+        starts: [s[0], s[1], s[2], s[3], 0, 0, 0, 0, 0, 0, 0, 0],
+        lens: [l[0], l[1], l[2], l[3], 0, 0, 0, 0, 0, 0, 0, 0],
         count: count,
         next: next,
     }

@@ -22,7 +22,7 @@ few-requires : tie.Need-few-requires
 few-requires c κs = search needs
 
 returns : tie.Need-returns
-returns c = one-field _ _ _ _ (record { stop = c .before .before .before .before .stop-at .ensures; within = c .before .before .before .if1 .taken; lf = c .before .if2 .taken })  (c .few .ensures)
+returns c = one-field _ _ _ _ (record { stop = c .before .before .before .before .stop-at .ensures; within = c .before .before .before .if1 .taken; lf = c .before .if2 .taken }) (c .few .ensures)
 
 add-b : tie.Need-add-b
 add-b c = search needs
@@ -46,7 +46,7 @@ few-requires-2 : tie.Need-few-requires-2
 few-requires-2 c κs = search needs
 
 returns-2 : tie.Need-returns-2
-returns-2 c = two-fields _ _ _ _ _ (record { stop = c .before .before .before .before .before .before .before .before .stop-at .ensures; within = c .before .before .before .before .before .before .before .if1 .taken; other = c .before .before .before .before .before .if2 .left }) (record { stop = c .before .before .before .before .stop-at2 .ensures; within = c .before .before .before .if3 .taken; lf = c .before .if4 .taken })  (c .few2 .ensures)
+returns-2 c = two-fields _ _ _ _ _ (record { stop = c .before .before .before .before .before .before .before .before .stop-at .ensures; within = c .before .before .before .before .before .before .before .if1 .taken; other = c .before .before .before .before .before .if2 .left }) (record { stop = c .before .before .before .before .stop-at2 .ensures; within = c .before .before .before .if3 .taken; lf = c .before .if4 .taken }) (c .few2 .ensures)
 
 add-c : tie.Need-add-c
 add-c c = search needs
@@ -73,7 +73,7 @@ few-requires-3 : tie.Need-few-requires-3
 few-requires-3 c κs = search needs
 
 returns-3 : tie.Need-returns-3
-returns-3 c = three-fields _ _ _ _ _ _ (record { stop = c .before .before .before .before .before .before .before .before .before .before .before .before .stop-at .ensures; within = c .before .before .before .before .before .before .before .before .before .before .before .if1 .taken; other = c .before .before .before .before .before .before .before .before .before .if2 .left }) (record { stop = c .before .before .before .before .before .before .before .before .stop-at2 .ensures; within = c .before .before .before .before .before .before .before .if3 .taken; other = c .before .before .before .before .before .if4 .left }) (record { stop = c .before .before .before .before .stop-at3 .ensures; within = c .before .before .before .if5 .taken; lf = c .before .if6 .taken })  (c .few3 .ensures)
+returns-3 c = three-fields _ _ _ _ _ _ (record { stop = c .before .before .before .before .before .before .before .before .before .before .before .before .stop-at .ensures; within = c .before .before .before .before .before .before .before .before .before .before .before .if1 .taken; other = c .before .before .before .before .before .before .before .before .before .if2 .left }) (record { stop = c .before .before .before .before .before .before .before .before .stop-at2 .ensures; within = c .before .before .before .before .before .before .before .if3 .taken; other = c .before .before .before .before .before .if4 .left }) (record { stop = c .before .before .before .before .stop-at3 .ensures; within = c .before .before .before .if5 .taken; lf = c .before .if6 .taken }) (c .few3 .ensures)
 
 add-d : tie.Need-add-d
 add-d c = search needs
@@ -103,7 +103,7 @@ few-requires-4 : tie.Need-few-requires-4
 few-requires-4 c κs = search needs
 
 returns-4 : tie.Need-returns-4
-returns-4 c = four-fields _ _ _ _ _ _ _ (record { stop = c .before .before .before .before .before .before .before .before .before .before .before .before .before .before .before .before .stop-at .ensures; within = c .before .before .before .before .before .before .before .before .before .before .before .before .before .before .before .if1 .taken; other = c .before .before .before .before .before .before .before .before .before .before .before .before .before .if2 .left }) (record { stop = c .before .before .before .before .before .before .before .before .before .before .before .before .stop-at2 .ensures; within = c .before .before .before .before .before .before .before .before .before .before .before .if3 .taken; other = c .before .before .before .before .before .before .before .before .before .if4 .left }) (record { stop = c .before .before .before .before .before .before .before .before .stop-at3 .ensures; within = c .before .before .before .before .before .before .before .if5 .taken; other = c .before .before .before .before .before .if6 .left }) (record { stop = c .before .before .before .before .stop-at4 .ensures; within = c .before .before .before .if7 .taken; lf = c .before .if8 .taken })  (c .few4 .ensures)
+returns-4 c = four-fields _ _ _ _ _ _ _ (record { stop = c .before .before .before .before .before .before .before .before .before .before .before .before .before .before .before .before .stop-at .ensures; within = c .before .before .before .before .before .before .before .before .before .before .before .before .before .before .before .if1 .taken; other = c .before .before .before .before .before .before .before .before .before .before .before .before .before .if2 .left }) (record { stop = c .before .before .before .before .before .before .before .before .before .before .before .before .stop-at2 .ensures; within = c .before .before .before .before .before .before .before .before .before .before .before .if3 .taken; other = c .before .before .before .before .before .before .before .before .before .if4 .left }) (record { stop = c .before .before .before .before .before .before .before .before .stop-at3 .ensures; within = c .before .before .before .before .before .before .before .if5 .taken; other = c .before .before .before .before .before .if6 .left }) (record { stop = c .before .before .before .before .stop-at4 .ensures; within = c .before .before .before .if7 .taken; lf = c .before .if8 .taken }) (c .few4 .ensures)
 
 any-fields-requires : tie.Need-any-fields-requires
 any-fields-requires c κs = search needs
