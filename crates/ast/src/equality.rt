@@ -121,8 +121,8 @@ fn same_root(catalog: &[u8], statement: &[u8], table: &[u32], i: usize, j: usize
     }
 }
 
-// Whether the trees at two rows are equal. An operand stands behind its record, so what is left of the table falls.
-pub fn equal(catalog: &[u8], statement: &[u8], table: &[u32], i: usize, j: usize) -> bool
+// Whether the trees at two rows are equal, root first. An operand stands behind its record, so what is left of the table falls.
+fn same_trees(catalog: &[u8], statement: &[u8], table: &[u32], i: usize, j: usize) -> bool
     ensures { λ r. ⌜ r ≡ equal (treeAt (now (catalog .entry)) (now (statement .entry)) (now (table .entry)) i) (treeAt (now (catalog .entry)) (now (statement .entry)) (now (table .entry)) j) ⌝ }
 {
     if !same_root(catalog, statement, table, i, j) {
@@ -135,7 +135,7 @@ pub fn equal(catalog: &[u8], statement: &[u8], table: &[u32], i: usize, j: usize
     let mut p = i + 1;
     let mut q = j + 1;
     while 0 < left {
-        if !equal(catalog, statement, table, p, q) {
+        if !same_trees(catalog, statement, table, p, q) {
             return false;
         }
         p = next(table, p);
@@ -143,4 +143,14 @@ pub fn equal(catalog: &[u8], statement: &[u8], table: &[u32], i: usize, j: usize
         left -= 1;
     }
     true
+}
+
+// Whether the trees at two rows are equal. Most are of two kinds, for which nothing is called.
+pub fn equal(catalog: &[u8], statement: &[u8], table: &[u32], i: usize, j: usize) -> bool
+    ensures { λ r. ⌜ r ≡ equal (treeAt (now (catalog .entry)) (now (statement .entry)) (now (table .entry)) i) (treeAt (now (catalog .entry)) (now (statement .entry)) (now (table .entry)) j) ⌝ }
+{
+    if kind(table, i) != kind(table, j) {
+        return false;
+    }
+    same_trees(catalog, statement, table, i, j)
 }

@@ -48,6 +48,10 @@ pub fn or_least(least: u32, most: u32, k: u32) -> u32
 pub fn kind(table: &[u32], r: usize) -> u32
     ensures { λ x. ⌜ x ≡ kindAt (now (table .entry)) r ⌝ }
 {
+    if r < table.len() / ROW_SIZE {
+        let i = ROW_SIZE * r;
+        return or_least(1, 8, table[i]);
+    }
     or_least(1, 8, at(table, r, 0))
 }
 

@@ -1,4 +1,4 @@
--- `equality::equal`: what is left of the table falls with each call; the operands left of both trees say what the whole trees say.
+-- `equality::same_trees`: what is left of the table falls with each call; the operands left of both trees say what the whole trees say.
 use Prim.Native.Nat.{ℕ, _*_, _-_, _<_}
 use native.Mathlib.Omega.{arith}
 use mathlib.Core.Path.{_≡_, sym, _∙_}
@@ -11,11 +11,11 @@ use Rattle.rules.specs.Equality as rules
 use Rattle.ast.specs.Operands.{operands-inside}
 use Rattle.ast.specs.Table.{rowSize, argumentsAt, treeAt}
 use Rattle.ast.proofs.EqualWalk.{same-operands, roots-differ, roots-same, equal-end, equal-more, equal-stop}
-use Rattle.ast.proofs.equality.+equal.{statement}
-use Rattle.ast.proofs.equality.+equal.Tie.{close}
-use Rattle.ast.proofs.equality.equal.Reads as equal
-use Rattle.ast.proofs.equality.equal.Kinds as equal-kinds
-use Rattle.ast.proofs.equality.+equal.Lts-equal as equal-lts
+use Rattle.ast.proofs.equality.+same_trees.{statement}
+use Rattle.ast.proofs.equality.+same_trees.Tie.{close}
+use Rattle.ast.proofs.equality.same_trees.Reads as equal
+use Rattle.ast.proofs.equality.same_trees.Kinds as equal-kinds
+use Rattle.ast.proofs.equality.+same_trees.Lts-same_trees as equal-lts
 use Rattle.ast.proofs.equality.same_root.Reads as same-root-reads
 use Rattle.ast.proofs.rows.next.Reads as next-reads
 use Rattle.ast.proofs.rows.operands.Reads as operands-reads
@@ -119,7 +119,7 @@ equal-loop-holds : (t : ℕ) → equal-lts.Need-loop-holds (
 ) (equal-at t) equal.Post equal-Inv-loop equal-μ-loop
 equal-loop-holds t c = (omega arith, operands-inside _ _ (λ e. c .if2 .left (c .before .operands .ensures ∙ e)), roots-same _ _ _ _ _ _ (sym (c .before .before .before .same-root .ensures) ∙ not-false _ (c .before .before .if1 .left)) (c .before .operands .ensures))
 
-equal-equal-requires : (t : ℕ) → equal-lts.Need-equal-requires (
+equal-same-trees-requires : (t : ℕ) → equal-lts.Need-same-trees-requires (
   same-root-reads.Asked,
   same-root-reads.Learnt,
   operands-reads.Asked,
@@ -129,7 +129,7 @@ equal-equal-requires : (t : ℕ) → equal-lts.Need-equal-requires (
   next-reads.Asked,
   next-reads.Learnt,
 ) (equal-at t) equal.Post equal-Inv-loop equal-μ-loop
-equal-equal-requires t c κs = search needs
+equal-same-trees-requires t c κs = search needs
 
 equal-returns-3 : (t : ℕ) → equal-lts.Need-returns-3 (
   same-root-reads.Asked,
@@ -141,7 +141,7 @@ equal-returns-3 : (t : ℕ) → equal-lts.Need-returns-3 (
   next-reads.Asked,
   next-reads.Learnt,
 ) (equal-at t) equal.Post equal-Inv-loop equal-μ-loop
-equal-returns-3 t c = sym (equal-stop _ _ _ _ _ (c .before .before .loop-test .taken) (sym (c .before .equal .ensures) ∙ not-true _ (c .if3 .taken))) ∙ c .before .before .before .loop .inv .2
+equal-returns-3 t c = sym (equal-stop _ _ _ _ _ (c .before .before .loop-test .taken) (sym (c .before .same-trees .ensures) ∙ not-true _ (c .if3 .taken))) ∙ c .before .before .before .loop .inv .2
 
 equal-next-requires : (t : ℕ) → equal-lts.Need-next-requires (
   same-root-reads.Asked,
@@ -201,7 +201,7 @@ equal-loop-again : (t : ℕ) → equal-lts.Need-loop-again (
   next-reads.Asked,
   next-reads.Learnt,
 ) (equal-at t) equal.Post equal-Inv-loop equal-μ-loop
-equal-loop-again t c = rw (c .before .next .ensures, c .next2 .ensures) (omega arith, c .before .before .before .before .before .loop .inv .1, equal-more _ _ _ _ _ (c .before .before .before .before .loop-test .taken) (sym (c .before .before .before .equal .ensures) ∙ not-false _ (c .before .before .if3 .left)) ∙ c .before .before .before .before .before .loop .inv .2)
+equal-loop-again t c = rw (c .before .next .ensures, c .next2 .ensures) (omega arith, c .before .before .before .before .before .loop .inv .1, equal-more _ _ _ _ _ (c .before .before .before .before .loop-test .taken) (sym (c .before .before .before .same-trees .ensures) ∙ not-false _ (c .before .before .if3 .left)) ∙ c .before .before .before .before .before .loop .inv .2)
 
 equal-returns-4 : (t : ℕ) → equal-lts.Need-returns-4 (
   same-root-reads.Asked,
@@ -215,8 +215,8 @@ equal-returns-4 : (t : ℕ) → equal-lts.Need-returns-4 (
 ) (equal-at t) equal.Post equal-Inv-loop equal-μ-loop
 equal-returns-4 t c = sym (equal-end _ _ _ _ _ (c .loop-test .left)) ∙ c .before .loop .inv .2
 
-pub +equal-spec : {M : Type 1} → statement M
-+equal-spec = close μ-equal λ t. equal-lts.spec (
+pub +same-trees-spec : {M : Type 1} → statement M
++same-trees-spec = close μ-equal λ t. equal-lts.spec (
   same-root-reads.Asked,
   same-root-reads.Learnt,
   operands-reads.Asked,
@@ -237,7 +237,7 @@ pub +equal-spec : {M : Type 1} → statement M
     (equal-add-p t)
     (equal-add-q t)
     (equal-loop-holds t)
-    (equal-equal-requires t)
+    (equal-same-trees-requires t)
     (equal-returns-3 t)
     (equal-next-requires t)
     (equal-next-requires-2 t)
