@@ -85,7 +85,7 @@ module _ {t : Bytes} {p₀ l₀ c₀ k₀ n₀ : ℕ} {cells₀ rows₀ : List �
               count = count;
               stand = stand;
               cells-kept = h .cells-kept;
-              stack-room = length-set stack (d - 1) (v + 1) ∙ h .stack-room;
+              stack-room = omega (arith, length-set stack (d - 1) (v + 1), h .stack-room);
               cells-room = h .cells-room;
               rows-room = h .rows-room;
             }

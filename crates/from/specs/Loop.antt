@@ -46,7 +46,7 @@ pub record TreeLoop (t : Bytes) (p₀ l₀ c₀ k₀ n₀ : ℕ) (cells₀ rows�
   pub opened : d ≡ length frames
   pub holds : Holds stack frames
   pub enough : length t < p + fuel
-  pub deep : 13 * d ≤ p
+  pub deep : p₀ + 13 * d ≤ p
   pub position : Position t p l c
   pub moved : p₀ ≤ p
   pub past : done ≡ true → p₀ < p
@@ -57,11 +57,11 @@ pub record TreeLoop (t : Bytes) (p₀ l₀ c₀ k₀ n₀ : ℕ) (cells₀ rows�
   pub stand : (cells″ : List ℕ) → Kept 0 (rowSize * c) cells cells″ → (b : Bytes)
       → treesBefore b t cells″ rows n ≡ held done tree (lefts frames) ++ treesBefore b t cells″ rows₀ n₀
   pub cells-kept : Kept 0 (rowSize * c₀) cells₀ cells
-  pub stack-room : length stack ≡ 5041
+  pub stack-room : length t < p₀ + 13 * length stack + 13
   pub cells-room : length cells ≡ tableSize
   pub rows-room : length rows ≡ 248
 
-pub loop-begin : {t : Bytes} {p l c k n : ℕ} {cells rows : List ℕ} (stack : List ℕ) → TreeReady t p l c k n cells rows → length stack ≡ 5041 → TreeLoop t p l c k n cells rows false p l c k n 0 stack cells rows
+pub loop-begin : {t : Bytes} {p l c k n : ℕ} {cells rows : List ℕ} (stack : List ℕ) → TreeReady t p l c k n cells rows → length t < p + 13 * length stack + 13 → TreeLoop t p l c k n cells rows false p l c k n 0 stack cells rows
 unfolding held Holds lefts turns
 loop-begin {t} {p} {l} {c} {k} {n} {cells} {rows} stack w h = record {
   frames = [];
@@ -179,6 +179,9 @@ module _ {t : Bytes} {p₀ l₀ c₀ k₀ n₀ : ℕ} {cells₀ rows₀ : List �
     pub push-room : d < 5041
     push-room = omega (arith, push-moves, next-within, h .position .short, h .deep)
 
+    pub push-within : d < length stack
+    push-within = omega (arith, push-moves, next-within, h .stack-room, h .deep)
+
     pub push-small : (r .kind ≤ 5) × (r .on ≤ 1)
     push-small = (omega (arith, joins .kind, join-small (joins .join) .1), omega (arith, joins .flag, flag-small (joins .on)))
 
@@ -197,7 +200,7 @@ module _ {t : Bytes} {p₀ l₀ c₀ k₀ n₀ : ℕ} {cells₀ rows₀ : List �
           is = ap (restOf false (h .fuel - 1) (first l j o ∷ h .frames) (h .tree)) (sym join-next)
               ∙ sym (rest-join (here t p l c k) (h .fuel - 1) (h .frames) (h .tree) j o _ (here-join (here t p l c k) j o (joins .is))) ∙ rest-is;
           opened = omega (arith, h .opened);
-          holds = holds-push stack d _ (first l j o) (h .frames) (h .opened) (omega (arith, push-room, h .stack-room)) (omega (arith, joins .kind, joins .flag)) (h .holds);
+          holds = holds-push stack d _ (first l j o) (h .frames) (h .opened) push-within (omega (arith, joins .kind, joins .flag)) (h .holds);
           enough = omega (arith, h .enough, push-moves);
           deep = omega (arith, h .deep, push-moves);
           position = next-position t p l c (r .next) (h .position) (said .next) (omega (arith, push-moves));
@@ -209,7 +212,7 @@ module _ {t : Bytes} {p₀ l₀ c₀ k₀ n₀ : ℕ} {cells₀ rows₀ : List �
           count = h .count;
           stand = h .stand;
           cells-kept = h .cells-kept;
-          stack-room = length-set stack d _ ∙ h .stack-room;
+          stack-room = omega (arith, length-set stack d (l * 32 + r .kind * 4 + r .on * 2), h .stack-room);
           cells-room = h .cells-room;
           rows-room = h .rows-room;
         }

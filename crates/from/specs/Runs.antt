@@ -22,6 +22,7 @@ use Rattle.read_expression.specs.Reading.{here, Position}
 use Rattle.from.specs.Layout.{treesBefore}
 use Rattle.from.specs.Roots.{trees-none, froms-are}
 use Rattle.from.specs.Contracts.{FromsRead}
+use Rattle.rules.specs.Limits.{mostBytes}
 use Rattle.from.specs.Records.{IsFromRow}
 use Rattle.from.specs.Trees.{TreeTook, TreeReady, TreeRead}
 use Rattle.from.specs.Loop.{loop-begin, loop-limit, loop-table}
@@ -35,21 +36,21 @@ use Rattle.from.specs.declared.Froms.the-variants as F
 unfoldable noJoins : List ℕ
 noJoins = replicate 5041 0
 
-no-joins : length noJoins ≡ 5041
+no-joins : (t : Bytes) (p : ℕ) → length t ≤ mostBytes → length t < p + 13 * length noJoins + 13
 unfolding noJoins
-no-joins = length-replicate {A = ℕ} 5041 0
+no-joins t p h = omega (arith, length-replicate {A = ℕ} 5041 0)
 
 module _ {t : Bytes} {p l c k n : ℕ} {cells rows : List ℕ} (w : TreeReady t p l c k n cells rows) {r : FromRecord}
     (f : (l c k : ℕ) → IsFromRow t (lineEnd t p) (oneOf fromHeads (lineHere (here t p l c k))) r) (z : r .kind ≡ 1) where
   pub table-limit : mostFromTables ≤ k → TreeRead t p l c k n cells cells rows rows (T.Limit l)
   unfolding TreeRead
-  table-limit m = loop-limit (loop-begin noJoins w no-joins) f z m
+  table-limit m = loop-limit (loop-begin noJoins w (no-joins t p (w .position .short))) f z m
 
   pub table-took : k < mostFromTables → (rows′ : List ℕ)
       → rows′ ≡ sets rows (rowSize * n) (1 ∷ l ∷ 0 ∷ r .a ∷ r .b ∷ r .c ∷ r .d ∷ 0 ∷ []) → length rows′ ≡ length rows
       → TreeRead t p l c k n cells cells rows rows′ (T.Done (r .next) (l + 1) c (k + 1) (n + 1))
   unfolding TreeRead
-  table-took m rows′ e g = loop-end (loop-table (loop-begin noJoins w no-joins) f z m rows′ e g) refl
+  table-took m rows′ e g = loop-end (loop-table (loop-begin noJoins w (no-joins t p (w .position .short))) f z m rows′ e g) refl
 
 -- ALL TREES
 abbrev pub fromWords : List Bytes

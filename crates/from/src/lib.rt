@@ -6,7 +6,7 @@ pub mod row;
 ghost use mathlib.Core.Path.{_≡_};
 ghost use mathlib.Core.Bool.{true, false};
 ghost use mathlib.Core.List.{List, [], _∷_};
-ghost use Prim.Native.Nat.{ℕ, _+_, _*_, _≤_};
+ghost use Prim.Native.Nat.{ℕ, _+_, _*_, _≤_, _<_};
 ghost use lib.ListN.{length};
 ghost use lib.Seq.{sets};
 ghost use Rattle.rules.specs.Reader.{optional};
@@ -30,6 +30,11 @@ const MOST_TABLES: u32 = 16;
 
 // Most joins that are open at once: the record of each has at least thirteen bytes.
 const MOST_OPEN: usize = 5041;
+
+// Enough of them where the rest of the text is short.
+const FEW_OPEN: usize = 64;
+
+const SHORT_REST: usize = 845;
 
 // What was read: the position behind it, its line, the expression rows and the FROM rows so far; or 2 or 3 at a line.
 pub enum Froms {
@@ -225,7 +230,7 @@ fn read_joins(
     cells: &mut [u32],
     rows: &mut [u32],
 ) -> Tree
-    requires { ⌜ TreeReady (now t) p l c k n (now cells) (now rows) ⌝ ∗ ⌜ length (now stack) ≡ 5041 ⌝ }
+    requires { ⌜ TreeReady (now t) p l c k n (now cells) (now rows) ⌝ ∗ ⌜ length (now t) < p + 13 * length (now stack) + 13 ⌝ }
     ensures { λ r. ⌜ TreeRead (now (t .entry)) p l c k n (now (cells .entry)) (now (cells .exit)) (now (rows .entry)) (now (rows .exit)) r ⌝ }
 {
     let mut s = Stand {
@@ -256,7 +261,7 @@ fn read_joins(
     }
 }
 
-// The same, with a stack of its own.
+// The same, with a stack of its own, long enough for the rest of the text.
 fn read_joined(
     t: &[u8],
     p: usize,
@@ -270,6 +275,10 @@ fn read_joined(
     requires { ⌜ TreeReady (now t) p l c k n (now cells) (now rows) ⌝ }
     ensures { λ r. ⌜ TreeRead (now (t .entry)) p l c k n (now (cells .entry)) (now (cells .exit)) (now (rows .entry)) (now (rows .exit)) r ⌝ }
 {
+    if t.len() - p < SHORT_REST {
+        let mut few = [0u32; FEW_OPEN];
+        return read_joins(t, p, l, c, k, n, &mut few, cells, rows);
+    }
     let mut stack = [0u32; MOST_OPEN];
     read_joins(t, p, l, c, k, n, &mut stack, cells, rows)
 }

@@ -2,7 +2,7 @@
 use native.Mathlib.Omega.{arith}
 use mathlib.Core.Bool.{false}
 use borrow.Author.Needs.{needs}
-use Rattle.from.specs.Loop.{loop-as, loop-wrong, loop-limit, next-within, table-moves, row-room, loop-table, push-moves, push-room, push-small, loop-push, table-falls, push-falls}
+use Rattle.from.specs.Loop.{loop-as, loop-wrong, loop-limit, next-within, table-moves, row-room, loop-table, push-moves, push-room, push-within, push-small, loop-push, table-falls, push-falls}
 use Rattle.from.specs.Turns.{TurnRead}
 use Rattle.from.proofs.next_side.Statement.{statement}
 use Rattle.from.proofs.next_side.Tie as tie
@@ -33,7 +33,7 @@ mul-stack-4 : tie.Need-mul-stack-4
 mul-stack-4 c = omega (arith, push-room (loop-as false (c .before .before .before .before .before .before .before .before .before .before .before .pre .1) (c .before .before .before .before .before .before .before .before .before .before .before .pre .0 .reading .reads)) (c .before .before .before .before .before .before .before .from-record .ensures) (c .before .before .before .before .before .if1 .left) (c .before .before .before .if2 .taken))
 
 slice-write-stack : tie.Need-slice-write-stack
-slice-write-stack c = omega (arith, push-room (loop-as false (c .before .before .before .before .before .before .before .before .before .before .before .pre .1) (c .before .before .before .before .before .before .before .before .before .before .before .pre .0 .reading .reads)) (c .before .before .before .before .before .before .before .from-record .ensures) (c .before .before .before .before .before .if1 .left) (c .before .before .before .if2 .taken), c .before .before .before .before .before .before .before .before .before .before .before .pre .0 .reading .reads .stack-room)
+slice-write-stack c = push-within (loop-as false (c .before .before .before .before .before .before .before .before .before .before .before .pre .1) (c .before .before .before .before .before .before .before .before .before .before .before .pre .0 .reading .reads)) (c .before .before .before .before .before .before .before .from-record .ensures) (c .before .before .before .before .before .if1 .left) (c .before .before .before .if2 .taken)
 
 add-t8 : tie.Need-add-t8
 add-t8 c = omega (arith, c .before .before .before .before .before .before .before .before .before .before .before .before .pre .0 .reading .reads .position .line, c .before .before .before .before .before .before .before .before .before .before .before .before .pre .0 .reading .reads .position .within, c .before .before .before .before .before .before .before .before .before .before .before .before .pre .0 .reading .reads .position .short)
