@@ -21,6 +21,12 @@ pub const TABLE_SIZE: usize = ROW_SIZE * (STATEMENT_ROWS as usize + STARRED_ROWS
 pub fn at(table: &[u32], r: usize, k: u32) -> u32
     ensures { λ x. ⌜ x ≡ at (now (table .entry)) r k ⌝ }
 {
+    if r < table.len() / ROW_SIZE {
+        if k < 8 {
+            let i = ROW_SIZE * r + k as usize;
+            return table[i];
+        }
+    }
     if table.len() / ROW_SIZE < r {
         return 0;
     }
@@ -48,10 +54,6 @@ pub fn or_least(least: u32, most: u32, k: u32) -> u32
 pub fn kind(table: &[u32], r: usize) -> u32
     ensures { λ x. ⌜ x ≡ kindAt (now (table .entry)) r ⌝ }
 {
-    if r < table.len() / ROW_SIZE {
-        let i = ROW_SIZE * r;
-        return or_least(1, 8, table[i]);
-    }
     or_least(1, 8, at(table, r, 0))
 }
 
