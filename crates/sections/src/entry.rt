@@ -1,7 +1,7 @@
 // The sections as they were read: how many entries one has, and each entry by its numbers, whatever the parts hold.
 ghost use mathlib.Core.Path.{_≡_};
 ghost use mathlib.Core.List.{List};
-ghost use Prim.Native.Nat.{ℕ, _<_, _^_};
+ghost use Prim.Native.Nat.{ℕ, _+_, _≤_, _<_, _^_};
 ghost use lib.ListN.{length};
 ghost use Rattle.rules.specs.Lists.{Bytes};
 ghost use Rattle.sections.specs.Layout.{startOf, sectionAt};
@@ -74,11 +74,35 @@ pub fn count(parts: &[u32], kind: u32) -> u32
     number(parts, start(kind))
 }
 
+// The entry whose numbers start at i, all of them inside.
+fn numbers_inside(parts: &[u32], i: usize) -> Entry
+    requires { ⌜ i + 12 ≤ length (now parts) ⌝ }
+    ensures { λ e. ⌜ e ≡ access.numbersFrom (now (parts .entry)) i ⌝ }
+{
+    Entry {
+        line: parts[i],
+        expressions: parts[i + 1],
+        row: parts[i + 2],
+        address: parts[i + 3],
+        length: parts[i + 4],
+        code: parts[i + 5],
+        key: parts[i + 6],
+        nullable: parts[i + 7],
+        unique: parts[i + 8],
+        index: parts[i + 9],
+        reference: parts[i + 10],
+        extent: parts[i + 11],
+    }
+}
+
 // The entry whose numbers start at i.
 fn numbers_from(parts: &[u32], i: usize) -> Entry
     requires { ⌜ i < 2 ^ 63 ⌝ }
     ensures { λ e. ⌜ e ≡ access.numbersFrom (now (parts .entry)) i ⌝ }
 {
+    if i + ENTRY_SIZE <= parts.len() {
+        return numbers_inside(parts, i);
+    }
     Entry {
         line: number(parts, i),
         expressions: number(parts, i + 1),

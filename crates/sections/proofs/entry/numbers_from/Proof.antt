@@ -3,6 +3,20 @@ use borrow.Author.Needs.{needs}
 use Rattle.sections.specs.Access.{numbersFrom}
 use Rattle.sections.proofs.entry.numbers_from.Statement.{statement}
 use Rattle.sections.proofs.entry.numbers_from.Tie as tie
+use Rattle.sections.proofs.entry.numbers_from.Reads as reads
+use Rattle.sections.proofs.entry.numbers_from.Lts as lts
+use Rattle.numbers.proofs.number.Reads as number-reads
+use Rattle.sections.proofs.entry.numbers_inside.Reads as numbers-inside-reads
+
+add-if1 : tie.Need-add-if1
+add-if1 c = search needs
+
+numbers-inside-requires : tie.Need-numbers-inside-requires
+numbers-inside-requires c κs = search needs
+
+returns : tie.Need-returns
+unfolding numbersFrom
+returns c = search needs
 
 number-requires : tie.Need-number-requires
 number-requires c κs = search needs
@@ -73,9 +87,9 @@ add-number-11 c = search needs
 number-requires-12 : tie.Need-number-requires-12
 number-requires-12 c κs = search needs
 
-returns : tie.Need-returns
+returns-2 : tie.Need-returns-2
 unfolding numbersFrom
-returns c = rw (
+returns-2 c = rw (
   c .before .before .before .before .before .before .before .before .before .before .before .number .ensures,
   c .before .before .before .before .before .before .before .before .before .before .number2 .ensures,
   c .before .before .before .before .before .before .before .before .before .number3 .ensures,
@@ -94,6 +108,9 @@ pub numbers-from-spec : {M : Type 1} → statement M
 numbers-from-spec =
     tie.close
     (tie.spec
+    add-if1
+    numbers-inside-requires
+    returns
     number-requires
     add-number
     number-requires-2
@@ -117,4 +134,4 @@ numbers-from-spec =
     number-requires-11
     add-number-11
     number-requires-12
-    returns)
+    returns-2)
