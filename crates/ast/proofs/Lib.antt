@@ -3,5 +3,6 @@ mod Equal
 mod Literals
 mod Roots
 mod EqualWalk
+mod Same
 mod Walks
 mod Collects

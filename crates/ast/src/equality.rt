@@ -1,5 +1,6 @@
 // Equality of two expressions of the table (ast.rs, PartialEq of Expression and Literal).
 ghost use mathlib.Core.Path.{_≡_};
+ghost use mathlib.Core.Bool.{not, _&&_};
 ghost use Prim.Native.Nat.{_+_, _<_};
 ghost use lib.Dec.{eqb};
 ghost use Rattle.rules.specs.Lists.{same};
@@ -8,6 +9,7 @@ ghost use Rattle.rules.specs.Equality.{sameValue, equal};
 ghost use Rattle.numbers.specs.Values.{valueAt};
 ghost use Rattle.numbers.specs.Codes.{orLeast};
 ghost use Rattle.ast.specs.Table.{at, rootAt, treeAt};
+ghost use Rattle.ast.specs.Operands.{kindAt};
 use crate::rows::at;
 use crate::rows::kind;
 use crate::rows::next;
@@ -145,12 +147,29 @@ fn same_trees(catalog: &[u8], statement: &[u8], table: &[u32], i: usize, j: usiz
     true
 }
 
-// Whether the trees at two rows are equal. Most are of two kinds, for which nothing is called.
+// Whether the records at two rows are of two kinds, the second no star.
+fn are_apart(table: &[u32], i: usize, j: usize) -> bool
+    ensures { λ r. ⌜ r ≡ (not (eqb (kindAt (now (table .entry)) j) 1) && not (eqb (kindAt (now (table .entry)) i) (kindAt (now (table .entry)) j))) ⌝ }
+{
+    let k = kind(table, j);
+    if k == 1 {
+        return false;
+    }
+    if at(table, i, 0) == k {
+        return false;
+    }
+    true
+}
+
+// Whether the trees at two rows are equal. For rows of two kinds, and for one row, no tree is walked.
 pub fn equal(catalog: &[u8], statement: &[u8], table: &[u32], i: usize, j: usize) -> bool
     ensures { λ r. ⌜ r ≡ equal (treeAt (now (catalog .entry)) (now (statement .entry)) (now (table .entry)) i) (treeAt (now (catalog .entry)) (now (statement .entry)) (now (table .entry)) j) ⌝ }
 {
-    if kind(table, i) != kind(table, j) {
+    if are_apart(table, i, j) {
         return false;
+    }
+    if i == j {
+        return true;
     }
     same_trees(catalog, statement, table, i, j)
 }
