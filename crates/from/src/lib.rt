@@ -31,7 +31,7 @@ const MOST_TABLES: u32 = 16;
 // Most joins that are open at once: the record of each has at least thirteen bytes.
 const MOST_OPEN: usize = 5041;
 
-// Enough of them where the rest of the text is short.
+// Most of them where the rest of the text has fewer than SHORT_REST bytes, which is 13 * 65.
 const FEW_OPEN: usize = 64;
 
 const SHORT_REST: usize = 845;
