@@ -3,10 +3,6 @@ use borrow.Author.Needs.{needs}
 use Rattle.sections.specs.Access.{numbersFrom}
 use Rattle.sections.proofs.entry.numbers_from.Statement.{statement}
 use Rattle.sections.proofs.entry.numbers_from.Tie as tie
-use Rattle.sections.proofs.entry.numbers_from.Reads as reads
-use Rattle.sections.proofs.entry.numbers_from.Lts as lts
-use Rattle.numbers.proofs.number.Reads as number-reads
-use Rattle.sections.proofs.entry.numbers_inside.Reads as numbers-inside-reads
 
 add-if1 : tie.Need-add-if1
 add-if1 c = search needs
