@@ -4,7 +4,9 @@
 
 use judge::compare::{Reason, Verdict, compare};
 use judge::generate::Case;
+use judge::planning;
 use judge::predict::predict;
+use judge::random::Random;
 
 const T: &str =
     "table t 0/column a int null/nodefault/column b int null/nodefault/column c int null/nodefault/";
@@ -14,7 +16,7 @@ fn bytes(text: &str) -> Vec<u8> {
     text.replace(' ', "\t").replace('/', "\n").into_bytes()
 }
 
-/// The printed answer begins so, and does not differ from the Rust planner's.
+/// The printed answer begins so, does not differ from the Rust planner's, and is that of the proved planner.
 fn prints(catalog: &str, statement: &str, listing: &str) {
     let case = Case { catalog: bytes(catalog), statement: bytes(statement) };
     let predicted = predict(&case.catalog, &case.statement).listing;
@@ -25,11 +27,41 @@ fn prints(catalog: &str, statement: &str, listing: &str) {
     );
     let verdict = compare(&case, &predicted);
     let held = match verdict {
-        Verdict::Agree(_) | Verdict::Apart(_, Reason::Reading | Reason::NotOfTheRust) => true,
+        Verdict::Agree(_) => true,
+        Verdict::Apart(_, Reason::Reading | Reason::NotOfTheRust | Reason::TooLarge) => true,
         Verdict::Apart(_, Reason::NoSources) => !cfg!(planner),
         Verdict::Apart(..) | Verdict::Differ(_) => false,
     };
     assert!(held, "{statement}: {verdict:?}");
+    if planning::AVAILABLE {
+        assert_eq!(planning::printed(&case, &mut Random::new(1, 1)), Ok(predicted), "{statement}");
+    }
+}
+
+/// A catalog of one table, `t`, with so many columns `c0`, `c1` ..
+fn wide(columns: usize) -> String {
+    let columns = (0..columns).map(|i| format!("column c{i} int null/nodefault/"));
+    format!("table t 0/{}", columns.collect::<String>())
+}
+
+/// Both operands of a `ge` are shared, however deep: 17 names and three cells for each of sixteen.
+#[test]
+fn sixteen_chained_comparisons() {
+    let chain = (0..16).fold("col c16".to_string(), |chain, i| format!("op ge/col c{}/{chain}", 15 - i));
+    prints(&wide(17), &format!("select/item/{chain}/from t/end/"), "plan select 2 65/");
+}
+
+/// 512 expression cells and 256 columns are taken; one more is 3, at the record that passes the limit.
+#[test]
+fn cells_and_columns_at_their_limits() {
+    let items = format!("item/{}int 1/", "op not/".repeat(7)).repeat(64);
+    prints("", &format!("select/{items}end/"), "plan select 2 512/");
+    prints("", &format!("select/{items}where/bool t/end/"), "refused 3 statement 579/");
+    let four = "table t 0/".to_string() + &"column c int null/nodefault/".repeat(64);
+    let star = |joined: &str| format!("select/item/star/from t a/from t b/from t d/from t/{joined}end/");
+    prints(&four, &star(""), "plan select 7 0/");
+    let one = "table u 0/column c int null/nodefault/";
+    prints(&format!("{four}{one}"), &star("from u/"), "refused 3 statement 8/");
 }
 
 #[test]
