@@ -35,6 +35,10 @@ unfolding Within Whole
 whole s (I.Bytes n) l h = (h, λ m. omega arith)
 whole s I.Failed l h = tt
 
+pub filled : (s : List ℕ) (r : In.Input) {n : ℕ} → Within s r → r ≡ I.Bytes n → Counts n s
+unfolding Within
+filled s r h e = rw e at h
+
 pub counted : (s : List ℕ) (r : In.Input) {n : ℕ} → Whole s r → r ≡ I.Bytes n → Counts n s
 unfolding Whole
 counted s r h e = (rw e at h) .0

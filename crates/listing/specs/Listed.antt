@@ -29,10 +29,10 @@ unfoldable pub Told : ℕ → Ls.Listed → Type 0
 Told left (L.Bytes n) = (0 < left) × (n ≡ 65536 - left)
 Told left L.Full = left ≡ 0
 
--- the bytes b are the first n of the window and end there, or they fill it
+-- the bytes b are the first n of the window and end there, or fill all of it
 unfoldable pub Holds : Bytes → List ℕ → Ls.Listed → Type 0
 Holds b s (L.Bytes n) = (n < length s) × (take n s ≡ b)
-Holds b s L.Full = s ≡ take (length s) b
+Holds b s L.Full = (length s ≡ 65536) × (s ≡ take 65536 b)
 
 pub told-full : (left : ℕ) → left ≡ 0 → Told left L.Full
 unfolding Told
@@ -62,7 +62,7 @@ module _ {s s′ : List ℕ} {b : Bytes} {at left : ℕ} (from : ℕ) (w : lengt
       (omega (arith, t .0, t .1, h .room, w), rw (t .1) (put-window ∙ ap (drop from) (take-all at b l)))
   held L.Full t =
       let l : length s′ ≡ 65536 = h .room ∙ w in
-      sym (take-length s′) ∙ rw (l) (rw (t) at put-window ∙ ap (λ i. drop from (take i b)) a ∙ drop-take from 65536 b)
+      (l, sym (take-length s′) ∙ rw (l) (rw (t) at put-window ∙ ap (λ i. drop from (take i b)) a ∙ drop-take from 65536 b))
 
 -- WHAT A CALLER KNOWS
 module _ (b : Bytes) (s : List ℕ) {r : Ls.Listed} (h : Holds b s r) where
@@ -74,7 +74,7 @@ module _ (b : Bytes) (s : List ℕ) {r : Ls.Listed} (h : Holds b s r) where
   unfolding Holds
   ended e = (rw e at h) .1
 
-  pub filled : r ≡ L.Full → s ≡ take (length s) b
+  pub filled : r ≡ L.Full → (length s ≡ 65536) × (s ≡ take 65536 b)
   unfolding Holds
   filled e = rw e at h
 
