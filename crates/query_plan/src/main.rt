@@ -1,5 +1,5 @@
 // The planning program: reads `catalog.txt` where it runs and a statement on standard input, and prints the listing of the
-// plan, or the refusal.
+// plan, or the refusal. The record that a refusal points at is shown on standard error.
 ghost use mathlib.Core.Path.{_≡_};
 ghost use lib.ListN.{drop};
 ghost use Rattle.rules.specs.Listing.{listing};
@@ -7,6 +7,7 @@ ghost use Rattle.listing.specs.Listed.{Holds};
 ghost use Rattle.plan_listing.specs.Shown.{shown};
 use input::Input;
 use input::SIZE;
+use lines::line_at;
 use listing::Listed;
 use listing::WINDOW;
 use listing::Window;
@@ -14,6 +15,7 @@ use plan_listing::list_outcome;
 use planner::LEAST_AREA;
 use planner::Outcome;
 use planner::planner_plan;
+use reader::CATALOG;
 
 // Most windows that are printed: a listing of 4 GiB. No plan in an area has as much.
 const MOST_WINDOWS: u32 = 65536;
@@ -75,11 +77,33 @@ fn print(catalog: &[u8], statement: &[u8], outcome: Outcome, area: &[u32])
     os::fail(b"listing too long");
 }
 
-// Plans both texts and prints the listing.
+// The n-th line of a text, on standard error; nothing where there is none.
+fn show_line(text: &[u8], n: u32) {
+    let line = line_at(text, n);
+    if 0 < line.len() {
+        io::write_all(libc::STDERR_FILENO, line);
+        io::write_all(libc::STDERR_FILENO, b"\n");
+    }
+}
+
+// The record that a refusal points at, for whoever has to mend it.
+fn show_record(catalog: &[u8], statement: &[u8], outcome: Outcome) {
+    if outcome.number == 0 {
+        return;
+    }
+    if outcome.text == CATALOG {
+        show_line(catalog, outcome.line);
+        return;
+    }
+    show_line(statement, outcome.line);
+}
+
+// Plans both texts and prints the listing; of a refusal also the record that it points at.
 fn plan(catalog: &[u8], statement: &[u8]) {
     let mut area = [0u32; LEAST_AREA];
     let outcome = planner_plan(catalog, statement, &mut area);
     print(catalog, statement, outcome, &area);
+    show_record(catalog, statement, outcome);
 }
 
 fn main() {

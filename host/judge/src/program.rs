@@ -46,6 +46,18 @@ impl fmt::Display for Fault {
 /// More bytes than this are no answer.
 const MOST_PRINTED: u64 = 1 << 24;
 
+/// The record that a printed refusal points at, with a line end.
+fn pointed_at(case: &Case, printed: &[u8]) -> Option<Vec<u8>> {
+    let printed = str::from_utf8(printed).ok()?.strip_suffix('\n')?;
+    let ["refused", _, text, line] = printed.split('\t').collect::<Vec<_>>()[..] else {
+        return None;
+    };
+    let text = if text == "catalog" { &case.catalog } else { &case.statement };
+    let line = line.parse::<usize>().ok()?.checked_sub(1)?;
+    let record = text.split(|&byte| byte == b'\n').nth(line)?;
+    Some([record, b"\n"].concat())
+}
+
 impl Program {
     /// A program that is stopped when it takes longer than the limit.
     pub fn new(path: &Path, limit: Duration) -> Result<Self, String> {
@@ -62,7 +74,7 @@ impl Program {
         let statement = self.folder.join("statement.txt");
         fs::write(&statement, &case.statement)?;
         let child = self.start(&case.catalog, File::open(&statement)?.into())?;
-        self.printed(child)
+        self.printed(child, case)
     }
 
     /// What it prints of a case whose statement comes through a pipe, so many bytes at a time.
@@ -72,7 +84,7 @@ impl Program {
         let statement = case.statement.clone();
         // Where it has seen that the statement is too long, or has ended, the rest is not taken.
         thread::spawn(move || statement.chunks(bytes).try_for_each(|piece| pipe.write_all(piece)));
-        self.printed(child)
+        self.printed(child, case)
     }
 
     fn start(&self, catalog: &[u8], statement: Stdio) -> io::Result<Child> {
@@ -82,8 +94,9 @@ impl Program {
         command.stdout(Stdio::piped()).stderr(Stdio::piped()).spawn()
     }
 
-    /// What it prints, where it ends in time and well, and says nothing on standard error.
-    fn printed(&self, mut child: Child) -> Result<Vec<u8>, Fault> {
+    /// What it prints of a case, where it ends in time and well. On standard error it says nothing, or shows the record that
+    /// its refusal points at.
+    fn printed(&self, mut child: Child, case: &Case) -> Result<Vec<u8>, Fault> {
         let output = collected(child.stdout.take().expect("standard output is a pipe"));
         let errors = collected(child.stderr.take().expect("standard error is a pipe"));
         let Some(status) = self.wait(&mut child)? else {
@@ -93,7 +106,7 @@ impl Program {
             from.recv_timeout(self.limit).map_err(|_| Fault::Ended("its output was not closed".to_string()))
         };
         let (output, errors) = (read(output)?, read(errors)?);
-        if !errors.is_empty() {
+        if !errors.is_empty() && Some(&errors) != pointed_at(case, &output).as_ref() {
             return Err(Fault::Ended(format!("standard error: {}", errors.escape_ascii())));
         }
         if output.len() as u64 > MOST_PRINTED {

@@ -1,6 +1,8 @@
 //! The planning program: what it prints of stored questions, at the limits, and of generated cases.
 
+use std::fs::File;
 use std::path::Path;
+use std::process::Command;
 use std::time::Duration;
 
 use judge::generate::{Case, case, edges, limits, pairs};
@@ -55,6 +57,28 @@ fn stored_answers_are_printed() {
         let case = Case { catalog: bytes(catalog), statement: bytes(statement) };
         assert_eq!(printed(&case), bytes(answer).escape_ascii().to_string(), "{statement}");
     }
+}
+
+/// Beside the refusal on standard output, the record that it points at is on standard error.
+#[test]
+#[cfg_attr(not(planning_program), ignore = "`rt check query_plan` was not run")]
+fn the_record_at_fault_is_shown() {
+    let run = |catalog: &str, statement: &str| {
+        let folder = std::env::temp_dir().join(format!("query_plan-{}", std::process::id()));
+        std::fs::create_dir_all(&folder).expect("the folder is made");
+        std::fs::write(folder.join("catalog.txt"), bytes(catalog)).expect("the catalog is written");
+        std::fs::write(folder.join("statement.txt"), bytes(statement)).expect("the statement is written");
+        let statement = File::open(folder.join("statement.txt")).expect("the statement is there");
+        let tool = concat!(env!("CARGO_MANIFEST_DIR"), "/../tools/query_plan");
+        let output = Command::new(tool).current_dir(&folder).stdin(statement).output().expect("it runs");
+        std::fs::remove_dir_all(&folder).expect("the folder is removed");
+        (output.stdout, output.stderr)
+    };
+    let (select, wrong) = ("select/item/col a/end/", "table t 0/column a int/");
+    assert_eq!(run("", select), (bytes("refused 10 statement 3/"), bytes("col a/")));
+    assert_eq!(run(wrong, select), (bytes("refused 2 catalog 2/"), bytes("column a int/")));
+    assert_eq!(run("", "select/"), (bytes("refused 2 statement 2/"), Vec::new()));
+    assert_eq!(run("", "drop t no/end/"), (bytes("plan drop 0 0/drop t no/"), Vec::new()));
 }
 
 #[test]

@@ -16,6 +16,9 @@ slice-aggregate-print c = search needs
 print-requires : tie.Need-print-requires
 print-requires c κs = planned-shown _ _ _ (search needs) (c .before .before .planner-plan .ensures)
 
+show-record-requires : tie.Need-show-record-requires
+show-record-requires c κs = search needs
+
 returns : tie.Need-returns
 returns c = search needs
 
@@ -27,4 +30,5 @@ plan-spec =
     planner-plan-requires
     slice-aggregate-print
     print-requires
+    show-record-requires
     returns)
