@@ -17,7 +17,8 @@ use Rattle.rules.specs.Listing.{listing}
 use Rattle.claims.specs.Area.Accepted.{accepted}
 use Rattle.listing.specs.Own.{showArea}
 use Rattle.listing.specs.Shown.{accepted-shown}
-use Rattle.listing.specs.Listed.{refusalLine, refusal-shown}
+use Rattle.listing.specs.Listed.{Holds, refusalLine, refusal-shown}
+use Rattle.listing.specs.declared.Listed.{Listed}
 use Rattle.planner.specs.Outcomes.{Answers}
 use Rattle.planner.specs.declared.Outcome.{Outcome}
 use Rattle.plan_listing.specs.Numbers.{not-zero}
@@ -64,3 +65,8 @@ pub planned-shown : (c q : Bytes) (a : List ℕ) {o : Outcome} {area : List ℕ}
     → Answers (plan c q a) o area → shown c q o area ≡ listing c q
 unfolding plan
 planned-shown c q a {o} {area} l h = answer-shown c q a (entry (length a) c q) o area refl h ∙ listed c q (length a) l
+
+-- both texts listed from the start on: r tells how much of the listing the window has, and the area is the planner's
+pub record Lists (c q : Bytes) (area area′ out : List ℕ) (r : Listed) : Type 0 where
+  pub listed : Holds (listing c q) out r
+  pub area-is : area′ ≡ plan c q area .area

@@ -1,9 +1,7 @@
 // What the planning program prints: the listing of the plan that the planner made of two texts, or of its refusal.
-ghost use mathlib.Core.Path.{_≡_};
 ghost use lib.ListN.{drop};
-ghost use Rattle.rules.specs.Listing.{listing};
 ghost use Rattle.listing.specs.Listed.{Holds};
-ghost use Rattle.plan_listing.specs.Shown.{shown};
+ghost use Rattle.plan_listing.specs.Shown.{shown, Lists};
 use listing::Listed;
 use listing::Window;
 use planner::LEAST_AREA;
@@ -33,7 +31,8 @@ pub fn list_outcome(
 
 // Both texts planned, and the start of their listing: whatever the texts are, and whatever the area holds.
 pub fn list_plan(catalog: &[u8], statement: &[u8], area: &mut Area, out: &mut Window) -> Listed
-    ensures { λ r. ⌜ Holds (listing (now (catalog .entry)) (now (statement .entry))) (now (out .exit)) r ⌝ }
+    ensures { λ r. ⌜ Lists (now (catalog .entry)) (now (statement .entry)) (now (area .entry)) (now (area .exit))
+        (now (out .exit)) r ⌝ }
 {
     let outcome = planner_plan(catalog, statement, area);
     list_outcome(catalog, statement, outcome, area, 0, out)

@@ -17,6 +17,7 @@ pub struct Program {
     path: PathBuf,
     folder: PathBuf,
     limit: Duration,
+    shows: bool,
 }
 
 /// Why there is no answer.
@@ -55,7 +56,7 @@ fn pointed_at(case: &Case, printed: &[u8]) -> Option<Vec<u8>> {
     let text = if text == "catalog" { &case.catalog } else { &case.statement };
     let line = line.parse::<usize>().ok()?.checked_sub(1)?;
     let record = text.split(|&byte| byte == b'\n').nth(line)?;
-    Some([record, b"\n"].concat())
+    (!record.is_empty()).then(|| [record, b"\n"].concat())
 }
 
 impl Program {
@@ -66,7 +67,14 @@ impl Program {
         let number = MADE.fetch_add(1, Ordering::Relaxed);
         let folder = std::env::temp_dir().join(format!("judge-{}-{number}", process::id()));
         fs::create_dir_all(&folder).map_err(|error| format!("{}: {error}", folder.display()))?;
-        Ok(Program { path, folder, limit })
+        Ok(Program { path, folder, limit, shows: false })
+    }
+
+    /// The same program, which has to show the record that a refusal points at.
+    #[must_use]
+    pub fn showing_records(mut self) -> Self {
+        self.shows = true;
+        self
     }
 
     /// What it prints of a case.
@@ -106,7 +114,8 @@ impl Program {
             from.recv_timeout(self.limit).map_err(|_| Fault::Ended("its output was not closed".to_string()))
         };
         let (output, errors) = (read(output)?, read(errors)?);
-        if !errors.is_empty() && Some(&errors) != pointed_at(case, &output).as_ref() {
+        let shown = pointed_at(case, &output).unwrap_or_default();
+        if errors != shown && (self.shows || !errors.is_empty()) {
             return Err(Fault::Ended(format!("standard error: {}", errors.escape_ascii())));
         }
         if output.len() as u64 > MOST_PRINTED {

@@ -11,7 +11,8 @@ use judge::program::Program;
 
 fn program() -> Program {
     let path = concat!(env!("CARGO_MANIFEST_DIR"), "/../tools/query_plan");
-    Program::new(Path::new(path), Duration::from_secs(60)).expect("`rt check query_plan` was run")
+    let program = Program::new(Path::new(path), Duration::from_secs(60));
+    program.expect("`rt check query_plan` was run").showing_records()
 }
 
 fn printed(case: &Case) -> String {

@@ -6,7 +6,7 @@ use std::thread;
 use judge::entry::{Answer, LEAST_AREA, plan};
 use judge::generate::{Case, edges, limits, pairs};
 
-/// What docs/DECISIONS.md says that planning takes at most, and what the thread itself needs.
+/// More than any case here was seen to take, with what the thread itself needs.
 const STACK: usize = 320 * 1024;
 
 /// Plans the cases one after the other; how many of them are planned.

@@ -1,5 +1,4 @@
 -- `record_at`: by the fields of its line.
--- template: `@thing` stands for the path from the need's `c` to `thing`, `@(thing)` for the record that has it
 use borrow.Author.Needs.{needs}
 use borrow.Author.Tests.{not-true, not-false}
 use mathlib.Core.Path.{_∙_}

@@ -12,8 +12,13 @@ list-outcome-requires c κs = search needs
 
 returns : tie.Need-returns
 returns c =
-    let a = c .before .before .before .before .before .before .before .before .args in
-    rw (planned-shown (a .catalog .now) (a .statement .now) (a .area .now) (search needs) (c .before .before .before .before .planner-plan .ensures)) at (c .list-outcome .ensures)
+    let planned = c .before .before .before .before in
+    let a = planned .before .before .before .before .args in
+    record {
+      listed = rw (planned-shown (a .catalog .now) (a .statement .now) (a .area .now) (search needs)
+          (planned .planner-plan .ensures)) at (c .list-outcome .ensures);
+      area-is = planned .planner-plan .ensures .area-is;
+    }
 
 pub list-plan-spec : {M : Type 1} → statement M
 list-plan-spec = tie.close (tie.spec planner-plan-requires list-outcome-requires returns)

@@ -10,7 +10,7 @@ holds-requires : tie.Need-holds-requires
 holds-requires c κs = search needs
 
 returns : tie.Need-returns
-returns c = c .holds .ensures _ (c .before .before .list-plan .ensures)
+returns c = c .holds .ensures _ (c .before .before .list-plan .ensures .listed)
 
 pub agrees-spec : {M : Type 1} → statement M
 agrees-spec = tie.close (tie.spec list-plan-requires holds-requires returns)

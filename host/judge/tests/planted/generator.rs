@@ -2,7 +2,7 @@
 //! that the tests ask for notice them.
 
 use judge::compare::{Kind, STATEMENTS, Tally, compare};
-use judge::generate::{Case, Known, case, limits, pairs};
+use judge::generate::{Case, case};
 use judge::predict::predict;
 
 use super::Named;
@@ -42,27 +42,4 @@ fn faults_of_the_generator_are_noticed() {
         assert!(lacks.is_some(), "{what}");
     }
     assert!(lacks(&tally((0..3_000).map(|_| case(47, 0)))).is_some(), "one case is made again and again");
-}
-
-/// A limit that is noticed one record later, or not at all, or one too early.
-#[test]
-fn faults_of_what_is_known_are_noticed() {
-    let mut cases = 0;
-    for Known { what, case, refusal } in limits::all().into_iter().chain(pairs::all()) {
-        let predicted = predict(&case.catalog, &case.statement).refusal;
-        let later = refusal.map(|mut refusal| {
-            refusal.line += 1;
-            refusal
-        });
-        let other = refusal.map(|mut refusal| {
-            refusal.number ^= 1;
-            refusal
-        });
-        assert_eq!(predicted, refusal, "{what}");
-        for fault in [later, other, None].into_iter().filter(|fault| *fault != refusal) {
-            assert_ne!(predicted, fault, "{what}");
-            cases += 1;
-        }
-    }
-    assert!(cases >= 100, "{cases} cases");
 }
