@@ -7,7 +7,7 @@ use mathlib.Core.List.{List, [], _∷_, map}
 use mathlib.Core.Option.{Option, none, some}
 use lib.Dec.{eqb, ltb}
 use lib.ListN.{length, take, length-map}
-use borrow.Author.Tests.{eq-eqb, ne-eqb, ltb-true, ltb-false, eqb-true, eqb-false}
+use borrow.Author.Tests.{ltb-true, ltb-false, eqb-true, eqb-false}
 use Rattle.rules.specs.Limits.{mostBytes}
 use Rattle.rules.specs.Lists.{Bytes}
 use Rattle.rules.specs.Lines.{Word}
@@ -24,11 +24,12 @@ use Rattle.scope.specs.Labels.{slotOf, packed, slot-packed, Fits, labelAt, colu
 use Rattle.scope.specs.Slots.{Below, none, more}
 use Rattle.scope.specs.Scopes.{labelsOf, tableNumbers}
 use Rattle.scope.specs.declared.Scope.{Scope}
-use Rattle.scope.specs.LabelOf.{passedNumber, Passed, passed-label, passed-slot, item-alias}
+use Rattle.scope.specs.LabelOf.{passed-label, passed-slot, item-alias}
 use Rattle.build_expression.specs.Builds.{scopeAt}
 use Rattle.build_projection.specs.Stars.{starredAt}
 use Rattle.build_projection.specs.Items.{entryItem, itemOf}
 use Rattle.build_projection.specs.Aliases.{rowOf, aliasAddress, aliasLength, item-tree, alias-span}
+use Rattle.build_projection.specs.Labels.{labelNumber, number-passed, number-alias}
 
 -- an alias that a label has room for: every name of a statement that was read is one
 pub record AliasFits (w : Word) : Type 0 where
@@ -38,31 +39,10 @@ pub record AliasFits (w : Word) : Type 0 where
 abbrev pub AliasesFit : List Item → Type 0
 AliasesFit is′ = All (λ (i : Item). Given AliasFits (i .alias)) is′
 
--- the label of item x over the labels xs, to whose columns ms are matched, and the tables ts
-unfoldable pub labelNumber : Bytes → Bytes → List ℕ → List ℕ → List ℕ → List ℕ → List ℕ → ℕ → ℕ
-labelNumber c q t parts xs ms ts x = elim (eqb (aliasLength c q parts x) 0) [
-  | true ↦ passedNumber xs (scopeAt c q t xs ms ts 0) (treeAt c q t (rowOf parts x))
-  | false ↦ packed 0 (aliasAddress parts x) (aliasLength c q parts x)
-]
-
-module _ (c q : Bytes) (t parts xs ms ts : List ℕ) (x : ℕ) where
-  number-passed : aliasLength c q parts x ≡ 0 → labelNumber c q t parts xs ms ts x
-      ≡ passedNumber xs (scopeAt c q t xs ms ts 0) (treeAt c q t (rowOf parts x))
-  unfolding labelNumber
-  number-passed h = rw (labelNumber, eq-eqb _ 0 h)
-
-  number-alias : (aliasLength c q parts x ≡ 0 → ⊥) → labelNumber c q t parts xs ms ts x
-      ≡ packed 0 (aliasAddress parts x) (aliasLength c q parts x)
-  unfolding labelNumber
-  number-alias h = rw (labelNumber, ne-eqb _ 0 h)
-
-  pub label-alias : {a n l : ℕ} → n ≡ aliasLength c q parts x → (n ≡ 0 → ⊥) → a ≡ aliasAddress parts x
-      → l ≡ packed 0 a n → l ≡ labelNumber c q t parts xs ms ts x
-  label-alias {a} {n} {l} e h f g = rw (number-alias (λ z. h (e ∙ z)), ← e, ← f) g
-
-  pub label-passed : {n r l : ℕ} → n ≡ aliasLength c q parts x → n ≡ 0 → r ≡ rowOf parts x
-      → Passed c q xs ms ts (treeAt c q t r) l → l ≡ labelNumber c q t parts xs ms ts x
-  label-passed {n} {r} {l} e h f g = rw (number-passed (sym e ∙ h), ← f) (g .is (treeAt c q t) 0)
+-- the labels of items over a scope
+abbrev pub itemLabels : Bytes → Bytes → List ℕ → List ℕ → Scope → List ℕ → List ℕ
+itemLabels c q t parts s items =
+    map (labelNumber c q t parts (labelsOf s) (take (s .width) (s .matches)) (tableNumbers s)) items
 
 -- ALIASES
 take-again : (n : ℕ) (l : Bytes) → take (length (take n l)) l ≡ take n l
@@ -156,8 +136,7 @@ rows-are c q t parts (x ∷ items) = rw (item-tree c q t parts x, rows-are c q t
 
 -- HOW MANY
 pub labels-length : (c q : Bytes) (t parts : List ℕ) (s : Scope) (items : List ℕ) {xs : List ℕ}
-    → xs ≡ map (labelNumber c q t parts (labelsOf s) (take (s .width) (s .matches)) (tableNumbers s)) items
-    → length items ≡ length xs
+    → xs ≡ itemLabels c q t parts s items → length items ≡ length xs
 labels-length c q t parts s items e = sym (ap length e ∙ length-map items (labelNumber c q t parts (labelsOf s) (take (s .width) (s .matches)) (tableNumbers s)))
 
 pub rows-length : (parts items : List ℕ) {xs : List ℕ} → xs ≡ map (rowOf parts) items → length items ≡ length xs

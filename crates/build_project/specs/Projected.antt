@@ -22,7 +22,8 @@ use Rattle.scope.specs.Items.{ItemsFit, ItemsProjected}
 use Rattle.scope.specs.declared.Scope.{Scope}
 use Rattle.build_projection.specs.Items.{itemOf}
 use Rattle.build_projection.specs.Aliases.{rowOf}
-use Rattle.build_project.specs.Labels.{labelNumber, labels-are, labels-below, rows-are}
+use Rattle.build_projection.specs.Labels.{labelNumber}
+use Rattle.build_project.specs.Labels.{itemLabels, labels-are, labels-below, rows-are}
 use Rattle.build_project.specs.Ready.{ItemsReady}
 
 pub record ScopeProjected (c q : Bytes) (cells parts items : List ℕ) (s r : Scope) : Type 0 where
@@ -76,7 +77,7 @@ module _ {c q : Bytes} {t parts items : List ℕ} {s : Scope} (f : ItemsReady c 
   unfolding scopeOf
   here-labels = rw (f .shown) (labels-are c q t parts (labelsOf s) (take (s .width) (s .matches)) (tableNumbers s) items (f .aliases))
 
-  module _ {xs : List ℕ} (ex : xs ≡ map here items) where
+  module _ {xs : List ℕ} (ex : xs ≡ itemLabels c q t parts s items) where
     below : Below (s .count) xs
     below = rw ex (labels-below c q t parts (labelsOf s) (take (s .width) (s .matches)) (tableNumbers s) (s .count) items (f .valid .slots))
 

@@ -1,8 +1,10 @@
 // The hidden columns behind a projection's items: their cells and their parts of its record.
+ghost use mathlib.Core.Path.{_≡_};
 ghost use Prim.Native.Nat.{_+_, _*_, _≤_};
 ghost use lib.ListN.{length};
 ghost use Rattle.plan.specs.Layout.{itemSize};
 ghost use Rattle.plan.specs.Cells.{Room};
+ghost use Rattle.build_project.specs.Labels.{itemLabels};
 ghost use Rattle.build_project.specs.Hidden.{ColumnsPut};
 ghost use Rattle.build_project.specs.Ends.{EndReady, ProjectionEnded};
 use super::projected::project_scope;
@@ -34,13 +36,14 @@ fn put_columns(positions: &[u32], area: &mut [u32], n: u32, nodes: &mut [u32], k
     j
 }
 
-// The projection that starts at a place, its items pushed: with its hidden columns it ends; 3 where they are too many.
+// The projection that starts at a place, its items pushed, by their labels: with its hidden columns it ends; 3 where they are too many.
 pub fn end_projection(
     catalog: &[u8],
     statement: &[u8],
     cells: &[u32],
     parts: &[u32],
     items: &[u32],
+    labels: &[u32],
     scope: Scope,
     area: &mut [u32],
     n: u32,
@@ -51,11 +54,12 @@ pub fn end_projection(
 ) -> Stage
     requires { ⌜ EndReady (now catalog) (now statement) (now cells) (now parts) (now items) scope n m start k (now area)
         (now nodes) ⌝ }
+    requires { ⌜ now labels ≡ itemLabels (now catalog) (now statement) (now cells) (now parts) scope (now items) ⌝ }
     ensures { λ r. ⌜ ProjectionEnded (now (catalog .entry)) (now (statement .entry)) (now (cells .entry)) (now (parts .entry))
         (now (items .entry)) scope n m start k (now (area .entry)) (now (nodes .entry)) (now (area .exit))
         (now (nodes .exit)) r ⌝ }
 {
-    let child = project_scope(catalog, statement, cells, parts, items, scope);
+    let child = project_scope(catalog, statement, cells, parts, items, labels, scope);
     let mut positions = [0u32; COLUMNS];
     let hiding = build_select_hidden(
         catalog,

@@ -1,9 +1,9 @@
 // The projection of a SELECT (planner.rs, build_select): its items, and the columns that HAVING and ORDER BY call for and
 // the items lack.
 mod hidden; // hidden.rt: the hidden columns' cells and parts, and the record's end
-mod labels; // labels.rt: the labels and the rows of the items
 mod lone; // lone.rt: a star that stands alone
 mod projected; // projected.rt: the projected scope
+mod rows; // rows.rt: the rows of the items
 
 ghost use mathlib.Core.List.{List, map};
 ghost use Prim.Native.Nat.{ℕ};
@@ -20,6 +20,7 @@ use build_projection::projection::put_items;
 use hidden::end_projection;
 use lone::is_lone;
 use plan::parts::begin_project;
+use scope::COLUMNS;
 use scope::Scope;
 use stage::Stage;
 
@@ -60,6 +61,7 @@ pub fn build_projection(
         };
     }
     let j = begin_project(nodes, k, m - 1);
+    let mut labels = [0u32; COLUMNS];
     let pushed = put_items(
         catalog,
         statement,
@@ -75,6 +77,7 @@ pub fn build_projection(
         n,
         nodes,
         j,
+        &mut labels,
     );
     match pushed {
         Pushed::Refused(x, l) => Stage {
@@ -91,6 +94,7 @@ pub fn build_projection(
             cells,
             parts,
             items,
+            &labels[..items.len()],
             scope,
             area,
             n2,

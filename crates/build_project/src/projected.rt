@@ -6,10 +6,10 @@ ghost use lib.ListN.{take};
 ghost use Rattle.rules.specs.Lists.{isEmpty};
 ghost use Rattle.rules.specs.Ast.{Expr};
 ghost use Rattle.scope.specs.Scopes.{matchesOf};
+ghost use Rattle.build_project.specs.Labels.{itemLabels};
 ghost use Rattle.build_project.specs.Ready.{ItemsReady};
 ghost use Rattle.build_project.specs.Projected.{ScopeProjected};
-use super::labels::item_labels;
-use super::labels::item_rows;
+use super::rows::item_rows;
 use scope::COLUMNS;
 use scope::Scope;
 use scope::lookup::first_matches;
@@ -29,43 +29,26 @@ fn is_matched(matches: &[u16], width: u32) -> bool
     false
 }
 
-// The columns of the items over the same tables; over groups and aggregates, each matched to its expression.
+// The columns of the items, by their labels, over the same tables; over groups and aggregates, each matched to its
+// expression.
 pub fn project_scope(
     catalog: &[u8],
     statement: &[u8],
     cells: &[u32],
     parts: &[u32],
     items: &[u32],
+    labels: &[u32],
     scope: Scope,
 ) -> Scope
     requires { ⌜ ItemsReady (now catalog) (now statement) (now cells) (now parts) (now items) scope ⌝ }
+    requires { ⌜ now labels ≡ itemLabels (now catalog) (now statement) (now cells) (now parts) scope (now items) ⌝ }
     ensures { λ r. ⌜ ScopeProjected (now (catalog .entry)) (now (statement .entry)) (now (cells .entry)) (now (parts .entry))
         (now (items .entry)) scope r ⌝ }
 {
-    let mut labels = [0u32; COLUMNS];
-    item_labels(
-        catalog,
-        statement,
-        cells,
-        parts,
-        items,
-        &scope.labels,
-        &scope.matches,
-        scope.width,
-        &scope.tables,
-        scope.count,
-        &mut labels,
-    );
     if is_matched(&scope.matches, scope.width) {
         let mut rows = [0usize; COLUMNS];
         item_rows(parts, items, &mut rows);
-        return scope.project_items(
-            catalog,
-            statement,
-            cells,
-            &labels[..items.len()],
-            &rows[..items.len()],
-        );
+        return scope.project_items(catalog, statement, cells, labels, &rows[..items.len()]);
     }
-    scope.project(&labels[..items.len()])
+    scope.project(labels)
 }

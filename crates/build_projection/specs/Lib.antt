@@ -6,3 +6,4 @@ pub mod Listing
 pub mod Answered
 pub mod Aliases
 pub mod Pushes
+pub mod Labels

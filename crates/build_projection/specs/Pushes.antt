@@ -80,6 +80,19 @@ pub record ItemsPut (c q : Bytes) (t parts xs ms ts items : List ℕ) (n : ℕ) 
   pub is : (h : ℕ) → AllAs (emitFirsts (itemBuilt (scopeAt c q t xs ms ts h)) n (map (itemOf c q t parts) items))
       n area area′ k nodes nodes′ r
 
+-- where they are put, the first of the labels that are stored are those that f gives each
+pub record Labelled (f : ℕ → ℕ) (items labels : List ℕ) (r : Pushed) : Type 0 where
+  pub is : (m j : ℕ) → r ≡ P.Done m j → take (length items) labels ≡ map f items
+
+pub labelled-done : {f : ℕ → ℕ} {items labels : List ℕ} (m j : ℕ) → take (length items) labels ≡ map f items
+    → Labelled f items labels (P.Done m j)
+labelled-done m j h = record { is = λ k i e. h }
+
+pub labelled-refused : (f : ℕ → ℕ) (items labels : List ℕ) (x y : ℕ) → Labelled f items labels (P.Refused x y)
+labelled-refused f items labels x y = record {
+  is = λ m j e. absurd (let z : _≡_ {A = ℕ} 0 1 = cc in omega arith);
+}
+
 -- there is room for all items' cells and parts
 unfoldable pub itemsSize : Bytes → Bytes → List ℕ → List ℕ → List ℕ → ℕ
 itemsSize c q t parts items = total (λ x. size (itemOf c q t parts x .expr)) items
@@ -179,6 +192,9 @@ module _ {c q : Bytes} {t parts xs ms ts items : List ℕ} {n : ℕ} {area₀ ar
     {nodes₀ nodes : List ℕ} {i m j : ℕ} (p : Pushing c q t parts xs ms ts items n area₀ area k nodes₀ nodes i m j) where
   abbrev here : ℕ
   here = getD items i 0
+
+  pub cells-before : cellsEnd m ≤ length area
+  cells-before = omega (arith, p .room .held)
 
   module _ (l : i < length items) where
     size-here : itemsSize c q t parts (drop i items)

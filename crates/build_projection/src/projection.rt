@@ -2,16 +2,20 @@
 ghost use mathlib.Core.Path.{_≡_};
 ghost use Prim.Native.Nat.{_+_, _*_, _≤_};
 ghost use lib.ListN.{length, take};
+ghost use Rattle.rules.specs.Limits.{mostColumns};
 ghost use Rattle.rules.specs.Ast.{size};
 ghost use Rattle.plan.specs.Cells.{Room};
 ghost use Rattle.plan.specs.Layout.{itemSize};
 ghost use Rattle.build_projection.specs.Items.{itemOf};
 ghost use Rattle.build_projection.specs.Aliases.{rowOf, aliasAddress, aliasLength};
-ghost use Rattle.build_projection.specs.Pushes.{ItemPut, ItemsFit, ItemsPut};
+ghost use Rattle.build_projection.specs.Labels.{labelNumber};
+ghost use Rattle.build_projection.specs.Pushes.{ItemPut, ItemsFit, ItemsPut, Labelled};
+use crate::labels::item_label;
 use ast::rows::STATEMENT_ROWS;
 use build_expression::build_expression;
 use plan::cells::Written;
 use plan::parts::item;
+use scope::lookup::used_matches;
 use sections::entry::ITEM;
 use sections::entry::entry_at;
 use sections::entry::first_row;
@@ -105,7 +109,7 @@ fn put_item<'a>(
     }
 }
 
-// All items, one after the other.
+// All items, one after the other, and the label of each.
 pub fn put_items<'a>(
     catalog: &[u8],
     statement: &[u8],
@@ -121,12 +125,18 @@ pub fn put_items<'a>(
     n: u32,
     nodes: &mut [u32],
     k: usize,
+    projected: &mut [u32],
 ) -> Pushed
+    requires { ⌜ length (now projected) ≡ mostColumns ⌝ }
     requires { ⌜ ItemsFit (now catalog) (now statement) (now cells) (now parts) (now items) n (now area) k (now nodes) ⌝ }
     ensures { λ r. ⌜ ItemsPut (now (catalog .entry)) (now (statement .entry)) (now (cells .entry)) (now (parts .entry))
         (take width (now (labels .entry))) (take width (now (matches .entry))) (take count (now (tables .entry)))
         (now (items .entry)) n (now (area .entry)) (now (area .exit)) k (now (nodes .entry)) (now (nodes .exit)) r ⌝ }
+    ensures { λ r. ⌜ Labelled (labelNumber (now (catalog .entry)) (now (statement .entry)) (now (cells .entry)) (now (parts .entry))
+        (take width (now (labels .entry))) (take width (now (matches .entry))) (take count (now (tables .entry))))
+        (now (items .entry)) (now (projected .exit)) r ⌝ }
 {
+    let used = used_matches(matches, width);
     let mut m = n;
     let mut j = k;
     let mut i: usize = 0;
@@ -152,6 +162,21 @@ pub fn put_items<'a>(
                 return Pushed::Refused(y, l);
             }
             Pushed::Done(m2, j2) => {
+                projected[i] = item_label(
+                    catalog,
+                    statement,
+                    cells,
+                    parts,
+                    items[i],
+                    labels,
+                    matches,
+                    used,
+                    width,
+                    tables,
+                    count,
+                    area,
+                    m,
+                );
                 m = m2;
                 j = j2;
                 i += 1;
