@@ -19,28 +19,6 @@ use read_expression::reading::Read;
 use read_expression::reading::read_expressions;
 ghost use Rattle.ast.specs.Table.{tableSize};
 
-// Where the sections start in the parts.
-const STARTS: [usize; 12] = [8, 777, 790, 1559, 1572, 2341, 2354, 8, 21, 790, 8, 8];
-
-// Most entries of each section.
-const MOSTS: [u32; 12] = [64, 1, 64, 1, 64, 1, 1, 1, 64, 256, 64, 64];
-
-// Whether it is a clause: one record at most.
-const ONCE: [bool; 12] = [
-    false,
-    true,
-    false,
-    true,
-    false,
-    true,
-    true,
-    true,
-    false,
-    false,
-    false,
-    false,
-];
-
 // How many numbers an entry has.
 const ENTRY_SIZE: usize = 12;
 
@@ -53,25 +31,70 @@ enum Step {
     Limit(u32),
 }
 
+// Where a section starts in the parts.
 fn start_of(kind: u32) -> usize
     requires { ⌜ kind ≤ 11 ⌝ }
     ensures { λ r. ⌜ r ≡ startOf kind ⌝ }
 {
-    STARTS[kind as usize]
+    match kind {
+        0 => 8,
+        1 => 777,
+        2 => 790,
+        3 => 1559,
+        4 => 1572,
+        5 => 2341,
+        6 => 2354,
+        7 => 8,
+        8 => 21,
+        9 => 790,
+        10 => 8,
+        11 => 8,
+        _ => 0,
+    }
 }
 
+// Most entries of a section.
 fn most_of(kind: u32) -> u32
     requires { ⌜ kind ≤ 11 ⌝ }
     ensures { λ r. ⌜ r ≡ mostOf kind ⌝ }
 {
-    MOSTS[kind as usize]
+    match kind {
+        0 => 64,
+        1 => 1,
+        2 => 64,
+        3 => 1,
+        4 => 64,
+        5 => 1,
+        6 => 1,
+        7 => 1,
+        8 => 64,
+        9 => 256,
+        10 => 64,
+        11 => 64,
+        _ => 0,
+    }
 }
 
+// Whether a section is a clause: one record at most.
 fn is_once(kind: u32) -> bool
     requires { ⌜ kind ≤ 11 ⌝ }
     ensures { λ r. ⌜ r ≡ isOnce kind ⌝ }
 {
-    ONCE[kind as usize]
+    match kind {
+        0 => false,
+        1 => true,
+        2 => false,
+        3 => true,
+        4 => false,
+        5 => true,
+        6 => true,
+        7 => true,
+        8 => false,
+        9 => false,
+        10 => false,
+        11 => false,
+        _ => false,
+    }
 }
 
 // Where the n-th entry of a section starts.
