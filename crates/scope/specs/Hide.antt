@@ -17,8 +17,7 @@ use Rattle.rules.specs.Scope.{addPassthrough, addMatches, addMatch, addColumn, 
 use Rattle.ast.specs.Table.{treeAt}
 use Rattle.scope.specs.Labels.{slotOf, labelAt, columnsOf, tablesOf, columns-append, columns-length}
 use Rattle.scope.specs.Slots.{below-append, below-one, below-at}
-use Rattle.scope.specs.Scopes.{matchesOf, upTo, scopeFrom, scopeOf, Valid, labelsOf, tableNumbers}
-use Rattle.scope.specs.AddColumn.{no-match}
+use Rattle.scope.specs.Scopes.{matchesOf, no-match, upTo, scopeFrom, scopeOf, Valid, labelsOf, tableNumbers}
 use Rattle.scope.specs.Project.{label-found}
 use Rattle.scope.specs.NewMatch.{mostRow, passMatch, row-kept, add-new}
 use Rattle.scope.specs.declared.Scope.{Scope}

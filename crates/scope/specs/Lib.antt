@@ -2,7 +2,6 @@ pub mod Labels
 pub mod Slots
 pub mod Scopes
 pub mod FromTable
-pub mod AddColumn
 pub mod Names
 pub mod Lookup
 pub mod Search

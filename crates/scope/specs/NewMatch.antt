@@ -18,8 +18,7 @@ use Rattle.rules.specs.Scope as rules
 use Rattle.rules.specs.Scope.{matchAt, matched, addMatch}
 use Rattle.ast.specs.Table.{treeAt}
 use Rattle.ast.specs.Operands.{tree-at, tree-outside}
-use Rattle.scope.specs.Scopes.{matchesOf}
-use Rattle.scope.specs.AddColumn.{no-match}
+use Rattle.scope.specs.Scopes.{matchesOf, no-match}
 use Rattle.scope.specs.Matches.{matchedOf}
 use Rattle.scope.specs.declared.matches.Matched.{Matched}
 use Rattle.scope.specs.declared.matches.Matched.the-variants.{At, Nothing}

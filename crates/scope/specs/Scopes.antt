@@ -1,8 +1,8 @@
 -- The scope that the numbers stand for, whatever they are.
 use Prim.Native.Nat.{ℕ, zero, suc, _-_, _≤_}
 use native.Mathlib.Omega.{arith}
-use mathlib.Core.Path.{_≡_, refl}
-use mathlib.Core.List.{List, [], _∷_}
+use mathlib.Core.Path.{_≡_, refl, ap}
+use mathlib.Core.List.{List, [], _∷_, _++_}
 use lib.ListN.{length, getD, take}
 use Rattle.rules.specs.Limits.{mostColumns, mostFromTables}
 use Rattle.rules.specs.Lists.{Bytes}
@@ -19,6 +19,13 @@ unfoldable pub matchesOf : (ℕ → Expr) → ℕ → List ℕ → List rules.Ma
 matchesOf e i [] = []
 matchesOf e i (zero ∷ ms) = matchesOf e (suc i) ms
 matchesOf e i (suc r ∷ ms) = record { expr = e r; column = i } ∷ matchesOf e (suc i) ms
+
+-- a column that nothing is matched to
+pub no-match : (e : ℕ → Expr) (i : ℕ) (ms : List ℕ) → matchesOf e i (ms ++ (0 ∷ [])) ≡ matchesOf e i ms
+unfolding matchesOf
+no-match e i [] = refl
+no-match e i (zero ∷ ms) = no-match e (suc i) ms
+no-match e i (suc r ∷ ms) = ap (λ l. record { expr = e r; column = i } ∷ l) (no-match e (suc i) ms)
 
 -- n positions from i on
 unfoldable pub upTo : ℕ → ℕ → List ℕ

@@ -11,7 +11,6 @@ ghost use mathlib.Core.Path.{_≡_};
 ghost use Prim.Native.Nat.{min};
 ghost use Rattle.rules.specs.Limits.{mostColumns};
 ghost use Rattle.scope.specs.AddAggregates.{Aggregable, AggregatesAdded};
-ghost use Rattle.scope.specs.AddColumn.{ColumnFits, ColumnAdded};
 ghost use Rattle.scope.specs.FromTable.{FromTable};
 ghost use Rattle.scope.specs.Hide.{HiddenFits, HiddenAdded};
 ghost use Rattle.scope.specs.Items.{ItemsFit, ItemsProjected};
@@ -135,18 +134,6 @@ impl Scope {
             count: self.count,
             hidden: 0,
         }
-    }
-
-    // A column behind the others.
-    pub fn add_column(mut self, x: u32) -> Scope
-        requires { ⌜ ColumnFits self x ⌝ }
-        ensures { λ r. ⌜ ColumnAdded self x r ⌝ }
-    {
-        let w = self.width as usize;
-        self.labels[w] = x;
-        self.matches[w] = 0;
-        self.width = self.width + 1;
-        self
     }
 
     // Another scope's columns and tables behind its own.

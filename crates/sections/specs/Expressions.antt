@@ -1,15 +1,13 @@
 -- An entry's expressions by their rows: the first of them, and each behind the rows of the one before.
 use Prim.Native.Nat.{ℕ, zero, suc, _+_, _-_, _^_, _<_, _≤_}
 use native.Mathlib.Omega.{arith}
-use native.Mathlib.Numerals.{sub-one}
-use mathlib.Core.Path.{_≡_, refl, sym, ap, _∙_}
-use mathlib.Core.Bool.{Bool, true, false}
+use mathlib.Core.Path.{_≡_, refl, ap, _∙_}
+use mathlib.Core.Bool.{true, false}
 use mathlib.Core.List.{List, [], _∷_}
-use mathlib.Core.Option.{some}
 use lib.Dec.{eqb}
 use lib.ListN.{length}
 use borrow.Author.Tests.{eq-eqb, ne-eqb}
-use Rattle.rules.specs.Lists.{Bytes, entryAfter}
+use Rattle.rules.specs.Lists.{Bytes}
 use Rattle.rules.specs.Ast.{Expr, star, nil, cons, listOf}
 use Rattle.ast.specs.Table.{rowsAt, argumentsAt, treeAt}
 use Rattle.ast.specs.Operands.{arguments-none, arguments-more, tree-outside, tree-at}
@@ -49,21 +47,6 @@ module _ (e : Entry) where
         ∙ rw (first-some h)
 
 -- ONE AFTER THE OTHER
--- the row of the expression that stands behind k others, the first of them at row r
-unfoldable pub rowAfter : List ℕ → ℕ → ℕ → ℕ
-rowAfter t zero r = r
-rowAfter t (suc k) r = rowAfter t k (r + rowsAt t r)
-
-pub row-last : (t : List ℕ) (k r : ℕ) → k ≤ 0 → rowAfter t k r ≡ r
-unfolding rowAfter
-row-last t zero r h = refl
-row-last t (suc k) r h = absurd (omega arith)
-
-pub row-next : (t : List ℕ) (k r : ℕ) → 0 < k → rowAfter t k r ≡ rowAfter t (k - 1) (r + rowsAt t r)
-unfolding rowAfter
-row-next t zero r h = absurd (omega arith)
-row-next t (suc k) r h = rw (sub-one (suc k))
-
 module _ (f : ℕ → Expr) (t : List ℕ) where
   pub list-none : (n r : ℕ) → n ≤ 0 → listOf (argumentsAt f t n r) ≡ []
   unfolding listOf
@@ -78,9 +61,3 @@ module _ (f : ℕ → Expr) (t : List ℕ) where
   unfolding listOf argumentsAt
   list-length zero r = refl
   list-length (suc n) r = ap suc (list-length n (r + rowsAt t r))
-
-  pub list-at : (n r k : ℕ) → k < n → entryAfter k (listOf (argumentsAt f t n r)) ≡ some (f (rowAfter t k r))
-  unfolding listOf argumentsAt entryAfter rowAfter
-  list-at zero r k h = absurd (omega arith)
-  list-at (suc n) r zero h = refl
-  list-at (suc n) r (suc k) h = list-at n (r + rowsAt t r) k (omega arith)

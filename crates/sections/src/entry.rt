@@ -9,7 +9,6 @@ ghost use Rattle.sections.specs.Access as access;
 ghost use Rattle.sections.specs.Expressions as expressions;
 use super::ENTRY_SIZE;
 use super::start_of;
-use ast::rows::next;
 use numbers::number;
 
 // The kinds of sections.
@@ -135,17 +134,4 @@ pub fn first_row(e: Entry) -> usize
         return OUTSIDE;
     }
     e.row as usize
-}
-
-// The row of the expression that stands behind k others, the first of them at row r.
-pub fn row_after(cells: &[u32], r: usize, k: u32) -> usize
-    ensures { λ x. ⌜ x ≡ expressions.rowAfter (now (cells .entry)) k r ⌝ }
-{
-    let mut p = r;
-    let mut left = k;
-    while 0 < left {
-        p = next(cells, p);
-        left -= 1;
-    }
-    p
 }

@@ -1,7 +1,7 @@
 // The line texts: bytes, lines and their fields, keywords, names and decimals.
 ghost use mathlib.Core.Path.{_≡_};
 ghost use Prim.Native.Nat.{ℕ, _+_, _*_, min};
-ghost use lib.ListN.{getD, take, drop};
+ghost use lib.ListN.{take, drop};
 ghost use Rattle.rules.specs.Lists.{same, mapOption};
 ghost use Rattle.rules.specs.Lines as rules;
 ghost use Rattle.rules.specs.Reader as reader;
@@ -27,13 +27,6 @@ pub const MOST_CELLS: u64 = 512;
 
 // The fields of a line that are kept: a record has at most nine.
 const KEPT_FIELDS: usize = 10;
-
-// The byte at i, and 0 past the end.
-pub fn byte(t: &[u8], i: usize) -> u8
-    ensures { λ r. ⌜ r ≡ getD (now (t .entry)) i 0 ⌝ }
-{
-    if i < t.len() { t[i] } else { 0 }
-}
 
 // The n bytes at a, or as many of them as there are.
 pub fn part(t: &[u8], a: usize, n: usize) -> &[u8]

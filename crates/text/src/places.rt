@@ -21,17 +21,6 @@ pub fn address(a: usize) -> u32
     MOST_BYTES + a as u32
 }
 
-// Whether the n bytes at an address lie inside their text.
-pub fn inside(catalog: &[u8], statement: &[u8], a: u32, n: u32) -> bool
-    ensures { λ r. ⌜ r ≡ places.inside (now (catalog .entry)) (now (statement .entry)) a n ⌝ }
-{
-    let e = a as usize + n as usize;
-    if a < MOST_BYTES {
-        return e <= catalog.len();
-    }
-    e - MOST_BYTES as usize <= statement.len()
-}
-
 // Whether the n bytes at an address, or as many of them as there are, are x.
 pub fn holds_at(catalog: &[u8], statement: &[u8], a: u32, n: u32, x: &[u8]) -> bool
     ensures { λ r. ⌜ r ≡ same (bytesAt (now (catalog .entry)) (now (statement .entry)) a n) (now (x .entry)) ⌝ }
@@ -64,19 +53,6 @@ pub fn same_bytes(catalog: &[u8], statement: &[u8], a: u32, n: u32, b: u32, m: u
         n,
         part(statement, d as usize, m as usize),
     )
-}
-
-// Whether two places lie inside their texts and hold the same bytes.
-pub fn same_text(catalog: &[u8], statement: &[u8], a: u32, n: u32, b: u32, m: u32) -> bool
-    ensures { λ r. ⌜ r ≡ places.sameText (now (catalog .entry)) (now (statement .entry)) a n b m ⌝ }
-{
-    if !inside(catalog, statement, a, n) {
-        return false;
-    }
-    if !inside(catalog, statement, b, m) {
-        return false;
-    }
-    same_bytes(catalog, statement, a, n, b, m)
 }
 
 // The order of the n bytes at an address, or as many of them as there are, and x.
