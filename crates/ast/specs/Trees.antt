@@ -1,21 +1,18 @@
--- The rows that `collect` writes: read as trees they are what the rules' `collect` gives, and they lie inside the table.
-use Prim.Native.Nat.{ℕ, zero, suc, _+_, _*_, _≤_, _<_}
+-- The rows that `collect` writes: read as trees they are what the rules' `collect` gives.
+use Prim.Native.Nat.{ℕ, zero, suc, _+_, _≤_}
 use native.Mathlib.Omega.{arith}
 use mathlib.Core.Path.{_≡_, refl, sym, ap, _∙_}
 use mathlib.Core.Bool.{Bool, true, false}
-use mathlib.Core.List.{List, [], _∷_, _++_, map, append-nil, map-append}
-use lib.Dec.{eqb}
-use lib.ListN.{length, getD}
-use borrow.Author.Tests.{eqb-true, eqb-false}
+use mathlib.Core.List.{List, [], _∷_, map, append-nil, map-append}
+use lib.ListN.{length}
 use Rattle.rules.specs.Lists.{Bytes}
 use Rattle.rules.specs.Ast.{Expr, star, column, literal, call, unary, binary, is}
 use Rattle.rules.specs.BuildAggregate.{isAggregate, collect, collectAll}
-use Rattle.numbers.specs.Codes.{orLeast}
-use Rattle.ast.specs.Behind.{behind, behind-step}
-use Rattle.ast.specs.Table.{rowSize, rowsAt, argumentsAt, starAt, rootAt, treeAt}
-use Rattle.ast.specs.Operands.{operandsOf, kindAt, operandsAt, operands-at, inside, tree-outside}
+use Rattle.ast.specs.Behind.{behind-step}
+use Rattle.ast.specs.Table.{rowsAt, argumentsAt, starAt, rootAt, treeAt}
+use Rattle.ast.specs.Operands.{operandsOf, operandsAt, operands-at, tree-outside}
 use Rattle.ast.specs.Operands.{operands-outside, tree-at}
-use Rattle.ast.specs.Walk.{isAggregateCall, no-call, call-root}
+use Rattle.ast.specs.Walk.{isAggregateCall, call-root}
 use Rattle.ast.specs.Collect.{rowsOf, collectBy, collectRows}
 
 pick-call : (b : Bool) (x y : List Expr) → b ≡ true → elim b [ true ↦ x | false ↦ y ] ≡ x
@@ -102,48 +99,3 @@ module _ (c q : Bytes) (t : List ℕ) where
   -- the trees at the rows are what the rules collect
   pub collect-trees : (r : ℕ) → map (treeAt c q t) (collectRows c q t r) ≡ collect (treeAt c q t r)
   collect-trees r = trees-by (length t) r (omega arith)
-
--- INSIDE THE TABLE
-abbrev pub RowsWithin : List ℕ → List ℕ → Type 0
-RowsWithin t [] = Unit {0}
-RowsWithin t (r ∷ rs) = (rowSize * r < length t) × RowsWithin t rs
-
-inside-append : (t xs ys : List ℕ) → RowsWithin t xs → RowsWithin t ys → RowsWithin t (xs ++ ys)
-inside-append t [] ys h k = k
-inside-append t (x ∷ xs) ys h k = (h .0, inside-append t xs ys (h .1) k)
-
-pub row-inside : (t rs : List ℕ) (k : ℕ) → RowsWithin t rs → k < length rs → rowSize * getD rs k 0 < length t
-row-inside t [] k h l = absurd (omega arith)
-row-inside t (r ∷ rs) zero h l = h .0
-row-inside t (r ∷ rs) (suc k) h l = row-inside t rs k (h .1) (omega arith)
-
-call-inside : (c q : Bytes) (t : List ℕ) (r : ℕ) → isAggregateCall (rootAt c q t r) ≡ true → rowSize * r < length t
-unfolding kindAt orLeast
-call-inside c q t r h = pick (eqb (kindAt t r) 4) refl
-  where
-    pick : (b : Bool) → eqb (kindAt t r) 4 ≡ b → rowSize * r < length t
-    pick true e = omega (arith, inside t r 0 (λ z. eqb-false 1 4 refl (sym (ap (orLeast 1 8) z) ∙ eqb-true _ _ e)))
-    pick false e = absurd (eqb-false 1 0 refl (let f : _≡_ {A = Bool} true false = sym h ∙ no-call c q t r (eqb-false _ _ e) in cc))
-
-module _ (c q : Bytes) (t : List ℕ) where
-  inside-all : (g : ℕ → List ℕ) → ((r : ℕ) → RowsWithin t (g r)) → (n r : ℕ) → RowsWithin t (rowsOf g t n r)
-  unfolding rowsOf
-  inside-all g each zero r = tt
-  inside-all g each (suc n) r = inside-append t (g r) _ (each r) (inside-all g each n (r + rowsAt t r))
-
-  inside-by : (n r : ℕ) → RowsWithin t (behind (λ g. collectBy g c q t) [] n r)
-  unfolding behind collectBy
-  inside-by zero r = tt
-  inside-by (suc n) r = pick (isAggregateCall (rootAt c q t r)) refl
-      (inside-all (behind (λ g. collectBy g c q t) [] n) (inside-by n) (operandsAt t r) (suc r))
-    where
-      pick : (b : Bool) → isAggregateCall (rootAt c q t r) ≡ b
-          → RowsWithin t (rowsOf (behind (λ g. collectBy g c q t) [] n) t (operandsAt t r) (suc r))
-          → RowsWithin t
-          (elim b [ true ↦ r ∷ [] | false ↦ rowsOf (behind (λ g. collectBy g c q t) [] n) t (operandsAt t r) (suc r) ])
-      pick true x h = (call-inside c q t r x, tt)
-      pick false x h = h
-
-  pub rows-inside : (r : ℕ) → RowsWithin t (collectRows c q t r)
-  unfolding collectRows
-  rows-inside r = inside-by (length t) r

@@ -1,6 +1,6 @@
 -- A record whose operands are built: each operand has room, and a refused operand, or the cells behind the operands, are
 -- the whole tree's.
-use Prim.Native.Nat.{ℕ, suc, _+_, _*_, _≤_, _<_}
+use Prim.Native.Nat.{ℕ, suc, _+_, _*_, _<_}
 use native.Mathlib.Omega.{arith}
 use native.Mathlib.Numerals.{add-one}
 use mathlib.Core.Path.{_≡_, ap, _∙_}
@@ -13,8 +13,6 @@ use Rattle.ast.specs.Table.{rowSize, rowsAt, binaryAt, treeAt}
 use Rattle.ast.specs.Row.{lineAt, operatorAt, rowLiteral, secondOperand}
 use Rattle.claims.specs.Count.Arguments.{arguments-most}
 use Rattle.rules.specs.Scope.{empty}
-use Rattle.rules.specs.Limits.{mostCells, leastArea}
-use Rattle.plan.specs.Layout.{mostPlanCells}
 use Rattle.plan.specs.Cells.{Room, room-less}
 use Rattle.plan.specs.Emits.{Emits, emits-same, accepted, stop, next}
 use Rattle.plan.specs.declared.cells.Written.{Written}
@@ -40,12 +38,6 @@ built-kept b = b .is 0 .kept
 -- every expression is at least one cell
 pub leaf-room : (e : Expr) (n : ℕ) (area : List ℕ) → Room n (3 * size e) area → Room n 1 area
 leaf-room e n area h = room-less 1 (omega (arith, arguments-most empty e)) h
-
--- in every area that is long enough, behind as many cells as a plan has at most, each of the statement's expressions has
--- room
-pub expression-room : (e : Expr) (n : ℕ) (area : List ℕ) → n ≤ mostPlanCells → size e ≤ mostCells
-    → leastArea ≤ length area → Room n (3 * size e) area
-expression-room e n area h g l = record { counted = omega arith; held = omega arith }
 
 module _ {c q : Bytes} {t xs ms ts : List ℕ} {r n : ℕ} {area area₁ : List ℕ} {b : Begun}
     (g : Begins c q t xs ms ts r n area area₁ b) where

@@ -1,11 +1,11 @@
 -- The rows of a SELECT's groups, and of the aggregates in its items, HAVING and ORDER.
-use Prim.Native.Nat.{ℕ, zero, suc, _+_, _-_, _≤_, _<_}
+use Prim.Native.Nat.{ℕ, suc, _+_, _-_, _≤_, _<_}
 use native.Mathlib.Omega.{arith}
 use native.Mathlib.Numerals.{add-one}
 use mathlib.Core.Path.{_≡_, refl, sym, ap, _∙_}
 use mathlib.Core.List.{List, [], _∷_, _++_, map, map-append, map-map}
 use mathlib.Core.Option.{some}
-use lib.ListN.{length, getD, length-map}
+use lib.ListN.{length, getD}
 use Rattle.rules.specs.Lists.{Bytes, entryAfter, given, mapOption}
 use Rattle.rules.specs.Ast.{Expr, Item, Key}
 use Rattle.rules.specs.BuildExpression.{clauseExpr}
@@ -79,17 +79,6 @@ unfolding entryRows upTo
 entries-more parts kind i n h =
     let z : n - i ≡ suc (n - (i + 1)) = omega arith in
     rw (z, add-one i)
-
-upTo-length : (i n : ℕ) → length (upTo i n) ≡ n
-unfolding upTo
-upTo-length i zero = refl
-upTo-length i (suc n) = ap suc (upTo-length (suc i) n)
-
-pub section-length : (parts : List ℕ) (kind : ℕ) → length (sectionRows parts kind) ≡ getD parts (startOf kind) 0
-unfolding sectionRows entryRows
-section-length parts kind =
-    length-map (upTo 0 (getD parts (startOf kind) 0)) (λ k. firstRow (numbersAt parts kind k))
-    ∙ upTo-length 0 (getD parts (startOf kind) 0)
 
 -- by the number of entries
 pub section-entries : (parts : List ℕ) (kind n : ℕ) → ((b q : Bytes) (t : List ℕ) → n ≡ length (sectionAt b q t parts kind))

@@ -1,6 +1,6 @@
 -- Hidden columns: what building them needs, and what it gives.
 use Prim.Native.Nat.{ℕ, _+_, _-_, _≤_}
-use mathlib.Core.Path.{_≡_, refl}
+use mathlib.Core.Path.{_≡_}
 use mathlib.Core.Bool.{true, false}
 use mathlib.Core.List.{List, [], _∷_, _++_, map}
 use lib.ListN.{length, take}
@@ -14,16 +14,9 @@ use Rattle.ast.specs.Table.{tableSize, treeAt}
 use Rattle.scope.specs.Slots.{Below}
 use Rattle.scope.specs.Scopes.{scopeOf, tableNumbers, Valid}
 use Rattle.scope.specs.declared.Scope.{Scope}
-use Rattle.statement.specs.Layout.{selectOf}
 use Rattle.statement.specs.Access.{selectAt}
 use Rattle.build_expression.specs.Builds.{scopeAt}
 use Rattle.build_hidden.specs.declared.Hiding.{Hiding}
-
--- The expressions of HAVING and ORDER BY, whatever FROM is
-pub later-same : (c q : Bytes) (cells parts froms froms′ : List ℕ)
-    → laterOf (selectAt c q cells froms parts) ≡ laterOf (selectAt c q cells froms′ parts)
-unfolding laterOf selectAt selectOf
-later-same c q cells parts froms froms′ = refl
 
 -- The parent's arrays are as long as its width and its labels of its own tables, the child has nothing hidden and the same
 -- tables, and there is a place for each position.

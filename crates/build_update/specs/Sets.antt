@@ -76,9 +76,6 @@ module _ {c q : Bytes} {t xs ms ts : List ℕ} {cs : List Column} {j : ℕ} {e :
 
 module _ (c q : Bytes) (t : List ℕ) (e : Entry) {n : ℕ} {area : List ℕ}
     (h : Room n (3 * optionSize (givenOf c q t e) + 1) area) where
-  pub default-room : Room n 1 area
-  default-room = record { counted = omega (arith, h .counted); held = omega (arith, h .held) }
-
   pub value-room : (r : ℕ) → (e .expressions ≡ 0 → ⊥) → r ≡ firstRow e → Room n (3 * size (treeAt c q t r)) area
   unfolding optionSize
   value-room r z f =

@@ -36,13 +36,6 @@ module _ (rows : List ℕ) (n : ℕ) where
   unfolding sidesBefore
   sides-past = omega (arith, first-most rows (leftAt rows n), left-all rows n)
 
--- the two trees' sizes, where neither reaches past the first row
-pub sides-sum : (rows : List ℕ) (r : ℕ) → sizeAt rows r ≤ r
-    → sizeAt rows (leftAt rows (suc r)) ≤ suc (leftAt rows (suc r))
-    → sidesBefore rows (suc r) ≡ sizeAt rows (leftAt rows (suc r)) + sizeAt rows r
-unfolding sidesBefore firstAt leftAt
-sides-sum rows r h g = omega (arith, h, g)
-
 -- ROWS THAT ARE KEPT
 module _ (rows rows′ : List ℕ) (n : ℕ) (h : Kept 0 (rowSize * n) rows rows′) where
   at-kept : (r k : ℕ) → r < n → k < 8 → at rows′ r k ≡ at rows r k

@@ -1,10 +1,9 @@
 -- How far a text was read into its buffer.
 use Prim.Native.Nat.{ℕ, _≤_, _<_}
 use native.Mathlib.Omega.{arith}
-use native.Mathlib.Decide.{decLt}
 use mathlib.Core.Path.{_≡_, sym}
 use mathlib.Core.List.{List}
-use lib.ListN.{length, take}
+use lib.ListN.{length}
 use lib.Seq.{length-take-le}
 use Rattle.io.specs.Counts.{Counts}
 use Rattle.rules.specs.Limits.{mostBytes}
@@ -42,8 +41,3 @@ filled s r h e = rw e at h
 pub counted : (s : List ℕ) (r : In.Input) {n : ℕ} → Whole s r → r ≡ I.Bytes n → Counts n s
 unfolding Whole
 counted s r h e = (rw e at h) .0
-
--- a file that fills the buffer is longer than a text may be
-pub long : (s : Bytes) (n : ℕ) → Whole s (I.Bytes n) → length s ≤ n → mostBytes < length (take n s)
-unfolding Whole
-long s n h full = elim (decLt mostBytes n) [ yes l ↦ omega (arith, h .0 .1) | no l ↦ absurd (omega (arith, h .1 (omega (arith, l)))) ]

@@ -1,5 +1,5 @@
 -- The parts of a record: rows, groups, functions, items, keys and targets, pushed behind those before them.
-use Prim.Native.Nat.{ℕ, _+_, _-_, _≤_}
+use Prim.Native.Nat.{ℕ, _+_, _-_}
 use native.Mathlib.Omega.{arith}
 use mathlib.Core.Path.{_≡_, refl, sym}
 use mathlib.Core.Bool.{Bool}
@@ -108,12 +108,6 @@ unfolding grouping
 groups-on n gs a b = appended-on a b
 
 module _ {i k : ℕ} {s u : List ℕ} where
-  -- where their number may be stored
-  pub groups-room : (n : ℕ) (gs : List ℕ) → Appended (grouping n gs) i s k u
-      → (i + aggregateHead ≤ k) × (k ≤ length u)
-  unfolding grouping opened unsized recordNumbers sized functionNumbers
-  groups-room n gs a = (omega (arith, a .next), omega (arith, a .fits, a .all))
-
   pub groups-ended : (n : ℕ) (gs : List ℕ) {u′ : List ℕ} → Appended (grouping n gs) i s k u
       → u′ ≡ set u (i + groupsPlace) (k - (i + aggregateHead)) → Appended (opened (aggregate n gs [])) i s k u′
   unfolding grouping opened unsized recordNumbers sized functionNumbers

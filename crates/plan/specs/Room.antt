@@ -9,7 +9,7 @@ use mathlib.Core.Option.{Option}
 use lib.ListN.{length, length-append}
 use Rattle.rules.specs.Lists.{concat}
 use Rattle.rules.specs.Lines.{Word}
-use Rattle.rules.specs.Plan.{Built, Aggregate, Node, TablePosition, cindex, ValuePosition, vindex, Mapping, Made}
+use Rattle.rules.specs.Plan.{Built, Node, TablePosition, cindex, ValuePosition, vindex, Mapping, Made}
 use Rattle.rules.specs.Plan as P
 use Rattle.rules.specs.Cells.{Cell, numberNode}
 use Rattle.rules.specs.Nodes.{NodeRecord, values, aggregate, project, order, remap}
@@ -19,7 +19,7 @@ use Rattle.rules.specs.Area.{setNumbers, madeNumbers}
 use Rattle.claims.specs.Room.Nodes.{rowsRoom, nodeRoom, records-room, number-room, made-room}
 use Rattle.appends.specs.Nodes.Lays.{Lays}
 use Rattle.appends.specs.Area.{recordsNumbers}
-use Rattle.plan.specs.Layout.{recordHead, sourceHead, aggregateHead, functionSize, itemSize, keySize}
+use Rattle.plan.specs.Layout.{recordHead, sourceHead, aggregateHead, itemSize, keySize}
 use Rattle.plan.specs.Layout.{mappingSize, setSize, columnSize, cellSize}
 use Rattle.plan.specs.Appended.{Appended}
 use Rattle.plan.specs.Records.{unsized, opened}
@@ -49,10 +49,6 @@ items-size xs = omega (arith, records-room (P.project (P.values []) xs) 0, one-s
 pub keys-size : (xs : List (ℕ × Bool)) → length (keyNumbers xs) ≡ keySize * length xs
 unfolding recordNumbers sized N.records N.last N.nodes nodeRoom rowsRoom rowNumbers concat
 keys-size xs = omega (arith, records-room (P.order (P.values []) xs) 0, one-size (order 0 xs))
-
-pub functions-size : (fs : List (Aggregate × ℕ)) → length (functionNumbers fs) ≡ functionSize * length fs
-unfolding recordNumbers sized N.records N.last N.nodes nodeRoom rowsRoom rowNumbers concat
-functions-size fs = omega (arith, records-room (P.aggregate (P.values []) [] fs) 0, one-size (aggregate 0 [] fs))
 
 -- what is in use at the head of each open record
 module _ {i k : ℕ} {s t : List ℕ} where

@@ -128,10 +128,6 @@ module _ (t : Bytes) (p l c k : ℕ) where
   unfolding place
   cells-here = refl
 
-  line-here : here t p l c k .line ≡ l
-  unfolding place
-  line-here = refl
-
   -- a literal
   pub literal-wrong : oneOf literals (lineHere (here t p l c k)) ≡ none → literalHere (here t p l c k) ≡ wrongAt statement l
   unfolding literalHere fit

@@ -1,8 +1,8 @@
 -- The columns that stars stand for, in the rows behind the statement's: each is read back as a qualified column, and no
--- tree that stands in the rows before it changes.
+-- number in the rows before it changes.
 use Prim.Native.Nat.{ℕ, _+_, _*_, _≤_, _<_}
 use native.Mathlib.Omega.{arith}
-use mathlib.Core.Path.{_≡_, refl, _∙_}
+use mathlib.Core.Path.{_≡_, _∙_}
 use mathlib.Core.Bool.{Bool, true, false, _&&_}
 use mathlib.Core.List.{List, [], _∷_}
 use mathlib.Core.Option.{some}
@@ -11,18 +11,14 @@ use lib.ListN.{length}
 use lib.Seq.{sets}
 use borrow.Author.Tests.{lt-ltb, le-ltb, eq-eqb, ne-eqb}
 use Rattle.rules.specs.Lists.{Bytes}
-use Rattle.rules.specs.Lines.{Word}
 use Rattle.rules.specs.Places.{wordAt}
-use Rattle.rules.specs.Ast.{Expr, column, size}
+use Rattle.rules.specs.Ast.{column}
 use Rattle.numbers.specs.Codes.{coded}
-use Rattle.numbers.specs.Values.{WordFits}
-use Rattle.numbers.specs.Stores.{Stored, stored-sets, stored-kept}
+use Rattle.numbers.specs.Stores.{Stored, stored-sets}
 use Rattle.numbers.specs.Kept.{Kept, kept-all, kept-sets-behind}
 use Rattle.ast.specs.Table.{rowSize, statementRows, starredRows, tableSize, treeBy, treeAt}
 use Rattle.ast.specs.Operands.{tree-at}
-use Rattle.read_expression.specs.Encode.{headNumbers, rowOf, encode, encode-length}
-use Rattle.read_expression.specs.Fits.{Fits}
-use Rattle.read_expression.specs.ReadBack.{row-stands, read-back}
+use Rattle.read_expression.specs.ReadBack.{row-stands}
 
 -- the row of starred column k
 abbrev pub starredRow : ℕ → ℕ
@@ -38,12 +34,6 @@ withStarred cells k l t m a n = elim (ltb k starredRows && eqb (length cells) ta
   | true ↦ sets cells (rowSize * starredRow k) (starredNumbers l t m a n)
   | false ↦ cells
 ]
-
--- its numbers are those of a qualified column
-pub starred-encode : (l : ℕ) (w v : Word)
-    → starredNumbers l (w .start) (length (w .bytes)) (v .start) (length (v .bytes)) ≡ encode (column l (some w) v)
-unfolding starredNumbers encode rowOf headNumbers
-starred-encode l w v = refl
 
 -- where they stand, the row is that column, in every table
 pub starred-column : (s : List ℕ) (r l t m a n : ℕ) (c q : Bytes)
@@ -79,31 +69,9 @@ module _ (cells : List ℕ) (k l t m a n : ℕ) where
           kept-sets-behind cells (rowSize * starredRow k) (starredNumbers l t m a n) 0 (rowSize * starredRow k) (omega arith)
       pick false = kept-all 0 (rowSize * starredRow k) cells
 
-  -- so what stands there still does, and a tree that stands there is read back
-  pub starred-kept : (xs : List ℕ) (i : ℕ) → i + length xs ≤ rowSize * starredRow k → Stored cells i xs
-      → Stored (withStarred cells k l t m a n) i xs
-  starred-kept xs i h s = stored-kept i xs starred-below (omega arith) h s
-
-  pub starred-tree : (c q : Bytes) (e : Expr) (r : ℕ) → Fits c q e → Stored cells (rowSize * r) (encode e)
-      → r + size e ≤ starredRow k → treeAt c q (withStarred cells k l t m a n) r ≡ e
-  starred-tree c q e r f s h =
-      read-back c q _ e r f (starred-kept (encode e) (rowSize * r) (omega (arith, encode-length e)) s)
-
   module _ (h : k < starredRows) (g : length cells ≡ tableSize) where
-    -- its own numbers stand, and its row is the column
+    -- its own numbers stand
     pub starred-stands : Stored (withStarred cells k l t m a n) (rowSize * starredRow k) (starredNumbers l t m a n)
     unfolding starredNumbers
     starred-stands =
         rw (starred-is h g) (stored-sets cells (rowSize * starredRow k) (starredNumbers l t m a n) (omega arith))
-
-    pub starred-back : (c q : Bytes)
-        → treeAt c q (withStarred cells k l t m a n) (starredRow k) ≡ column l (some (wordAt c q t m)) (wordAt c q a n)
-    starred-back c q = starred-column _ (starredRow k) l t m a n c q starred-stands
-
--- a column whose words stand in the texts is read back as it is
-pub starred-word : (cells : List ℕ) (k l : ℕ) (w v : Word) → k < starredRows → length cells ≡ tableSize
-    → (c q : Bytes) → WordFits c q w → WordFits c q v
-    → treeAt c q (withStarred cells k l (w .start) (length (w .bytes)) (v .start) (length (v .bytes))) (starredRow k)
-    ≡ column l (some w) v
-unfolding WordFits
-starred-word cells k l w v h g c q f e = starred-back cells k l _ _ _ _ h g c q ∙ rw (f, e)

@@ -1,4 +1,3 @@
-pub mod Long
 pub mod Decimals
 pub mod Fields
 pub mod Line

@@ -1,13 +1,10 @@
 -- The scope of groups and aggregates, from at most 256 rows of expressions.
-use Prim.Native.Nat.{ℕ, suc, _+_, _-_, _≤_, _<_}
-use native.Mathlib.Omega.{arith}
+use Prim.Native.Nat.{ℕ, suc, _≤_}
 use mathlib.Core.Path.{_≡_, refl, ap, sym, _∙_}
-use mathlib.Core.Bool.{false}
 use mathlib.Core.List.{List, [], _∷_, _++_, map}
 use lib.ListN.{length, take, length-map}
 use Rattle.rules.specs.Limits.{mostColumns}
-use Rattle.rules.specs.Lists.{Bytes, isEmpty}
-use Rattle.rules.specs.Scope as rules
+use Rattle.rules.specs.Lists.{Bytes}
 use Rattle.rules.specs.Scope.{labelOf}
 use Rattle.rules.specs.BuildAggregate.{Retained, retainFunctions}
 use Rattle.ast.specs.Table.{treeAt}
@@ -46,17 +43,6 @@ pub added-functions : {c q : Bytes} {t : List ℕ} {s : Scope} {rows : List ℕ}
 added-functions {c} {q} {t} {s} {rows} {r} gs fs a e =
     a .is ∙ ap (childOf (scopeOf (treeAt c q t) c q s) (treeAt c q t)) e
     ∙ sym (ap (λ (x : Retained). x .scope) (retain-functions (scopeOf (treeAt c q t) c q s) (treeAt c q t) gs fs))
-
--- something is matched in it
-pub added-matched : {c q : Bytes} {t : List ℕ} {s : Scope} {rows : List ℕ} {r : Scope} → AggregatesAdded c q t s rows r
-    → 0 < length rows → isEmpty (scopeOf (treeAt c q t) c q r .aggregates) ≡ false
-unfolding childOf isEmpty matchesOf
-added-matched {c} {q} {t} {s} {rows} {r} a h =
-    ap (λ (x : rules.Scope). isEmpty (x .aggregates)) (a .is) ∙ some-rows rows h
-  where
-    some-rows : (ks : List ℕ) → 0 < length ks → isEmpty (matchesOf (treeAt c q t) 0 (map suc ks)) ≡ false
-    some-rows [] l = absurd (omega arith)
-    some-rows (k ∷ ks) l = refl
 
 -- THE NUMBERS
 unfoldable pub passedLabel : Bytes → Bytes → List ℕ → Scope → ℕ → ℕ

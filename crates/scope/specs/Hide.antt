@@ -6,19 +6,18 @@ use mathlib.Core.Path.{_≡_, refl, ap, sym, _∙_}
 use mathlib.Core.Bool.{true}
 use mathlib.Core.List.{List, [], _∷_, _++_}
 use lib.ListN.{length, getD, take, set, length-set}
-use lib.Seq.{take-suc-set, length-take-le, getD-take}
+use lib.Seq.{take-suc-set, length-take-le}
 use borrow.Author.Tests.{eq-eqb, ne-eqb}
 use Rattle.rules.specs.Limits.{mostColumns}
 use Rattle.rules.specs.Lines.{Word}
 use Rattle.rules.specs.Ast.{Expr}
 use Rattle.rules.specs.Plan.{Label, nameless}
 use Rattle.rules.specs.Scope as rules
-use Rattle.rules.specs.Scope.{addPassthrough, addMatches, addMatch, addColumn, hide, foundLabel}
+use Rattle.rules.specs.Scope.{addPassthrough, addMatches, addMatch, addColumn, hide}
 use Rattle.ast.specs.Table.{treeAt}
 use Rattle.scope.specs.Labels.{slotOf, labelAt, columnsOf, tablesOf, columns-append, columns-length}
-use Rattle.scope.specs.Slots.{below-append, below-one, below-at}
+use Rattle.scope.specs.Slots.{below-append, below-one}
 use Rattle.scope.specs.Scopes.{matchesOf, no-match, upTo, scopeFrom, scopeOf, Valid, labelsOf, tableNumbers}
-use Rattle.scope.specs.Project.{label-found}
 use Rattle.scope.specs.NewMatch.{mostRow, passMatch, row-kept, add-new}
 use Rattle.scope.specs.declared.Scope.{Scope}
 
@@ -173,21 +172,3 @@ hidden-added c q t {s} {x} {m} r f el em et ew ec eh =
           hidden = hs;
         }
     whole hs xs ms ts cs = rw (hs, xs, ms, ts, cs)
-
--- A COLUMN OF A SCOPE
--- its label is of one of the scope's tables, or of none
-pub own-slot : (p : Scope) (i : ℕ) → Valid p → i < p .width → slotOf (getD (p .labels) i 0) ≤ p .count
-own-slot p i v h = rw (getD-take (p .width) (p .labels) i 0 h) at (below-at i (v .slots))
-
--- the i-th column of the scope p, over the same tables
-pub hidden-passed : {c q t : List ℕ} {s : Scope} {x m : ℕ} {r : Scope} (p : Scope) (i : ℕ) → HiddenAdded c q t s x m r
-    → tableNumbers s ≡ tableNumbers p → i < p .width → x ≡ getD (p .labels) i 0 → m ≡ getD (p .matches) i 0
-    → scopeOf (treeAt c q t) c q r
-    ≡ addPassthrough (scopeOf (treeAt c q t) c q p) i true (scopeOf (treeAt c q t) c q s)
-unfolding scopeOf scopeFrom foundLabel
-hidden-passed {c} {q} {t} {s} {x} {m} p i a ts h ex em =
-    let ms : List ℕ = take (p .width) (p .matches) in
-    let l : getD (columnsOf c q (tableNumbers p) (labelsOf p)) i nameless ≡ labelAt c q (tableNumbers s) x =
-    label-found (treeAt c q t) c q (labelsOf p) ms (tableNumbers p) (p .hidden) i
-    ∙ rw (getD-take (p .width) (p .labels) i 0 h, ← ex, ← ts) in
-    a .is (scopeOf (treeAt c q t) c q p) ms i refl (getD-take (p .width) (p .matches) i 0 h ∙ sym em) l

@@ -1,5 +1,5 @@
 -- The label that an expression passes on: that of a column name which is found, else none.
-use Prim.Native.Nat.{ℕ, _-_, _≤_, _<_}
+use Prim.Native.Nat.{ℕ, _≤_, _<_}
 use native.Mathlib.Omega.{arith}
 use mathlib.Core.Path.{_≡_, refl, ap, sym, _∙_}
 use mathlib.Core.List.{List}
@@ -92,17 +92,6 @@ passed-slot n xs s x b = go (asColumn x)
     go (some m) = found-slot n (rules.lookup s (m .table) (m .name)) b
 
 -- THE LABEL OF AN ITEM
-module _ (e : ℕ → Expr) {c q : Bytes} {xs ms ts : List ℕ} (h : ℕ) {x : Expr} where
-  -- without an alias it is what its expression passes on
-  pub item-passed : {l : ℕ} → Passed c q xs ms ts x l
-      → itemLabel (scopeFrom e c q xs ms ts h) x none ≡ labelAt c q ts l
-  unfolding itemLabel
-  item-passed p = sym (ap (labelAt c q ts) (p .is e h) ∙ passed-label e c q xs ms ts h x)
-
-  pub item-slot : {l : ℕ} (n : ℕ) → Passed c q xs ms ts x l → Below n xs → slotOf l ≤ n
-  item-slot n p b =
-      rw (p .is e h) (passed-slot n xs (scopeFrom e c q xs ms ts h) x b)
-
 -- with an alias it is that
 pub item-alias : (c q : Bytes) (s : rules.Scope) (ts : List ℕ) (x : Expr) (a n : ℕ) → Fits (wordAt c q a n)
     → 0 < length (wordAt c q a n .bytes) → itemLabel s x (some (wordAt c q a n)) ≡ labelAt c q ts (packed 0 a n)

@@ -1,12 +1,11 @@
 -- A column by its name: what was found, and a search that has come to the i-th label.
-use Prim.Native.Nat.{ℕ, suc, _+_, _-_, _<_}
+use Prim.Native.Nat.{ℕ, suc, _+_, _<_}
 use native.Mathlib.Omega.{arith}
 use mathlib.Core.Path.{_≡_, ap, _∙_}
 use mathlib.Core.Bool.{Bool, true, false}
 use mathlib.Core.List.{List, [], _∷_}
 use mathlib.Core.Option.{Option, none, some}
-use lib.ListN.{length, take}
-use Rattle.rules.specs.Refusals.{refusalNumber}
+use lib.ListN.{length}
 use Rattle.rules.specs.Refusals.{unknownQualifier, unknownColumn, ambiguousColumn, constantOnly, notAggregated}
 use Rattle.rules.specs.Lists.{Bytes, any, positions, isEmpty}
 use Rattle.rules.specs.Lines.{Word}
@@ -16,7 +15,7 @@ use Rattle.rules.specs.Places.{wordAt}
 use Rattle.rules.specs.Scope as rules
 use Rattle.rules.specs.Scope.{at, missing, theOnly, theLast, notFound, lookupNamed, isNamed, isQualified}
 use Rattle.scope.specs.Labels.{columns-length}
-use Rattle.scope.specs.Scopes.{matchesOf, scopeFrom, scopeOf, labelsOf, tableNumbers}
+use Rattle.scope.specs.Scopes.{matchesOf, scopeFrom}
 use Rattle.scope.specs.declared.Scope.{Scope}
 use Rattle.scope.specs.declared.lookup.Found.{Found}
 use Rattle.scope.specs.declared.lookup.Found.the-variants.{At, UnknownQualifier, UnknownColumn, Ambiguous}
@@ -33,10 +32,6 @@ foundOf Ambiguous = missing ambiguousColumn
 foundOf ConstantOnly = missing constantOnly
 foundOf NotAggregated = missing notAggregated
 
--- document 01's number of what was not found, and 0 for a position
-unfoldable pub numberOf : Found → ℕ
-numberOf r = elim (foundOf r) [ at i ↦ 0 | missing n ↦ refusalNumber n ]
-
 unfoldable pub qualifierOf : Bytes → Bytes → Qualifier → Option Word
 qualifierOf c q Nothing = none
 qualifierOf c q (Table b m) = some (wordAt c q b m)
@@ -44,12 +39,6 @@ qualifierOf c q (Table b m) = some (wordAt c q b m)
 -- a name looked up among the labels xs over the tables ts, to whose columns ms are matched
 pub record Looked (c q : Bytes) (xs ms ts : List ℕ) (o : Option Word) (w : Word) (r : Found) : Type 0 where
   pub is : (e : ℕ → Expr) (h : ℕ) → rules.lookup (scopeFrom e c q xs ms ts h) o w ≡ foundOf r
-
-pub looked-scope : (e : ℕ → Expr) {c q : Bytes} (s : Scope) {o : Option Word} {w : Word} {r : Found}
-    → Looked c q (labelsOf s) (take (s .width) (s .matches)) (tableNumbers s) o w r
-    → rules.lookup (scopeOf e c q s) o w ≡ foundOf r
-unfolding scopeOf
-looked-scope e s k = k .is e (s .hidden)
 
 -- what F makes of the positions ps in a scope of such matches
 pub record Sought (F : rules.Scope → List ℕ → rules.Found) (ps ms : List ℕ) (r : Found) : Type 0 where

@@ -6,14 +6,13 @@ use mathlib.Core.Path.{_≡_, refl, ap, sym, _∙_}
 use mathlib.Core.Bool.{Bool, true, false}
 use mathlib.Core.List.{List, [], _∷_}
 use mathlib.Core.Option.{Option, none, some}
-use lib.ListN.{length, getD, take, drop, drop-of-length-le}
+use lib.ListN.{length, getD, drop, drop-of-length-le}
 use lib.Seq.{drop-cons}
 use Rattle.rules.specs.Lists.{Bytes}
 use Rattle.rules.specs.Ast.{Expr}
 use Rattle.rules.specs.Equality.{equal}
 use Rattle.rules.specs.Scope.{matchAt, matched}
-use Rattle.scope.specs.Scopes.{matchesOf, scopeFrom, scopeOf, labelsOf, tableNumbers}
-use Rattle.scope.specs.declared.Scope.{Scope}
+use Rattle.scope.specs.Scopes.{matchesOf, scopeFrom}
 use Rattle.scope.specs.declared.matches.Matched.{Matched}
 use Rattle.scope.specs.declared.matches.Matched.the-variants.{At, Nothing}
 
@@ -24,9 +23,6 @@ matchedOf Nothing = none
 -- the first match from the i-th column on is the first of all
 pub record Matching (e : ℕ → Expr) (ms : List ℕ) (x : Expr) (i : ℕ) : Type 0 where
   pub rest : matchAt (matchesOf e i (drop i ms)) x ≡ matchAt (matchesOf e 0 ms) x
-
-pub match-begin : (e : ℕ → Expr) (ms : List ℕ) (x : Expr) → Matching e ms x 0
-match-begin e ms x = record { rest = refl }
 
 module _ {e : ℕ → Expr} {ms : List ℕ} {x : Expr} {i : ℕ} (k : Matching e ms x i) where
   -- nothing is matched to the column
@@ -62,11 +58,6 @@ pub matched-from : (e : ℕ → Expr) (c q : Bytes) (xs ms ts : List ℕ) (h : �
     → matched (scopeFrom e c q xs ms ts h) x ≡ matchAt (matchesOf e 0 ms) x
 unfolding matched scopeFrom
 matched-from e c q xs ms ts h x = refl
-
-pub matched-scope : (e : ℕ → Expr) (c q : Bytes) (s : Scope) (x : Expr)
-    → matched (scopeOf e c q s) x ≡ matchAt (matchesOf e 0 (take (s .width) (s .matches))) x
-unfolding scopeOf
-matched-scope e c q s x = matched-from e c q (labelsOf s) (take (s .width) (s .matches)) (tableNumbers s) (s .hidden) x
 
 -- A COLUMN THAT IS MATCHED IS BELOW THE WIDTH
 match-below : (e : ℕ → Expr) (x : Expr) (i j : ℕ) (ms : List ℕ) → matchAt (matchesOf e i ms) x ≡ some j

@@ -3,19 +3,17 @@ use Prim.Native.Nat.{ℕ, _+_, _-_, _≤_}
 use native.Mathlib.Omega.{arith}
 use mathlib.Core.Path.{_≡_, sym}
 use mathlib.Core.List.{List}
-use mathlib.Core.Option.{Option, some}
+use mathlib.Core.Option.{some}
 use lib.ListN.{length}
-use Rattle.rules.specs.Lists.{Bytes, entryAfter, orElse}
+use Rattle.rules.specs.Lists.{Bytes, entryAfter}
 use Rattle.rules.specs.Lines.{Word}
 use Rattle.rules.specs.Schema.{Table, Catalog}
 use Rattle.rules.specs.Ast.{Expr, Statement}
-use Rattle.rules.specs.Ast as Ast
 use Rattle.rules.specs.Places.{wordAt}
 use Rattle.rules.specs.Scope as rules
-use Rattle.claims.specs.Reading.Has.{FromHas}
 use Rattle.claims.specs.Words.Ends.{endAddress}
 use Rattle.claims.specs.Words.Within.{NameWithin, CatalogName, StatementName, name-below}
-use Rattle.claims.specs.Within.{TableWithin, ExprWithin, TextsWithin, table-at, column-within, from-name}
+use Rattle.claims.specs.Within.{TableWithin, TextsWithin, table-at, column-within}
 use Rattle.schema.specs.Layout.{tableAt, catalogAt}
 use Rattle.schema.specs.Search.{foundTable, tableFrom, table-position}
 use Rattle.schema.specs.declared.Found.the-variants.{At}
@@ -38,11 +36,6 @@ module _ {c q : Bytes} {ts : Catalog} {s : Statement} (h : TextsWithin c q ts s)
   -- a table of the catalog, under any name
   pub table-fits : {t : Table} → TableWithin c q t → TableFits t
   table-fits g = record { few = omega (arith, g .few); names = λ j x e. catalog-fits (column-within g j x e .0) }
-
-  -- the name that a table of FROM goes by
-  pub from-fits : (l : ℕ) (n : Word) (a : Option Word) → FromHas (ExprWithin c q) (StatementName c q) (Ast.table l n a)
-      → Fits (orElse a n)
-  from-fits l n a g = statement-fits (from-name l n a g)
 
   -- a table that is found in the numbers of the catalog
   module _ (tables : List ℕ) (e : catalogAt c q tables ≡ ts) (i : ℕ) (n : Bytes)

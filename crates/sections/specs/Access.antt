@@ -1,11 +1,11 @@
 -- Sections as they were read, by numbers: the kinds by name, how many entries a section has, and what the twelve numbers of an
 -- entry stand for.
-use Prim.Native.Nat.{ℕ, zero, suc, _+_, _*_, _<_, _≤_}
+use Prim.Native.Nat.{ℕ, zero, suc, _+_, _*_, _<_}
 use native.Mathlib.Omega.{arith}
 use native.Mathlib.Decide.{decLt}
 use mathlib.Core.Path.{_≡_, refl, sym, ap, _∙_}
 use mathlib.Core.List.{List, [], _∷_}
-use mathlib.Core.Option.{Option, none, some}
+use mathlib.Core.Option.{some}
 use lib.ListN.{length, getD, drop, List·getD-eq-default}
 use Rattle.rules.specs.Lists.{Bytes, entryAfter}
 use Rattle.ast.specs.Table.{argumentsAt, treeAt}
@@ -119,12 +119,6 @@ after-drop zero (y ∷ xs) x h = ap (λ z. z ∷ xs) (some-same y x h)
     some-same : {A : Type 0} (a b : A) → some a ≡ some b → a ≡ b
     some-same a b e = cc
 after-drop (suc k) (y ∷ xs) x h = after-drop k xs x h
-
-pub after-none : {A : Type 0} (k : ℕ) (xs : List A) → length xs ≤ k → entryAfter k xs ≡ none
-unfolding entryAfter
-after-none k [] h = refl
-after-none zero (x ∷ xs) h = absurd (omega arith)
-after-none (suc k) (x ∷ xs) h = after-none k xs (omega arith)
 
 -- SECTIONS
 module _ (b q : Bytes) (cells parts : List ℕ) where

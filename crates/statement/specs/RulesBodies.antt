@@ -1,7 +1,7 @@
 -- The statements that the rules read are the statements read by sections.
 use Prim.Native.Nat.{ℕ}
 use native.Mathlib.Omega.{arith}
-use mathlib.Core.Path.{_≡_, refl, ap}
+use mathlib.Core.Path.{_≡_, refl}
 use Rattle.rules.specs.Refusals.{ok}
 use Rattle.rules.specs.Lists.{Bytes}
 use Rattle.rules.specs.Ast.{Statement}
@@ -48,9 +48,6 @@ body-read (updateHead n) l = rw update-is
 body-read (createHead n) l = rw create-is
 body-read (dropHead n y) l = refl
 body-read otherHead l = refl
-
-pub body-is : (h : StatementHead) (l : ℕ) (p : Place) → statementBody h l p ≡ sectionsOf h l p
-body-is h l p = ap (λ m. m p) (body-read h l)
 
 -- A whole statement.
 pub records-are : (p : Place) → statementRecords p ≡ (do

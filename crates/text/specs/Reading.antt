@@ -1,7 +1,7 @@
 -- Where reading stands, by position in a text, and what the line there says of the record.
 use Prim.Native.Nat.{ℕ, zero, suc, _+_, _-_, _≤_, _<_, min}
 use native.Mathlib.Omega.{arith}
-use native.Mathlib.Nat.{add-zero, zero-add, add-assoc, min-eq-left, min-eq-right, min-le-left, le-min}
+use native.Mathlib.Nat.{add-zero, zero-add, add-assoc, min-eq-left, min-eq-right, le-min}
 use native.Mathlib.Decide.{decLt}
 use native.Mathlib.Numerals.{add-one}
 use mathlib.Core.Path.{_≡_, refl, sym, ap, _∙_}
@@ -118,9 +118,6 @@ module _ (k : Text) (t : Bytes) (p l c n : ℕ) (r : Line) (f : Fields t p r) wh
 
   pub count-some : 1 ≤ r .count
   count-some = rw line-count (le-min (omega arith) line-some)
-
-  pub count-most : r .count ≤ keptFields
-  count-most = rw line-count (min-le-left _ _)
 
   -- fewer than ten fields are all fields
   pub line-whole : r .count < keptFields → lineHere (place k t p l c n) ≡ lineOf (baseAddress k) t r

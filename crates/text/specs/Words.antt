@@ -52,15 +52,6 @@ pub named-by : {A : Type 0} (t : List (Bytes × A)) (words k : Bytes) (n : ℕ) 
 named-by t words k n e h = named-nth t k ∙ rw (e, h)
 
 -- no word: as many as there are
-pub find-most : (ws : List Bytes) (k : Bytes) → find ws k ≤ length ws
-unfolding find
-find-most [] k = omega arith
-find-most (w ∷ ws) k = go (same w k) refl (find-most ws k)
-  where
-    go : (b : Bool) → same w k ≡ b → find ws k ≤ length ws → find (w ∷ ws) k ≤ length (w ∷ ws)
-    go true h ih = rw (find, h) (omega arith)
-    go false h ih = rw (find, h) (omega arith)
-
 pub nth-none : {A : Type 0} (t : List (Bytes × A)) (n : ℕ) → length t ≤ n → nth t n ≡ none
 unfolding nth
 nth-none [] n h = refl
