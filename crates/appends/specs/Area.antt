@@ -8,14 +8,14 @@ use mathlib.Core.Option.{Option, none, some}
 use lib.ListN.{length, length-append}
 use Rattle.rules.specs.Lists.{concat}
 use Rattle.rules.specs.Lines.{Word}
-use Rattle.rules.specs.Schema.{Value, null, bool, int, float, text, Table, namedBy}
+use Rattle.rules.specs.Schema.{Value, null, bool, int, float, text, Table}
 use Rattle.rules.specs.Plan.{Built, Node, Mapping, Made, Plan}
 use Rattle.rules.specs.Plan as P
 use Rattle.rules.specs.Cells.{Cell, countAll, cellsAll, expressions, cellCount, numberSecond, planExpressions}
 use Rattle.rules.specs.Cells.{planCells, numberPlan}
 use Rattle.rules.specs.Cells as C
-use Rattle.rules.specs.Nodes.{NodeRecord, scan, nodeOf, nodeRecords, planRecords}
-use Rattle.rules.specs.Area.{sized, typeCode, optionSpan, optionNumber, defaultNumbers, halves, span, flag}
+use Rattle.rules.specs.Nodes.{NodeRecord, nodeOf, nodeRecords, planRecords}
+use Rattle.rules.specs.Area.{typeCode, optionSpan, defaultNumbers, halves, span, flag}
 use Rattle.rules.specs.Area.{valueNumbers, isNumbers, cellNumbers, recordNumbers, ownNumbers, mapNumbers, setNumbers}
 use Rattle.rules.specs.Area.{madeNumbers, planCode, cellPart, nodePart, ownStart, header, planNumbers}
 use Rattle.claims.specs.Cells.Length.{cellsAll-length}
@@ -72,13 +72,6 @@ pub cells-four : (cs : List Cell) → length (cellsNumbers cs) ≡ 4 * length cs
 unfolding cellsNumbers concat
 cells-four [] = refl
 cells-four (c ∷ cs) = rw (length-append, cell-four c, cells-four cs) (omega arith)
-
--- a scan is the table's name in the statement, its filter and its alias
-pub scan-numbers : (w : Word) (t : Table) (a : Option Word) (x : Option ℕ) → recordNumbers (scan (namedBy w t) a x)
-    ≡ 1 ∷ 5 ∷ w .start ∷ length (w .bytes) ∷ optionNumber x ∷ optionSpan a
-unfolding recordNumbers sized span optionSpan namedBy
-scan-numbers w t none x = refl
-scan-numbers w t (some v) x = refl
 
 -- a created column is twelve numbers
 pub made-twelve : (c : Made) → length (madeNumbers c) ≡ 12

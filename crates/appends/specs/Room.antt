@@ -1,10 +1,8 @@
 -- How many cells and node numbers are appended, accepted or refused, and that there is room for them at each step.
 pub mod Written
-pub mod Expressions
 pub mod Entries
 pub mod Select
 pub mod From
-pub mod Points
 pub mod Statements
 pub mod Stages
 pub mod Clauses

@@ -1,4 +1,3 @@
 -- Scopes and lists that the code may take for granted.
-pub mod Tables
 pub mod Stars
 pub mod Hidden

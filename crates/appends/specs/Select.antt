@@ -5,4 +5,3 @@ pub mod Groups
 pub mod Projection
 pub mod Rows
 pub mod Stages
-pub mod Whole

@@ -33,10 +33,6 @@ module _ (c : Catalog) (f : From) (fs : List From) where
 
   module _ (s : Scope) (l i k : ℕ) (cs : List Cell) (rs : List NodeRecord) (j m : ℕ)
       (h : SourceLaid (buildFrom c f) s l i k cs rs j m) where
-    pub from-merge : (w : Refusal) → mergeAt empty s l ≡ refused w → buildFromClause c (f ∷ fs) ≡ refused w
-    unfolding buildFromClause
-    from-merge w e = bind-ok _ _ _ (h .answer) ∙ bind-refused _ _ w (merge-at empty s (h .node) l ∙ e)
-
     -- the rest of the clause stands behind it
     pub from-first : (t : Scope) → mergeAt empty s l ≡ ok t
         → buildFromClause c (f ∷ fs) ≡ buildLaterItems c fs (stageOf (h .node) t)

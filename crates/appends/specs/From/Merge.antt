@@ -1,7 +1,7 @@
 -- Merging a FROM item's scope looks at its scope and line alone; a table found, and a scan laid.
 use Prim.Native.Nat.{ℕ, _+_}
 use mathlib.Core.Path.{_≡_, refl, _∙_}
-use mathlib.Core.Bool.{true, false}
+use mathlib.Core.Bool.{false}
 use mathlib.Core.List.{[], _∷_}
 use mathlib.Core.Option.{Option, none, some}
 use lib.Dec.{ltb}
@@ -17,7 +17,7 @@ use Rattle.rules.specs.Plan as P
 use Rattle.rules.specs.Nodes.{scan}
 use Rattle.rules.specs.Scope.{Scope, width, fromTable, shares, merge}
 use Rattle.rules.specs.BuildFrom.{mergeInto, scanOf, buildFrom}
-use Rattle.appends.specs.Answers.{bind-ok, bind-refused, refuseIf-passed, refuseIf-refused}
+use Rattle.appends.specs.Answers.{bind-ok, bind-refused, refuseIf-passed}
 use Rattle.appends.specs.Nodes.Kinds.{lays-table}
 use Rattle.appends.specs.From.Laid.{sourceOf, SourceLaid}
 
@@ -34,15 +34,6 @@ unfolding mergeInto mergeAt
 merge-at s t n l = refl
 
 module _ (s t : Scope) (l : ℕ) where
-  pub merge-duplicate : shares (s .tables) (t .tables) ≡ true → mergeAt s t l ≡ refuse duplicateTable l
-  unfolding mergeAt
-  merge-duplicate e = refuseIf-refused _ _ l _ e
-
-  pub merge-wide : shares (s .tables) (t .tables) ≡ false → ltb mostColumns (width s + width t) ≡ true
-      → mergeAt s t l ≡ refuse limitPassed l
-  unfolding mergeAt
-  merge-wide e f = refuseIf-passed _ _ l _ e ∙ refuseIf-refused _ _ l _ f
-
   pub merge-step : shares (s .tables) (t .tables) ≡ false → ltb mostColumns (width s + width t) ≡ false
       → mergeAt s t l ≡ ok (merge s t)
   unfolding mergeAt

@@ -41,10 +41,6 @@ module _ (e : Option Expr) (ra rb : Answer Source) where
 
   module _ (s : Scope) (la i k : ℕ) (cs : List Cell) (rs : List NodeRecord) (j m : ℕ)
       (h : SourceLaid ra s la i k cs rs j m) where
-    pub sides-first-merge : (w : Refusal) → mergeAt empty s la ≡ refused w → buildSides e ra rb ≡ refused w
-    unfolding buildSides
-    sides-first-merge w f = bind-ok _ _ _ (h .answer) ∙ bind-refused _ _ w (merge-at empty s (h .node) la ∙ f)
-
     module _ (t : Scope) (f : mergeAt empty s la ≡ ok t) where
       to-second : buildSides e ra rb ≡ rb >>= λ b. mergeInto t b >>= λ v. buildOption v e
           >>= λ x. ok (record { first = sourceOf (h .node) s la; second = b; scope = v; predicate = x })

@@ -4,7 +4,7 @@ use Prim.Native.Nat.{ℕ, _+_, _*_, _≤_}
 use native.Mathlib.Omega.{arith}
 use mathlib.Core.Path.{_≡_, ap}
 use mathlib.Core.List.{List}
-use mathlib.Core.Option.{Option, some}
+use mathlib.Core.Option.{Option}
 use lib.ListN.{length}
 use Rattle.rules.specs.Refusals.{ok}
 use Rattle.rules.specs.Limits.{mostCells, mostColumns}
@@ -167,16 +167,6 @@ module _ (c : Catalog) (q : Select) (few : selectSize q ≤ mostCells) where
               (groups-cells w (q .group) (functionsOf is′ (laterOf q))) a ea,
         )
 
-        pub room-items : cellCount (a .node) + itemsWritten (a .scope) is′ (laterOf q) ≤ mostPlanCells
-        room-items = omega (
-          arith,
-          sizes,
-          later-sizes,
-          cells-groups,
-          items-written (a .scope),
-          later-written (a .scope),
-        )
-
         module _ (p : Stage) (ep : buildProjection a is′ (laterOf q) ≡ ok p) where
           cells-items : cellCount (p .node) ≤ before + 3 * total size (q .group) + 3 * itemsSize (q .items)
               + mostColumns + total size (laterOf q) + total (argumentsCost (w .scope)) (laterOf q)
@@ -212,9 +202,3 @@ module _ (c : Catalog) (q : Select) (few : selectSize q ≤ mostCells) where
               room-order,
               ensured (buildOrder h (q .order) (p .scope)) _ (order-cells h (q .order) (p .scope)) o eo,
             )
-
--- a clause's expression
-pub room-clause : (s : Scope) (n r : ℕ) (o : Option Expr) (e : Expr) → o ≡ some e
-    → n + total (written s) (given o) ≤ r → n + written s e ≤ r
-unfolding given total
-room-clause s n r o e h g = omega (arith, rw (h, given, total) at g)

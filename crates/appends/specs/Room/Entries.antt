@@ -1,5 +1,5 @@
--- Room for the entries of a list, one after the other: each appends at most what k says of it.
-use Prim.Native.Nat.{ℕ, _+_, _≤_}
+-- The cells of a list's entries: each appends at most what k says of it.
+use Prim.Native.Nat.{ℕ, _≤_}
 use native.Mathlib.Omega.{arith}
 use mathlib.Core.List.{List, [], _∷_, map}
 use Rattle.rules.specs.Refusals.{Answer, _>>=_}
@@ -8,17 +8,6 @@ use Rattle.rules.specs.Cells.{builtCount, countAll}
 use Rattle.rules.specs.BuildExpression.{each}
 use Rattle.rules.specs.Sizes.{total}
 use Rattle.claims.specs.Answers.{Ensures, then}
-
-module _ {A : Type 0} (k : A → ℕ) (a : A) (as′ : List A) (n r : ℕ) (h : n + total k (a ∷ as′) ≤ r) where
-  -- for the next entry
-  pub room-entry : n + k a ≤ r
-  unfolding total
-  room-entry = omega (arith, h)
-
-  -- for those behind it
-  pub room-rest : (m : ℕ) → m ≤ n + k a → m + total k as′ ≤ r
-  unfolding total
-  room-rest m g = omega (arith, h, g)
 
 -- the cells of accepted entries
 pub entries-within : {A B : Type 0} (f : A → Answer B) (key : B → Built) (k : A → ℕ)

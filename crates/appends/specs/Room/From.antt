@@ -1,5 +1,5 @@
--- The cells of FROM: at most three for each expression cell of its predicates; room for them, side by side. The numbers
--- of its nodes: at most 272 a table, less 265.
+-- The cells of FROM: at most three for each expression cell of its predicates. The numbers of its nodes: at most 272 a
+-- table, less 265.
 use Prim.Native.Nat.{ℕ, _+_, _*_, _≤_}
 use native.Mathlib.Omega.{arith}
 use mathlib.Core.Path.{_≡_, refl}
@@ -8,8 +8,7 @@ use mathlib.Core.List.{List, [], _∷_, _++_}
 use mathlib.Core.Option.{Option, none, some}
 use Rattle.rules.specs.Lists.{given, concat}
 use Rattle.rules.specs.Schema.{Catalog}
-use Rattle.rules.specs.Ast.{Expr, Join, From}
-use Rattle.rules.specs.Ast as Ast
+use Rattle.rules.specs.Ast.{Expr, From}
 use Rattle.rules.specs.Plan.{Built, Node}
 use Rattle.rules.specs.Plan as P
 use Rattle.rules.specs.Cells.{Cell, countAll, expressions, cellCount}
@@ -108,29 +107,6 @@ item-next c f s l i k cs rs j m h = omega (
   h .lays .next,
   ensured (buildFrom c f) _ (item-cells c f) (sourceOf (h .node) s l) (h .answer),
 )
-
--- ROOM for the sides of a join whose first cell is i, and for its predicate, whichever side is built first
-module _ (l : ℕ) (y : Join) (a b : From) (p : Option Expr) (i r : ℕ) (h : i + 3 * fromSize (Ast.join l y a b p) ≤ r) where
-  pub room-first-left : i + 3 * fromSize a ≤ r
-  unfolding fromSize
-  room-first-left = omega (arith, h)
-
-  pub room-first-right : i + 3 * fromSize b ≤ r
-  unfolding fromSize
-  room-first-right = omega (arith, h)
-
-  pub room-second-right : (j : ℕ) → j ≤ i + 3 * fromSize a → j + 3 * fromSize b ≤ r
-  unfolding fromSize
-  room-second-right j g = omega (arith, h, g)
-
-  pub room-second-left : (j : ℕ) → j ≤ i + 3 * fromSize b → j + 3 * fromSize a ≤ r
-  unfolding fromSize
-  room-second-left j g = omega (arith, h, g)
-
-  pub room-predicate : (s : Scope) (j : ℕ) → j ≤ i + 3 * fromSize a + 3 * fromSize b
-      → j + total (written s) (given p) ≤ r
-  unfolding fromSize
-  room-predicate s j g = omega (arith, h, g, option-three s p)
 
 -- NUMBERS of an accepted item's nodes
 pub item-numbers : (c : Catalog) (f : From) → Ensures (buildFrom c f) (λ r. nodeRoom (r .node) + 265 ≤ 272 * fromTables f)

@@ -2,48 +2,35 @@
 -- may take, are within the most numbers of nodes, whether or not that clause is accepted.
 use Prim.Native.Nat.{ℕ, _+_, _*_, _≤_}
 use native.Mathlib.Omega.{arith}
-use mathlib.Core.Path.{_≡_, refl, ap, _∙_}
-use mathlib.Core.List.{List, [], _∷_, _++_, map}
+use mathlib.Core.Path.{_≡_, ap, _∙_}
+use mathlib.Core.List.{List, _++_, map}
 use lib.ListN.{length}
 use Rattle.rules.specs.Refusals.{ok, invalidOffset, invalidLimit}
 use Rattle.rules.specs.Limits.{mostCells, mostColumns}
 use Rattle.rules.specs.Schema.{Catalog}
-use Rattle.rules.specs.Ast.{Expr, size, Item, Select}
+use Rattle.rules.specs.Ast.{size, Item, Select}
 use Rattle.rules.specs.Plan.{Built, Node, labels}
 use Rattle.rules.specs.Plan as P
-use Rattle.rules.specs.Cells.{Cell, numberNode}
-use Rattle.rules.specs.Nodes.{NodeRecord}
-use Rattle.rules.specs.Scope.{Scope, spawn, width}
+use Rattle.rules.specs.Scope.{width}
 use Rattle.rules.specs.BuildExpression.{clauseExpr}
 use Rattle.rules.specs.Stage.{Stage}
-use Rattle.rules.specs.BuildAggregate.{retain, retainGroups, retainFunctions, buildGroups}
+use Rattle.rules.specs.BuildAggregate.{buildGroups}
 use Rattle.rules.specs.BuildFrom.{buildFromClause}
 use Rattle.rules.specs.Items.{buildItems}
 use Rattle.rules.specs.BuildSelect.{buildWhere, laterOf, functionsOf, buildProjection, buildHaving, buildOrder, buildRows}
-use Rattle.rules.specs.Sizes.{total, clauseSize, itemsSize, keysSize, selectSize}
+use Rattle.rules.specs.Sizes.{clauseSize, itemsSize, keysSize, selectSize}
 use Rattle.claims.specs.Answers.{ensured}
 use Rattle.claims.specs.Count.Totals.{total-append, total-map}
 use Rattle.claims.specs.Count.Stars.{expanded-items}
-use Rattle.claims.specs.Count.Uses.{retain-most, later-total, given-size}
+use Rattle.claims.specs.Count.Uses.{later-total, given-size}
 use Rattle.claims.specs.Reading.Limits.{LimitedSelect}
 use Rattle.claims.specs.Room.Nodes.{mostNodeNumbers, mostFromNumbers, filterNumbers, mostGroupNumbers, mostItemNumbers}
-use Rattle.claims.specs.Room.Nodes.{mostKeyNumbers, rowCountNumbers, nodeRoom, recordsRoom}
-use Rattle.claims.specs.Room.Nodes.{records-room, number-room}
+use Rattle.claims.specs.Room.Nodes.{mostKeyNumbers, rowCountNumbers, nodeRoom}
 use Rattle.claims.specs.Room.Select.{RoomAt, from-at, where-at, groups-at, projection-at, width-at, having-room}
 use Rattle.claims.specs.Room.Select.{order-room, rows-room, offset-room, limit-room}
-use Rattle.appends.specs.Nodes.Lays.{Lays}
 use Rattle.appends.specs.Scopes.Stars.{collectEach-size, stars-functions}
 
--- the numbers of the records that a node lays
-pub lays-room : (i k : ℕ) (n : Node Built) (cs : List Cell) (rs : List NodeRecord) (j m : ℕ) → Lays i k n cs rs j m
-    → recordsRoom rs ≡ nodeRoom n
-lays-room i k n cs rs j m h = rw (← h .records) (records-room (numberNode i n) k ∙ number-room n i)
-
 -- THE NEXT RECORD
--- the numbers of g groups and f functions, of k items, of k order keys, of a remap of k columns
-abbrev pub groupRecord : ℕ → ℕ → ℕ
-groupRecord g f = 4 + g + 2 * f
-
 abbrev pub itemRecord : ℕ → ℕ
 itemRecord k = 3 + 3 * k
 
@@ -52,15 +39,6 @@ keyRecord k = 3 + 2 * k
 
 abbrev pub remapRecord : ℕ → ℕ
 remapRecord k = 3 + k
-
-ones : (es : List Expr) → total (λ e. 1) es ≡ length es
-unfolding total
-ones [] = refl
-ones (e ∷ es) = omega (arith, ones es)
-
--- no more are kept than there are
-pub retain-length : (p : Scope) (es : List Expr) (c : Scope) → length (retain p es c .exprs) ≤ length es
-retain-length p es c = omega (arith, ones es, ones (retain p es c .exprs), retain-most (λ e. 1) p es c)
 
 -- a SELECT's aggregates are at most its expression cells
 pub functions-length : (q : Select) (n : Node Built) (is′ : List Item) → buildItems q n ≡ ok is′
@@ -95,21 +73,6 @@ module _ (c : Catalog) (q : Select) (few : selectSize q ≤ mostCells) (limited 
         (ew : buildWhere f (q .filter) ≡ ok w) where
       at-where : RoomAt (mostFromNumbers + filterNumbers) w
       at-where = ensured (buildWhere f (q .filter)) _ (where-at f at-from (q .filter)) w ew
-
-      -- also where they are more than 256
-      pub numbers-groups : nodeRoom (w .node)
-          + groupRecord (length (retainGroups (w .scope) (q .group) .exprs))
-          (length (retainFunctions (w .scope) (q .group) (functionsOf is′ (laterOf q)) .exprs)) ≤ mostNodeNumbers
-      unfolding retainGroups retainFunctions
-      numbers-groups = omega (
-        arith,
-        few,
-        at-where .nodes,
-        limited .group,
-        retain-length (w .scope) (q .group) (spawn (w .scope)),
-        retain-length (w .scope) (functionsOf is′ (laterOf q)) (retainGroups (w .scope) (q .group) .scope),
-        functions-length q (f .node) is′ ei,
-      )
 
       module _ (a : Stage) (ea : buildGroups w (q .group) (functionsOf is′ (laterOf q)) ≡ ok a) where
         at-groups : RoomAt (mostFromNumbers + filterNumbers + mostGroupNumbers) a

@@ -1,7 +1,7 @@
 -- Hidden columns are only ever appended, at most one for each expression cell of HAVING and ORDER.
 use Prim.Native.Nat.{ℕ, _+_, _≤_}
 use native.Mathlib.Omega.{arith}
-use mathlib.Core.Path.{_≡_, refl, sym, ap, _∙_}
+use mathlib.Core.Path.{_≡_, refl, sym, _∙_}
 use mathlib.Core.List.{List, [], _∷_, _++_, append-assoc, append-nil}
 use mathlib.Core.Option.{Option, none, some}
 use lib.ListN.{length, length-append}
@@ -9,8 +9,7 @@ use Rattle.rules.specs.Ast.{Expr, star, column, literal, call, unary, binary, i
 use Rattle.rules.specs.Ast.{lineOf}
 use Rattle.rules.specs.Scope.{Scope}
 use Rattle.rules.specs.Hidden.{HiddenColumn, Hidden, addHidden, toHide, visit, Walk, whereTrue, whereFalse, walk}
-use Rattle.rules.specs.Hidden.{walkAny, hiddenOf}
-use Rattle.rules.specs.Sizes.{total}
+use Rattle.rules.specs.Hidden.{walkAny}
 use Rattle.claims.specs.Cases.{either-way}
 
 -- g hides what h hides and, behind it, at most n columns more
@@ -77,16 +76,3 @@ mutual
   any-hides p (cons a as′) h =
       false-hides h (walk p a h) (λ h₁. walkAny p as′ h₁) (size a) (sizeAll as′)
       (walk-hides p a h) (λ h₁. any-hides p as′ h₁)
-
-pub hidden-hides : (p : Scope) (es : List Expr) (h : Hidden) → Hides h (hiddenOf p es h) (total size es)
-unfolding hiddenOf total
-hidden-hides p [] h = hides-none h 0
-hidden-hides p (e ∷ es) h =
-    hides-both h (walk p e h .hidden) _ (size e) (total size es) (walk-hides p e h) (hidden-hides p es _)
-
--- a column that is hidden stays where it is, so the first past the most decides whatever follows
-pub hidden-stays : (p : Scope) (es : List Expr) (h : Hidden) (us : List HiddenColumn) (z : HiddenColumn)
-    → h .columns ≡ us ++ (z ∷ []) → (zs : List HiddenColumn) × (hiddenOf p es h .columns ≡ us ++ (z ∷ zs))
-hidden-stays p es h us z e =
-    let a = hidden-hides p es h in
-    (a .more, a .columns ∙ (ap (λ xs. xs ++ a .more) e ∙ append-assoc us (z ∷ []) (a .more)))

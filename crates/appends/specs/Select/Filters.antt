@@ -1,9 +1,9 @@
 -- WHERE, HAVING and ORDER appended, each behind the node before it.
 use Prim.Native.Nat.{ℕ, _+_, pred}
-use mathlib.Core.Path.{_≡_, refl, _∙_}
+use mathlib.Core.Path.{_≡_, _∙_}
 use mathlib.Core.Bool.{Bool, true, false}
 use mathlib.Core.List.{List, [], _∷_, _++_}
-use mathlib.Core.Option.{none, some}
+use mathlib.Core.Option.{some}
 use Rattle.rules.specs.Refusals.{Refusal, ok, refused, _>>=_, refuse, havingWithoutAggregate}
 use Rattle.rules.specs.Lists.{isEmpty, mapOption}
 use Rattle.rules.specs.Ast.{Key, Clause}
@@ -23,10 +23,6 @@ use Rattle.appends.specs.From.Laid.{stageOf, StageLaid, NodeLaid}
 
 module _ (i k : ℕ) (n : Node Built) (cs : List Cell) (rs : List NodeRecord) (j m : ℕ) (h : Lays i k n cs rs j m) where
   -- WHERE
-  pub where-none : (s : Scope) → StageLaid (buildWhere (stageOf n s) none) s i k cs rs j m
-  unfolding buildWhere clauseExpr mapOption buildOption filtered _>>=_
-  where-none s = record { node = n; answer = refl; lays = h }
-
   pub where-step : (c : Clause) (s : Scope) (xs : List Cell) (q : ℕ) → emit s j (c .expr) ≡ ok (xs, q)
       → StageLaid (buildWhere (stageOf n s) (some c)) s i k (cs ++ xs) (rs ++ (filter (pred m) (pred q) ∷ [])) q (m + 1)
   unfolding buildWhere clauseExpr mapOption buildOption filtered emit
@@ -45,10 +41,6 @@ module _ (i k : ℕ) (n : Node Built) (cs : List Cell) (rs : List NodeRecord) (j
       bind-refused _ _ w (bind-refused _ _ w (emitted-refused (build s (c .expr)) j w f))
 
   -- HAVING
-  pub having-none : (s : Scope) → NodeLaid (buildHaving n none s) i k cs rs j m
-  unfolding buildHaving
-  having-none s = record { node = n; answer = refl; lays = h }
-
   pub having-without : (c : Clause) (s : Scope) → isEmpty (s .aggregates) ≡ true
       → buildHaving n (some c) s ≡ refuse havingWithoutAggregate (c .line)
   unfolding buildHaving
@@ -77,10 +69,6 @@ module _ (i k : ℕ) (n : Node Built) (cs : List Cell) (rs : List NodeRecord) (j
   having-refused c s w e f = having-after c s e ∙ bind-refused _ _ w (emitted-refused (build s (c .expr)) j w f)
 
   -- ORDER
-  pub order-none : (s : Scope) → NodeLaid (buildOrder n [] s) i k cs rs j m
-  unfolding buildOrder
-  order-none s = record { node = n; answer = refl; lays = h }
-
   pub order-step : (c : Key) (ks : List Key) (s : Scope) (xs : List Cell) (bs : List (ℕ × Bool)) (q : ℕ)
       → emitFirsts (keyBuilt s) j (c ∷ ks) ≡ ok (xs, bs, q)
       → NodeLaid (buildOrder n (c ∷ ks) s) i k (cs ++ xs) (rs ++ (order (pred m) bs ∷ [])) q (m + 1)

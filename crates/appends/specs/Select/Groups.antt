@@ -6,30 +6,19 @@ use mathlib.Core.List.{List, [], _∷_, _++_}
 use lib.ListN.{length}
 use Rattle.rules.specs.Refusals.{Refusal, ok, refused, _>>=_, refuse, limitPassed}
 use Rattle.rules.specs.Limits.{mostColumns}
-use Rattle.rules.specs.Lists.{isSome}
 use Rattle.rules.specs.Ast.{Expr, lineOf}
 use Rattle.rules.specs.Plan.{Built, Aggregate, Node}
 use Rattle.rules.specs.Plan as P
 use Rattle.rules.specs.Cells.{Cell}
 use Rattle.rules.specs.Nodes.{NodeRecord, aggregate}
-use Rattle.rules.specs.Scope.{Scope, matched, addAggregate}
-use Rattle.rules.specs.BuildAggregate.{keep, retain, buildFunction, retainGroups, retainFunctions, buildAggregate}
+use Rattle.rules.specs.Scope.{Scope}
+use Rattle.rules.specs.BuildAggregate.{buildFunction, retainGroups, retainFunctions, buildAggregate}
 use Rattle.rules.specs.BuildAggregate.{aggregated, buildGroups}
 use Rattle.appends.specs.Answers.{bind-ok, bind-refused, atMost-passed, atMost-refused}
 use Rattle.appends.specs.Lists.Kinds.{emitAll, all-ok, all-refused, emitSeconds, seconds-ok, seconds-refused}
 use Rattle.appends.specs.Nodes.Lays.{Lays}
 use Rattle.appends.specs.Nodes.Kinds.{lays-aggregate}
 use Rattle.appends.specs.From.Laid.{stageOf, StageLaid}
-
--- what is kept of the groups and functions, one after the other
-module _ (p : Scope) (e : Expr) (es : List Expr) (c : Scope) where
-  pub retain-known : isSome (matched c e) ≡ true → retain p (e ∷ es) c ≡ retain p es c
-  unfolding retain
-  retain-known h = rw (h, retain)
-
-  pub retain-new : isSome (matched c e) ≡ false → retain p (e ∷ es) c ≡ keep e (retain p es (addAggregate p e c))
-  unfolding retain
-  retain-new h = rw (h, retain)
 
 module _ (i k : ℕ) (n : Node Built) (cs : List Cell) (rs : List NodeRecord) (j m : ℕ) (h : Lays i k n cs rs j m)
     (gs fs : List Expr) (s : Scope) where

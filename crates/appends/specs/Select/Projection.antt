@@ -1,7 +1,7 @@
 -- The projection, appended: the items, then the hidden columns.
 use Prim.Native.Nat.{ℕ, _+_, _-_, pred, _≤_}
 use mathlib.Core.Path.{_≡_, sym, _∙_}
-use mathlib.Core.Bool.{true, false}
+use mathlib.Core.Bool.{false}
 use mathlib.Core.List.{List, [], _∷_, _++_, map}
 use mathlib.Core.Option.{Option}
 use lib.ListN.{length}
@@ -27,11 +27,6 @@ use Rattle.appends.specs.From.Laid.{stageOf, StageLaid}
 
 module _ (i k : ℕ) (n : Node Built) (cs : List Cell) (rs : List NodeRecord) (j m : ℕ) (h : Lays i k n cs rs j m)
     (is′ : List Item) (later : List Expr) (s : Scope) where
-  -- a lone star
-  pub project-none : isLone is′ ≡ true → StageLaid (buildProjection (stageOf n s) is′ later) s i k cs rs j m
-  unfolding buildProjection
-  project-none e = record { node = n; answer = rw (e, buildProjection); lays = h }
-
   project-by : isLone is′ ≡ false → buildProjection (stageOf n s) is′ later ≡ projectItems (stageOf n s) is′ later
   unfolding buildProjection
   project-by e = rw (e, buildProjection)
