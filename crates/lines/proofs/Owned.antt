@@ -1,4 +1,4 @@
--- What a line reader owns: what its text owns can be had beside it, and with two numbers that makes another reader.
+-- What a line reader owns: its text, from which another reader may be made.
 use mathlib.Core.Path.{_≡_, refl}
 use Prim.Native.Nat.{_<_, _^_}
 use mathlib.Core.List.{[], _∷_}
@@ -34,7 +34,7 @@ Reader κs = T.the-row (namedLft 1 0 tt κs)
 abbrev pub Own : Lft → LineReader → Fml
 Own κ d = Reader (κ, tt) .own d (T′.lowered d ∷ [])
 
--- the machine value of its text, and what that owns
+-- its text as the machine has it, and what that owns
 abbrev pub textOf : LineReader → Val
 textOf d = sliceVal (d .text .ptr) (length (d .text .now))
 
@@ -51,13 +51,12 @@ module _ {M : Type 1} (𝓤 : URA M) (H : Heap 𝓤) (A : Atoms 𝓤) (W : Given
   abbrev v : Values (D .parts)
   v = (d .text, (d .at, (d .line, tt)))
 
-  -- The reader is Copy: one copy is kept, and the other is taken apart.
+  -- the text, and the reader still
   pub text-out : ent 𝓤 (sem 𝓤 H A (Own κ d)) (sep 𝓤 (sem 𝓤 H A (TextOwn κ d)) (sem 𝓤 H A (Own κ d)))
   text-out =
       qed W (‵ (Own κ d) ∷ []) ∵ use1 W (‵ (Own κ d) ⊛ ‵ (Own κ d)) (LL.copy D (T′.the-copy (namedLft 1 0 tt (κ, tt))) 𝓤 H A W .twice d (T′.lowered d ∷ [])) $ split ! $
       use1 W (given (T′.lowered d ∷ [] ≡ T′.lowered d ∷ []) (‵ (all-own (D .parts) L v))) (own-open 𝓤 H A W D L v (T′.lowered d)) $ learn ! (λ _.
       use1 W (‵ (ownAt (D .parts) L 0 (d .text)) ⊛ ‵ (rest (D .parts) L 0 v)) (own-out 𝓤 H A W (D .parts) L 0 v) $ split ! $
-      -- [what the text owns; what the numbers own; what the reader owns]
       move ! (1 ∷ []) $ drop ! $ frame ! $ done !)
 
   pub made : d .at < 2 ^ 64 → d .line < 2 ^ 32 → ent 𝓤 (sem 𝓤 H A (TextOwn κ d)) (sem 𝓤 H A (Own κ d))

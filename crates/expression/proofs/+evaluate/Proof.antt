@@ -20,8 +20,6 @@ use Rattle.expression.proofs.evaluate.Reads as evaluate
 use Rattle.expression.proofs.first_operand.Reads as first-operand-reads
 use Rattle.expression.proofs.leaf.Reads as leaf-reads
 
--- template: `@thing` stands for the path from the need's `c` to `thing`, `@(thing)` for the record that has it
-
 abbrev μ-evaluate : Measures 3 evaluate-kinds.ps ℕ
 μ-evaluate κs a = length (a .1 .1 .0 .now) - a .1 .1 .1 .0
 

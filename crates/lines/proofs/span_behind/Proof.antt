@@ -1,5 +1,4 @@
--- `span_behind`: the reader that `new` returns is passed to `passed`, and what that returns to `line_here`. In a local the reader's
--- lifetime is erased: its value is shown to have the type at `erased`.
+-- `span_behind`: the line behind n lines from the start.
 use mathlib.Core.Path.{_≡_, refl}
 use Prim.Native.Nat.{ℕ, _+_, _<_, _^_}
 use mathlib.Core.List.{List, [], _∷_}
@@ -65,7 +64,6 @@ abbrev stayed : Stays (span-behind.ended .signature .params) (span-behind.ended 
 stayed = (stay-none-slice (0 ∷ []) tt (plain (λ _. u8)) yes, (stay-none (λ _. u32) yes, tt))
 
 module _ {M : Type 1} (𝓤 : URA M) (H : Heap 𝓤) (A : Atoms 𝓤) (mem : Memory → SProp 𝓤) (run : Routine → Fun 𝓤) where
-  -- the contracts that the proof cites
   abbrev New : Contract 𝓤
   New = tripleOf 𝓤 H A new.signature (new.spec 𝓤 H A mem run)
 
@@ -76,7 +74,7 @@ module _ {M : Type 1} (𝓤 : URA M) (H : Heap 𝓤) (A : Atoms 𝓤) (mem : Mem
   LineHere = tripleOf 𝓤 H A line-here.signature (line-here.spec 𝓤 H A mem run)
 
 module _ {M : Type 1} (𝓤 : URA M) (H : Heap 𝓤) (A : Atoms 𝓤) (W : Given 𝓤 H A) (mem : Memory → SProp 𝓤) (run : Routine → Fun 𝓤) (κ : Lft) (q : Share) (s : RefT (List ℕ)) (n : ℕ) (n-fits : n < 2 ^ 32) where
-  -- the machine value of the text
+  -- the text as the machine has it
   abbrev v : Val
   v = sliceVal (s .ptr) (length (s .now))
 
@@ -93,7 +91,7 @@ module _ {M : Type 1} (𝓤 : URA M) (H : Heap 𝓤) (A : Atoms 𝓤) (W : Given
   abbrev found : Span
   found = spanAt (now s) (linesEnd (now s) 0 n)
 
-  -- the reader's type as a local of a body has it
+  -- the reader's type in the body
   abbrev αᵉ : NamedLft
   αᵉ = record { mir = erased; lft = κ }
 
@@ -116,7 +114,7 @@ module _ {M : Type 1} (𝓤 : URA M) (H : Heap 𝓤) (A : Atoms 𝓤) (W : Given
   new-said : (r : LineReader) → ent 𝓤 (ensured 𝓤 H A new.ended (new.clauses 𝓤 H A mem run) (κ, tt) (s, tt) tt r) (fact 𝓤 (r ≡ d₀))
   new-said r = exE 𝓤 _ (λ ws. snd∗ 𝓤 (sem 𝓤 H A (lasts new.ended (κ, tt) (s, tt) ws)) (fact 𝓤 (r ≡ d₀)))
 
-  -- the call of `passed`, at the machine value u of its reader
+  -- the call of `passed`, for a reader that the machine has as u
   abbrev to-passed : Val → Passed 𝓤 H A mem run .Ghost
   to-passed u = (((κ, tt), (q, tt), tt, (d₀, (n, tt)), (u ∷ [], (vint w32 n ∷ [], tt))), tt)
 
@@ -155,7 +153,6 @@ module _ {M : Type 1} (𝓤 : URA M) (H : Heap 𝓤) (A : Atoms 𝓤) (W : Given
         calls-at ! fm (New 𝓤 H A mem run) known-new to-new (and-then ! (load ! (from ! (stop !)) (look ! 8 refl)) (no-more !)) (λ u₀.
         use1 W (later (some (λ (r : LineReader). ((‵ (flft κ q) ⊛ ‵ ftrue) ⊛ ‵ (Reader (κ, tt) .own r (u₀ ∷ []))) ⊛ raw (ensured 𝓤 H A new.ended (new.clauses 𝓤 H A mem run) (κ, tt) (s, tt) tt r)))) (id⊢ 𝓤 _) $ await ! tt $ pick ! (λ r₀.
         split ! $ move ! (1 ∷ []) $ use1 W (raw (fact 𝓤 (r₀ ≡ d₀))) (new-said r₀) $ heard ! (r₀ ≡ d₀) (λ e₀. split ! $ rewrite ! 1 (λ (d : LineReader). ‵ (Reader (κ, tt) .own d (u₀ ∷ []))) e₀ refl $ move ! (1 ∷ []) $
-        -- [what the reader owns; the token; what s owns; room for _4; …; room for _3; …; _2; …; _1; …; room for _0; …]
         peeks ! (Reader (κ, tt)) (Is (Reader (κ, tt))) (shows 𝓤 H A (Reader (κ, tt))) d₀ (u₀ ∷ []) (λ is₀.
         land ! (from ! (stop !)) (init ! 3 refl (LL.lawful (T.the-type αᵉ) (T′.the-laws αᵉ) 𝓤 H A W .typed d₀ _ is₀ .0)) $
         -- `passed`
@@ -170,7 +167,6 @@ module _ {M : Type 1} (𝓤 : URA M) (H : Heap 𝓤) (A : Atoms 𝓤) (W : Given
         calls-at ! fm (LineHere 𝓤 H A mem run) known-here (to-here u₁) (and-then ! (load ! (from ! (stop !)) (look ! 4 refl)) (no-more !)) (λ u.
         use1 W (later (some (λ (t : Span). ((‵ (flft κ q) ⊛ ‵ ftrue) ⊛ ‵ (S.the-row .own t (u ∷ []))) ⊛ raw (ensured 𝓤 H A line-here.ended (line-here.clauses 𝓤 H A mem run) (κ, tt) (d₁, tt) tt t)))) (id⊢ 𝓤 _) $ await ! tt $ pick ! (λ t.
         split ! $ move ! (1 ∷ []) $ use1 W (raw (fact 𝓤 (t ≡ found))) (here-said t) $ heard ! (t ≡ found) (λ e. split ! $ move ! (1 ∷ []) $
-        -- [the result; the token; what s owns; _4; …; _3; …; _2; …; _1; …; room for _0; …]
         peeks ! S.the-row (Is S.the-row) (shows 𝓤 H A S.the-row) t (u ∷ []) (λ is.
         land ! (from ! (stop !)) (init ! 11 refl (LL.lawful S.the-type S′.the-laws 𝓤 H A W .typed t _ is .0)) $
         returns ! (look ! 11 refl) $ forget ! 3 refl $ forget ! 5 refl $ forget ! 7 refl $ forget ! 9 refl $ forget ! 11 refl $

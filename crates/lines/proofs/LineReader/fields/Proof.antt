@@ -1,5 +1,4 @@
--- `fields`: the reader is taken apart, and `text::fields` is called on the text and the position. The reader is Copy: what it owns is
--- had twice, one copy is kept for the exit, and of the other what the text owns goes to the callee.
+-- `fields`: those of the text at the reader's position.
 use mathlib.Core.Path.{refl}
 use Prim.Native.Nat.{_<_, _^_}
 use mathlib.Core.List.{[], _∷_}
@@ -57,7 +56,6 @@ abbrev stayed : Stays (fields.ended .signature .params) (fields.ended .kept)
 stayed = (stay-none Reader yes, tt)
 
 module _ {M : Type 1} (𝓤 : URA M) (H : Heap 𝓤) (A : Atoms 𝓤) (mem : Memory → SProp 𝓤) (run : Routine → Fun 𝓤) where
-  -- the contract that the proof cites
   abbrev FieldsAt : Contract 𝓤
   FieldsAt = tripleOf 𝓤 H A fields-at.signature (fields-at.spec 𝓤 H A mem run)
 
@@ -71,7 +69,7 @@ module _ {M : Type 1} (𝓤 : URA M) (H : Heap 𝓤) (A : Atoms 𝓤) (W : Given
   abbrev Post : Val → SProp 𝓤
   Post = walkOf 𝓤 H A fields.ended stayed (fields.clauses 𝓤 H A mem run) .post (((κ, tt), (q, tt), tt, (d, tt), (mach ∷ [], tt)), tt)
 
-  -- what the callee is passed
+  -- what `text::fields` is passed
   abbrev vals : Vals fields-at.signature (κ, tt)
   vals = (textOf d ∷ [], (vint w64 (d .at) ∷ [], tt))
 
@@ -81,16 +79,15 @@ module _ {M : Type 1} (𝓤 : URA M) (H : Heap 𝓤) (A : Atoms 𝓤) (W : Given
   asked : ent 𝓤 (onEntry 𝓤 H A fields-at.signature (κ, tt) (q, tt) (d .text, (d .at, tt)) vals) (FieldsAt 𝓤 H A mem run .pre to)
   asked = qed W ((‵ (flft κ q) ⊛ ‵ ftrue) ∷ ‵ (owns (ShrSlice (named 0) κ u8 ∷ usize ∷ []) (d .text, (d .at, tt)) vals) ∷ []) ∵ join ! $ frame ! $ done !
 
-  -- what the reader owns gives what the callee asks, and is kept
+  -- `text::fields` may be called, and the reader is there afterwards
   apart : d .at < 2 ^ 64 → ent 𝓤 (onEntry 𝓤 H A fields.signature (κ, tt) (q, tt) (d, tt) (mach ∷ [], tt)) (sep 𝓤 (FieldsAt 𝓤 H A mem run .pre to) (sem 𝓤 H A (Own κ d)))
   apart fits =
       qed W ((‵ (flft κ q) ⊛ ‵ ftrue) ∷ ‵ (owns (Reader (κ, tt) ∷ []) (d, tt) (mach ∷ [], tt)) ∷ []) ∵
       move ! (1 ∷ []) $ fsplit ! $ move ! (1 ∷ []) $ drop ! $ use1 W (‵ (TextOwn κ d) ⊛ ‵ (Own κ d)) (text-out 𝓤 H A W κ d) $ split ! $
-      -- [what the text owns; what the reader owns; the token]
       nothing ! $ owned ! usize (Is usize) (uint-makes 𝓤 H A W w64) (d .at) _ (refl, fits) $ fjoin ! $ move ! (1 ∷ 0 ∷ []) $ fjoin ! $
       move ! (2 ∷ 0 ∷ []) $ use2 W (raw (FieldsAt 𝓤 H A mem run .pre to)) asked $ frame ! $ done !
 
-  -- of the callee's `ensured`, the clause alone: it has no `&mut`, so what is said of last values is dropped
+  -- what `text::fields` says of its result
   said : (r : Line) → ent 𝓤 (ensured 𝓤 H A fields-at.ended (fields-at.clauses 𝓤 H A mem run) (κ, tt) (d .text, (d .at, tt)) tt r) (fact 𝓤 (Found r))
   said r = exE 𝓤 _ (λ ws. snd∗ 𝓤 (sem 𝓤 H A (lasts fields-at.ended (κ, tt) (d .text, (d .at, tt)) ws)) (fact 𝓤 (Found r)))
 
@@ -111,7 +108,6 @@ module _ {M : Type 1} (𝓤 : URA M) (H : Heap 𝓤) (A : Atoms 𝓤) (W : Given
         calls-at ! fm (FieldsAt 𝓤 H A mem run) known to (and-then ! (load ! (from ! (stop !)) (look ! 4 refl)) (and-then ! (load ! (from ! (stop !)) (look ! 2 refl)) (no-more !))) (λ u.
         use1 W (later (some (λ (r : Line). ((‵ (flft κ q) ⊛ ‵ ftrue) ⊛ ‵ (S.the-row .own r (u ∷ []))) ⊛ raw (ensured 𝓤 H A fields-at.ended (fields-at.clauses 𝓤 H A mem run) (κ, tt) (d .text, (d .at, tt)) tt r)))) (id⊢ 𝓤 _) $ await ! tt $ pick ! (λ r.
         split ! $ move ! (1 ∷ []) $ use1 W (raw (fact 𝓤 (Found r))) (said r) $ heard ! (Found r) (λ e. split ! $ move ! (1 ∷ []) $
-        -- [the result; the token; what the reader owns; _3; …; _2; …; _1; …; room for _0; …]
         peeks ! S.the-row (Is S.the-row) (shows 𝓤 H A S.the-row) r (u ∷ []) (λ is.
         land ! (from ! (stop !)) (init ! 9 refl (LL.lawful S.the-type S′.the-laws 𝓤 H A W .typed r _ is .0)) $
         returns ! (look ! 9 refl) $ forget ! 3 refl $ forget ! 5 refl $ forget ! 7 refl $ forget ! 9 refl $

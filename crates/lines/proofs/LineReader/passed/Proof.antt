@@ -1,5 +1,4 @@
--- `passed`: the reader is taken apart, `lines_end` and `counted` are called on the text and the numbers, and a reader is made of what
--- they return. The reader is Copy: what it owns is had as often as the callee, the exit and the result need it.
+-- `passed`: the position behind n lines, and the line's number.
 use mathlib.Core.Path.{_≡_, refl, ap}
 use Prim.Native.Nat.{ℕ, _+_, _<_, _^_}
 use mathlib.Core.List.{[], _∷_}
@@ -59,7 +58,6 @@ abbrev stayed : Stays (passed.ended .signature .params) (passed.ended .kept)
 stayed = (stay-none Reader yes, (stay-none (λ _. u32) yes, tt))
 
 module _ {M : Type 1} (𝓤 : URA M) (H : Heap 𝓤) (A : Atoms 𝓤) (mem : Memory → SProp 𝓤) (run : Routine → Fun 𝓤) where
-  -- the contracts that the proof cites
   abbrev LinesEnd : Contract 𝓤
   LinesEnd = tripleOf 𝓤 H A lines-end.signature (lines-end.spec 𝓤 H A mem run)
 
@@ -94,7 +92,6 @@ module _ {M : Type 1} (𝓤 : URA M) (H : Heap 𝓤) (A : Atoms 𝓤) (W : Given
   apart fits =
       qed W ((‵ (flft κ q) ⊛ ‵ ftrue) ∷ ‵ (owns (Reader (κ, tt) ∷ u32 ∷ []) (d, (n, tt)) vals) ∷ []) ∵
       move ! (1 ∷ []) $ fsplit ! $ move ! (1 ∷ []) $ drop ! $ use1 W (‵ (TextOwn κ d) ⊛ ‵ (Own κ d)) (text-out 𝓤 H A W κ d) $ split ! $
-      -- [what the text owns; what the reader owns; the token]
       nothing ! $ owned ! u32 (Is u32) (uint-makes 𝓤 H A W w32) n _ (refl, n-fits) $ fjoin ! $ owned ! usize (Is usize) (uint-makes 𝓤 H A W w64) (d .at) _ (refl, fits) $ fjoin ! $ move ! (1 ∷ 0 ∷ []) $ fjoin ! $
       move ! (2 ∷ 0 ∷ []) $ use2 W (raw (LinesEnd 𝓤 H A mem run .pre to₁)) asked $ frame ! $ done !
 
@@ -129,7 +126,6 @@ module _ {M : Type 1} (𝓤 : URA M) (H : Heap 𝓤) (A : Atoms 𝓤) (W : Given
         qed W (raw (onEntry 𝓤 H A passed.signature (κ, tt) (q, tt) (d, (n, tt)) vals) ∷ []) ∵ enter ! C Λ code.function (mach ∷ vint w32 n ∷ []) _ $
         alloc1 ! (λ l₀. alloc1 ! (λ l₁. alloc1 ! (λ l₂. alloc1 ! (λ l₃. alloc1 ! (λ l₄. alloc1 ! (λ l₅. alloc1 ! (λ l₆. alloc1 ! (λ l₇. alloc1 ! (λ l₈. alloc0 ! $ params1 ! $
         pass1 ! (init ! 14 refl wt) $ pass1 ! (init ! 12 refl (tt, record { fits = n-fits })) $ pass0 ! $
-        -- [_8; …; _7; …; _6; …; _5; …; _4; …; _3; …; _2; …; _1; …; room for _0; …; the token and what the parameters own]
         assigns ! (of-opd ! (load ! (from ! (fld ! refl (stop !))) (look-in ! 14 (sub ! 0 refl (whole !))))) (from ! (stop !)) (init ! 6 refl (tt, wt .1 .0)) $
         assigns ! (of-opd ! (load ! (from ! (fld ! refl (stop !))) (look-in ! 14 (sub ! 1 refl (whole !))))) (from ! (stop !)) (init ! 4 refl (tt, wt .1 .1 .0)) $
         -- `lines_end`
@@ -137,7 +133,6 @@ module _ {M : Type 1} (𝓤 : URA M) (H : Heap 𝓤) (A : Atoms 𝓤) (W : Given
         calls-at ! fm (LinesEnd 𝓤 H A mem run) known₁ to₁ (and-then ! (load ! (from ! (stop !)) (look ! 8 refl)) (and-then ! (load ! (from ! (stop !)) (look ! 6 refl)) (and-then ! (load ! (from ! (stop !)) (look ! 14 refl)) (no-more !)))) (λ u₁.
         use1 W (later (some (λ (r : ℕ). ((‵ (flft κ q) ⊛ ‵ ftrue) ⊛ ‵ (usize .own r (u₁ ∷ []))) ⊛ raw (ensured 𝓤 H A lines-end.ended (lines-end.clauses 𝓤 H A mem run) (κ, tt) (d .text, (d .at, (n, tt))) tt r)))) (id⊢ 𝓤 _) $ await ! tt $ pick ! (λ p.
         split ! $ move ! (1 ∷ []) $ use1 W (raw (fact 𝓤 (p ≡ linesEnd (now (d .text)) (d .at) n))) (said₁ p) $ heard ! (p ≡ linesEnd (now (d .text)) (d .at) n) (λ e₁. split ! $ move ! (1 ∷ []) $
-        -- [the result; the token; what the reader owns; _8; …]
         peeks ! usize (Is usize) (shows 𝓤 H A usize) p (u₁ ∷ []) (λ is₁.
         land ! (from ! (stop !)) (init ! 13 refl (uint-lawful 𝓤 H A W w64 .typed p _ is₁ .0)) $ rewrite ! 13 (λ (u : Val). ‵ (fat fullShare (tyInt w64) l₃ 0 u)) (ap only (is₁ .0)) refl $ drop ! $
         assigns ! (of-opd ! (load ! (from ! (fld ! refl (stop !))) (look-in ! 16 (sub ! 2 refl (whole !))))) (from ! (stop !)) (init ! 4 refl (tt, wt .1 .1 .1 .0)) $
@@ -146,10 +141,8 @@ module _ {M : Type 1} (𝓤 : URA M) (H : Heap 𝓤) (A : Atoms 𝓤) (W : Given
         calls-at ! fm (Counted 𝓤 H A mem run) known₂ to₂ (and-then ! (load ! (from ! (stop !)) (look ! 5 refl)) (and-then ! (load ! (from ! (stop !)) (look ! 15 refl)) (no-more !))) (λ u₂.
         use1 W (later (some (λ (r : ℕ). (‵ ftrue ⊛ ‵ (u32 .own r (u₂ ∷ []))) ⊛ raw (ensured 𝓤 H A counted.ended (counted.clauses 𝓤 H A mem run) tt (d .line, (n, tt)) tt r)))) (id⊢ 𝓤 _) $ await ! tt $ pick ! (λ l.
         split ! $ move ! (1 ∷ []) $ use1 W (raw (fact 𝓤 (l ≡ d .line + n))) (said₂ l) $ heard ! (l ≡ d .line + n) (λ e₂. split ! $ move ! (1 ∷ []) $
-        -- [the result; true; the token; what the reader owns; _8; …]
         peeks ! u32 (Is u32) (shows 𝓤 H A u32) l (u₂ ∷ []) (λ is₂.
         land ! (from ! (stop !)) (init ! 12 refl (uint-lawful 𝓤 H A W w32 .typed l _ is₂ .0)) $ rewrite ! 12 (λ (u : Val). ‵ (fat fullShare (tyInt w32) l₄ 0 u)) (ap only (is₂ .0)) refl $ drop ! $ drop ! $
-        -- [the token; what the reader owns; _8; …]
         assigns ! (of-opd ! (load ! (from ! (fld ! refl (stop !))) (look-in ! 16 (sub ! 0 refl (whole !))))) (from ! (stop !)) (init ! 2 refl (tt, wt .1 .0)) $
         assigns ! (agg ! (and-then ! (load ! (from ! (stop !)) (look ! 2 refl)) (and-then ! (load ! (from ! (stop !)) (look ! 12 refl)) (and-then ! (load ! (from ! (stop !)) (look ! 10 refl)) (no-more !))))) (from ! (stop !)) (init ! 18 refl (tt, (wt .1 .0, (record { fits = is₁ .1 }, (record { fits = is₂ .1 }, tt))))) $
         returns ! (look ! 18 refl) $ forget ! 2 refl $ forget ! 4 refl $ forget ! 6 refl $ forget ! 8 refl $ forget ! 10 refl $ forget ! 12 refl $ forget ! 14 refl $ forget ! 16 refl $ forget ! 18 refl $
