@@ -7,7 +7,7 @@ use mathlib.Core.Path.{_≡_, refl, sym, ap, _∙_}
 use mathlib.Core.List.{List, [], _∷_, _++_, map, append-nil, append-assoc}
 use lib.ListN.{length, getD, take, drop, drop-of-length-le}
 use lib.Seq.{drop-cons}
-use Rattle.rules.specs.Refusals.{Refusal, refusalNumber, Answer, ok, refused, _>>=_}
+use Rattle.rules.specs.Refusals.{Answer, ok, refused, _>>=_}
 use Rattle.rules.specs.Lists.{concat}
 use Rattle.rules.specs.Ast.{Expr, size}
 use Rattle.rules.specs.Plan.{Built}
@@ -15,11 +15,12 @@ use Rattle.rules.specs.Cells.{Cell}
 use Rattle.rules.specs.Sizes.{total}
 use Rattle.appends.specs.Answers.{ok-same, ok-not-refused}
 use Rattle.appends.specs.Area.{cellsNumbers, cells-numbers-append}
-use Rattle.appends.specs.Lists.Each.{Entries, after, emitEach, emitEntry, after-none, each-step, each-stop, each-done}
+use Rattle.appends.specs.Lists.Each.{after, emitEach, emitEntry, after-none, each-step, each-stop, each-done}
 use Rattle.plan.specs.Layout.{cellsEnd}
 use Rattle.plan.specs.Cells.{Room, room-less}
-use Rattle.plan.specs.Emits.{Emitting, writtenOf, Emits, accepted}
+use Rattle.plan.specs.Emits.{writtenOf, Emits, accepted}
 use Rattle.plan.specs.Appended.{Appended, appended-none}
+use Rattle.plan.specs.Steps.{Refuses}
 use Rattle.plan.specs.declared.cells.Written.{Written}
 use Rattle.plan.specs.declared.cells.Written.the-variants as W
 use Rattle.build_aggregate.specs.Functions.{stepOf}
@@ -51,12 +52,6 @@ pub gave : {D : Type 0} {num : D → List ℕ} {a : Answer (List Cell × D × �
 gave {a = a} m l e = let d = accepted m (l .emits) e in step-gave a (d .cells) m (d .is)
 
 -- a refusal
-pub record Refuses {D : Type 0} (a : Answer D) (z l : ℕ) : Type 0 where
-  pub why : Refusal
-  pub number : z ≡ refusalNumber (why .reason)
-  pub line : l ≡ why .line
-  pub is : a ≡ refused why
-
 pub gave-refused : {D : Type 0} {num : D → List ℕ} {a : Answer (List Cell × D × ℕ)} {n k k′ : ℕ}
     {area area′ nodes nodes′ : List ℕ} {x : Written} (z l : ℕ) → Lists num a n k k′ area area′ nodes nodes′ x
     → x ≡ W.Refused z l → Refuses a z l

@@ -5,7 +5,7 @@ use mathlib.Core.Path.{_≡_, refl, sym, ap, _∙_}
 use mathlib.Core.List.{List, [], _∷_, _++_, map, append-assoc}
 use lib.ListN.{length, getD, take, drop, set, length-set, length-map, length-append, List·getD-append}
 use lib.Seq.{split-at, length-take-le}
-use Rattle.rules.specs.Refusals.{Refusal, refusalNumber, limitPassed, statement, Answer, ok, refused, _>>=_, refuse, atMost}
+use Rattle.rules.specs.Refusals.{refusalNumber, limitPassed, statement, Answer, ok, _>>=_, refuse, atMost}
 use Rattle.rules.specs.Limits.{mostColumns}
 use Rattle.rules.specs.Lists.{Bytes}
 use Rattle.rules.specs.Ast.{Expr, lineOf, size}
@@ -17,14 +17,15 @@ use Rattle.rules.specs.Sizes.{total}
 use Rattle.rules.specs.Scope.{Scope}
 use Rattle.rules.specs.BuildAggregate.{buildFunction}
 use Rattle.claims.specs.Lists.{map-append}
-use Rattle.appends.specs.Answers.{bind-ok, bind-refused, ok-same, ok-not-refused, atMost-passed, atMost-refused}
-use Rattle.appends.specs.Area.{cellsNumbers, cells-numbers-append}
+use Rattle.appends.specs.Answers.{bind-ok, bind-refused, ok-same, atMost-passed, atMost-refused}
+use Rattle.appends.specs.Area.{cells-numbers-append}
 use Rattle.appends.specs.Lists.Kinds.{emitAll, emitSeconds}
 use Rattle.ast.specs.Table.{treeAt}
 use Rattle.ast.specs.Row.{lineAt, line-of}
-use Rattle.plan.specs.Layout.{cellsEnd, recordHead, aggregateHead, groupsPlace, lengthPlace, functionSize}
-use Rattle.plan.specs.Emits.{Emitting, writtenOf, Emits}
+use Rattle.plan.specs.Layout.{recordHead, aggregateHead, groupsPlace, lengthPlace, functionSize}
+use Rattle.plan.specs.Emits.{writtenOf}
 use Rattle.plan.specs.Appended.{Appended}
+use Rattle.plan.specs.Steps.{Refuses}
 use Rattle.plan.specs.Parts.{groups-on, groups-ended, aggregate-functions}
 use Rattle.plan.specs.Cells.{Room}
 use Rattle.plan.specs.Room.{aggregate-in-use}
@@ -33,7 +34,7 @@ use Rattle.plan.specs.declared.cells.Written.{Written}
 use Rattle.plan.specs.declared.cells.Written.the-variants as W
 use Rattle.build_expression.specs.Builds.{scopeAt}
 use Rattle.build_aggregate.specs.Functions.{stepOf}
-use Rattle.build_aggregate.specs.Entries.{Lists, Gave, gave, Refuses, gave-refused, lists-refused, Listing, AddsAll}
+use Rattle.build_aggregate.specs.Entries.{Lists, Gave, gave, gave-refused, lists-refused, Listing, AddsAll}
 use Rattle.build_aggregate.specs.Kinds.{groupsListing, functionsListing}
 
 -- cells, the roots of the groups and the functions, the next cell

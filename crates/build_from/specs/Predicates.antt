@@ -1,12 +1,11 @@
 -- A join's predicate: none, or the tree at its row, built over a scope.
-use Prim.Native.Nat.{ℕ, suc, _+_, _*_, _≤_, pred}
+use Prim.Native.Nat.{ℕ, _+_, _*_, pred}
 use native.Mathlib.Omega.{arith}
-use mathlib.Core.Path.{_≡_, refl, sym, ap, _∙_}
-use mathlib.Core.List.{List, [], _∷_, _++_, append-nil}
+use mathlib.Core.Path.{_≡_, refl, sym, _∙_}
+use mathlib.Core.List.{List, [], _++_, append-nil}
 use mathlib.Core.Option.{Option, none, some}
 use lib.ListN.{length, take}
-use Rattle.rules.specs.Refusals.{Reason, refusalNumber, Answer, ok, refused}
-use Rattle.rules.specs.Refusals as R
+use Rattle.rules.specs.Refusals.{ok, refused}
 use Rattle.rules.specs.Lists.{Bytes, concat}
 use Rattle.rules.specs.Ast.{Expr, size}
 use Rattle.rules.specs.Cells.{Cell}
@@ -22,11 +21,11 @@ use Rattle.from.specs.declared.row.Predicate.{Predicate}
 use Rattle.from.specs.declared.row.Predicate.the-variants as F
 use Rattle.plan.specs.Layout.{cellsEnd}
 use Rattle.plan.specs.Cells.{Room}
-use Rattle.plan.specs.Emits.{Emitting, writtenOf, Emits, accepted}
+use Rattle.plan.specs.Emits.{Emits, accepted}
 use Rattle.plan.specs.declared.cells.Written.{Written}
 use Rattle.plan.specs.declared.cells.Written.the-variants.{Done, Refused}
 use Rattle.build_expression.specs.Rows.{emit-within}
-use Rattle.plan.specs.Steps.{Refuses}
+use Rattle.plan.specs.Steps.{Refuses, refusal-some, emits-refused}
 use Rattle.build_from.specs.declared.predicates.Root.{Root}
 
 -- the predicate of row r
@@ -45,49 +44,6 @@ pub record PredicateBuilt (s : rules.Scope) (o : Option Expr) (n : ℕ) (area ar
   pub kept : length area′ ≡ length area
   pub refused : (x .number ≡ 0 → ⊥) → Refuses (emitOption s n o) (x .number) (x .line)
   pub accepted : x .number ≡ 0 → PredicateStands s o n area area′ (x .n) (x .root)
-
--- no refusal has the number 0
-refusal-some : (k : Reason) → 1 ≤ refusalNumber k
-unfolding refusalNumber
-refusal-some R.shortArea = omega arith
-refusal-some R.wrongRecord = omega arith
-refusal-some R.limitPassed = omega arith
-refusal-some R.otherStatement = omega arith
-refusal-some R.unknownTable = omega arith
-refusal-some R.duplicateTable = omega arith
-refusal-some R.unknownQualifier = omega arith
-refusal-some R.unknownColumn = omega arith
-refusal-some R.ambiguousColumn = omega arith
-refusal-some R.constantOnly = omega arith
-refusal-some R.notAggregated = omega arith
-refusal-some R.unsupportedStar = omega arith
-refusal-some R.unknownFunction = omega arith
-refusal-some R.argumentCount = omega arith
-refusal-some R.nestedAggregate = omega arith
-refusal-some R.starWithoutFrom = omega arith
-refusal-some R.havingWithoutAggregate = omega arith
-refusal-some R.invalidOffset = omega arith
-refusal-some R.invalidLimit = omega arith
-refusal-some R.noPrimaryKey = omega arith
-refusal-some R.multiplePrimaryKeys = omega arith
-refusal-some R.unknownInsertColumn = omega arith
-refusal-some R.repeatedInsertColumn = omega arith
-refusal-some R.noDefault = omega arith
-refusal-some R.integerOverflow = omega arith
-refusal-some R.divisionByZero = omega arith
-refusal-some R.wrongOperand = omega arith
-refusal-some R.notWorkedOut = omega arith
-refusal-some R.invalidIs = omega arith
-
--- what a refused answer was
-emits-refused : {a : Emitting} {n : ℕ} {area area′ : List ℕ} {r : Written} (k l : ℕ) → Emits a n area area′ r
-    → r ≡ Refused k l → Refuses a k l
-unfolding writtenOf
-emits-refused {a} {n} {area} {area′} {r} k l h e = go a (sym e ∙ h .answer)
-  where
-    go : (a : Emitting) → Refused k l ≡ writtenOf a → Refuses a k l
-    go (ok p) g = absurd (let z : _≡_ {A = ℕ} 0 1 = cc in omega arith)
-    go (refused w) g = record { why = w; is = refl; number = cc; line = cc }
 
 module _ (c q : Bytes) (cells froms : List ℕ) (r : ℕ) {f : Predicate} (e : f ≡ predicateRow (predicateNumber froms r)) where
   -- none

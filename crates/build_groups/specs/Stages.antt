@@ -6,8 +6,7 @@ use mathlib.Core.Path.{_≡_, refl, sym, ap, _∙_}
 use mathlib.Core.Bool.{false≢true, true, false}
 use mathlib.Core.List.{List, [], _∷_, _++_, map, append-nil}
 use lib.ListN.{length, take, length-append, length-map}
-use Rattle.rules.specs.Refusals.{Reason, refusalNumber, Answer, refused, _>>=_}
-use Rattle.rules.specs.Refusals as R
+use Rattle.rules.specs.Refusals.{Answer, refused, _>>=_}
 use Rattle.rules.specs.Limits.{mostColumns, mostEntries, mostCells}
 use Rattle.rules.specs.Lists.{Bytes, isEmpty}
 use Rattle.rules.specs.Ast.{Expr, size}
@@ -28,7 +27,7 @@ use Rattle.scope.specs.AddAggregates.{AggregatesAdded, added-functions}
 use Rattle.scope.specs.declared.Scope.{Scope}
 use Rattle.sections.specs.Access.{groupKind}
 use Rattle.plan.specs.Appended.{Appended}
-use Rattle.plan.specs.Steps.{Lies, stage-lies, stands-none, stands-one}
+use Rattle.plan.specs.Steps.{refusal-some, Lies, stage-lies, stands-none, stands-one}
 use Rattle.plan.specs.declared.cells.Written.{Written}
 use Rattle.plan.specs.declared.cells.Written.the-variants as W
 use Rattle.build_aggregate.specs.Functions.{stepOf}
@@ -39,39 +38,6 @@ use Rattle.stage.specs.declared.Stage.{Stage}
 use Rattle.build_groups.specs.Aggregates.{step-parts, stage-built, stage-refused}
 use Rattle.build_groups.specs.Rows.{groupsAt, functionsAt, sectionRows, functionRows, group-trees, function-trees}
 use Rattle.build_groups.specs.Contracts.{retainedGroups, retainedFunctions, GroupsReady, AggregateReady}
-
--- no refusal has the number 0
-refusal-some : (k : Reason) → 1 ≤ refusalNumber k
-unfolding refusalNumber
-refusal-some R.shortArea = omega arith
-refusal-some R.wrongRecord = omega arith
-refusal-some R.limitPassed = omega arith
-refusal-some R.otherStatement = omega arith
-refusal-some R.unknownTable = omega arith
-refusal-some R.duplicateTable = omega arith
-refusal-some R.unknownQualifier = omega arith
-refusal-some R.unknownColumn = omega arith
-refusal-some R.ambiguousColumn = omega arith
-refusal-some R.constantOnly = omega arith
-refusal-some R.notAggregated = omega arith
-refusal-some R.unsupportedStar = omega arith
-refusal-some R.unknownFunction = omega arith
-refusal-some R.argumentCount = omega arith
-refusal-some R.nestedAggregate = omega arith
-refusal-some R.starWithoutFrom = omega arith
-refusal-some R.havingWithoutAggregate = omega arith
-refusal-some R.invalidOffset = omega arith
-refusal-some R.invalidLimit = omega arith
-refusal-some R.noPrimaryKey = omega arith
-refusal-some R.multiplePrimaryKeys = omega arith
-refusal-some R.unknownInsertColumn = omega arith
-refusal-some R.repeatedInsertColumn = omega arith
-refusal-some R.noDefault = omega arith
-refusal-some R.integerOverflow = omega arith
-refusal-some R.divisionByZero = omega arith
-refusal-some R.wrongOperand = omega arith
-refusal-some R.notWorkedOut = omega arith
-refusal-some R.invalidIs = omega arith
 
 -- whether there are groups or functions
 pub aggregated-some : (gs fs : List Expr) → 0 < length gs + length fs → aggregated gs fs ≡ true

@@ -6,6 +6,7 @@ use mathlib.Core.Path.{_≡_, refl, sym, ap, _∙_}
 use mathlib.Core.List.{List, [], _∷_, _++_, append-assoc, append-nil}
 use lib.ListN.{length, take}
 use Rattle.rules.specs.Refusals.{Reason, Refusal, refusalNumber, Answer, ok, refused, refuse}
+use Rattle.rules.specs.Refusals as R
 use Rattle.rules.specs.Lists.{concat}
 use Rattle.rules.specs.Plan.{Built, Node}
 use Rattle.rules.specs.Cells.{Cell}
@@ -25,6 +26,39 @@ use Rattle.plan.specs.declared.steps.Step.{Step}
 use Rattle.plan.specs.declared.steps.Step.the-variants as S
 
 -- REFUSALS
+-- no refusal has the number 0
+pub refusal-some : (k : Reason) → 1 ≤ refusalNumber k
+unfolding refusalNumber
+refusal-some R.shortArea = omega arith
+refusal-some R.wrongRecord = omega arith
+refusal-some R.limitPassed = omega arith
+refusal-some R.otherStatement = omega arith
+refusal-some R.unknownTable = omega arith
+refusal-some R.duplicateTable = omega arith
+refusal-some R.unknownQualifier = omega arith
+refusal-some R.unknownColumn = omega arith
+refusal-some R.ambiguousColumn = omega arith
+refusal-some R.constantOnly = omega arith
+refusal-some R.notAggregated = omega arith
+refusal-some R.unsupportedStar = omega arith
+refusal-some R.unknownFunction = omega arith
+refusal-some R.argumentCount = omega arith
+refusal-some R.nestedAggregate = omega arith
+refusal-some R.starWithoutFrom = omega arith
+refusal-some R.havingWithoutAggregate = omega arith
+refusal-some R.invalidOffset = omega arith
+refusal-some R.invalidLimit = omega arith
+refusal-some R.noPrimaryKey = omega arith
+refusal-some R.multiplePrimaryKeys = omega arith
+refusal-some R.unknownInsertColumn = omega arith
+refusal-some R.repeatedInsertColumn = omega arith
+refusal-some R.noDefault = omega arith
+refusal-some R.integerOverflow = omega arith
+refusal-some R.divisionByZero = omega arith
+refusal-some R.wrongOperand = omega arith
+refusal-some R.notWorkedOut = omega arith
+refusal-some R.invalidIs = omega arith
+
 -- a is refused with document 01's number x, at line l
 pub record Refuses {A : Type 0} (a : Answer A) (x l : ℕ) : Type 0 where
   pub why : Refusal
