@@ -7,8 +7,7 @@ use mathlib.Core.Bool.{true, false}
 use mathlib.Core.List.{List, [], _∷_, _++_, map, append-assoc}
 use mathlib.Core.Option.{Option}
 use lib.ListN.{length, take, length-map}
-use Rattle.rules.specs.Refusals.{Reason, Answer, ok, refused, refusalNumber, limitPassed}
-use Rattle.rules.specs.Refusals as R
+use Rattle.rules.specs.Refusals.{Answer, ok, refused, limitPassed}
 use Rattle.rules.specs.Lists.{Bytes}
 use Rattle.rules.specs.Lines.{Word}
 use Rattle.rules.specs.Ast.{Item, size}
@@ -39,7 +38,7 @@ use Rattle.plan.specs.Appended.{Appended}
 use Rattle.plan.specs.Records.{opened}
 use Rattle.plan.specs.Parts.{project-items}
 use Rattle.plan.specs.Room.{items-size, project-in-use}
-use Rattle.plan.specs.Steps.{Refuses, refuses-at, stands-one, stage-lies, step-none, taken}
+use Rattle.plan.specs.Steps.{Refuses, refusal-some, refuses-at, stands-one, stage-lies, step-none, taken}
 use Rattle.stage.specs.Stages.{StageBuilt}
 use Rattle.stage.specs.declared.Stage.{Stage}
 use Rattle.build_expression.specs.Builds.{scopeAt}
@@ -51,39 +50,6 @@ use Rattle.build_projection.specs.declared.projection.Pushed.the-variants as P
 use Rattle.build_project.specs.Ready.{ProjectionReady}
 use Rattle.build_project.specs.Hidden.{columnParts, positionsOf, hidden-emits}
 use Rattle.build_project.specs.Ends.{EndReady, hiddenAt, ProjectionEnded}
-
--- no refusal has the number 0
-refusal-some : (k : Reason) → 1 ≤ refusalNumber k
-unfolding refusalNumber
-refusal-some R.shortArea = omega arith
-refusal-some R.wrongRecord = omega arith
-refusal-some R.limitPassed = omega arith
-refusal-some R.otherStatement = omega arith
-refusal-some R.unknownTable = omega arith
-refusal-some R.duplicateTable = omega arith
-refusal-some R.unknownQualifier = omega arith
-refusal-some R.unknownColumn = omega arith
-refusal-some R.ambiguousColumn = omega arith
-refusal-some R.constantOnly = omega arith
-refusal-some R.notAggregated = omega arith
-refusal-some R.unsupportedStar = omega arith
-refusal-some R.unknownFunction = omega arith
-refusal-some R.argumentCount = omega arith
-refusal-some R.nestedAggregate = omega arith
-refusal-some R.starWithoutFrom = omega arith
-refusal-some R.havingWithoutAggregate = omega arith
-refusal-some R.invalidOffset = omega arith
-refusal-some R.invalidLimit = omega arith
-refusal-some R.noPrimaryKey = omega arith
-refusal-some R.multiplePrimaryKeys = omega arith
-refusal-some R.unknownInsertColumn = omega arith
-refusal-some R.repeatedInsertColumn = omega arith
-refusal-some R.noDefault = omega arith
-refusal-some R.integerOverflow = omega arith
-refusal-some R.divisionByZero = omega arith
-refusal-some R.wrongOperand = omega arith
-refusal-some R.notWorkedOut = omega arith
-refusal-some R.invalidIs = omega arith
 
 -- ITEMS: how many parts and cells they are
 first-length : {B : Type 0} (bs : List (Built × B)) (n : ℕ) → length (numberFirst n bs) ≡ length bs
@@ -174,7 +140,7 @@ module _ {c q : Bytes} {t parts items : List ℕ} {s : Scope} {n m k : ℕ} {are
           → (froms : List ℕ) → StageBuilt c q t (step froms) n m k area nodes area₁ nodes₂ x
       unfolding AllAs
       stage-refused x y l g ka kn ey el froms =
-          let a : pushes.Refuses (emitFirsts (itemBuilt lentScope) n itemsHere) y l =
+          let a : Refuses (emitFirsts (itemBuilt lentScope) n itemsHere) y l =
           rw g at (ps .is (s .hidden)) in
           record {
             kept = ka;

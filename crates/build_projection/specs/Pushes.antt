@@ -7,7 +7,7 @@ use mathlib.Core.List.{List, [], _∷_, _++_, map, append-assoc, append-nil}
 use mathlib.Core.Option.{Option}
 use lib.ListN.{length, take, drop, getD, drop-of-length-le}
 use lib.Seq.{drop-cons}
-use Rattle.rules.specs.Refusals.{Refusal, Answer, ok, refused, refusalNumber}
+use Rattle.rules.specs.Refusals.{Answer, ok, refused}
 use Rattle.rules.specs.Limits.{mostColumns}
 use Rattle.rules.specs.Lists.{Bytes, concat}
 use Rattle.rules.specs.Lines.{Word}
@@ -29,6 +29,7 @@ use Rattle.plan.specs.Emits.{Emitting, writtenOf, Emits}
 use Rattle.plan.specs.Appended.{Appended, appended-none}
 use Rattle.plan.specs.Parts.{items-on}
 use Rattle.plan.specs.Room.{items-size}
+use Rattle.plan.specs.Steps.{Refuses}
 use Rattle.plan.specs.declared.cells.Written.{Written}
 use Rattle.plan.specs.declared.cells.Written.the-variants as W
 use Rattle.build_expression.specs.Rows.{emit-within}
@@ -46,12 +47,6 @@ pub record One (a : Emitting) (alias : Option Word) (n : ℕ) (area area′ : Li
   pub is : a ≡ ok (cells, m)
   pub stand : take (cellsEnd m) area′ ≡ take (cellsEnd n) area ++ cellsNumbers cells
   pub part : Appended (itemNumbers ((pred m, alias) ∷ [])) k nodes j nodes′
-
-pub record Refuses {A : Type 0} (a : Answer A) (x y : ℕ) : Type 0 where
-  pub why : Refusal
-  pub is : a ≡ refused why
-  pub number : x ≡ refusalNumber (why .reason)
-  pub line : y ≡ why .line
 
 unfoldable pub PutAs : Emitting → Option Word → ℕ → List ℕ → List ℕ → ℕ → List ℕ → List ℕ → Pushed → Type 0
 PutAs a w n area area′ k nodes nodes′ (P.Done m j) = One a w n area area′ k nodes nodes′ m j

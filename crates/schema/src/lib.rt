@@ -1,7 +1,6 @@
 // The catalog (schema.rs; engine.rs, Catalog): its text into numbers, and lookups in them.
 pub mod read;
 mod record;
-pub mod tables;
 
 ghost use mathlib.Core.Path.{_≡_};
 ghost use Prim.Native.Nat.{_<_, _^_};
