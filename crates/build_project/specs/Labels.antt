@@ -20,7 +20,7 @@ use Rattle.claims.specs.Answers.{All, Given}
 use Rattle.text.specs.Places.{bytes-catalog, bytes-statement}
 use Rattle.ast.specs.Table.{statementRows, treeAt}
 use Rattle.ast.specs.Names.{nameAt}
-use Rattle.scope.specs.Labels.{slotOf, packed, slot-packed, Fits, labelAt, columnsOf}
+use Rattle.scope.specs.Labels.{slotOf, slot-packed, Fits, labelAt, columnsOf}
 use Rattle.scope.specs.Slots.{Below, none, more}
 use Rattle.scope.specs.Scopes.{labelsOf, tableNumbers}
 use Rattle.scope.specs.declared.Scope.{Scope}

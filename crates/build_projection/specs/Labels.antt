@@ -2,7 +2,6 @@
 -- a column name passes on is the label at the position that stands in its cell.
 use Prim.Native.Nat.{ℕ, _+_, _≤_}
 use native.Mathlib.Omega.{arith}
-use native.Mathlib.Numerals.{add-one}
 use mathlib.Core.Path.{_≡_, refl, sym, ap, _∙_}
 use mathlib.Core.Bool.{true, false}
 use mathlib.Core.List.{List, [], _∷_, _++_}
@@ -11,13 +10,13 @@ use lib.Dec.{eqb}
 use lib.ListN.{length, take, getD}
 use lib.Seq.{getD-take, getD-append-add, length-take-le}
 use borrow.Author.Tests.{eq-eqb, ne-eqb}
-use Rattle.rules.specs.Refusals.{Reason, Answer, ok, refused, _>>=_, refuse}
+use Rattle.rules.specs.Refusals.{ok, _>>=_, refuse}
 use Rattle.rules.specs.Lists.{Bytes, concat}
 use Rattle.rules.specs.Ast.{Expr, star, column, literal, call, unary, binary, is}
 use Rattle.rules.specs.Cells.{Cell}
 use Rattle.rules.specs.Cells as C
 use Rattle.rules.specs.Area.{cellNumbers}
-use Rattle.rules.specs.Views.{asColumn}
+use Rattle.rules.specs.Views.{asColumn, ColumnName}
 use Rattle.rules.specs.Scope as rules
 use Rattle.rules.specs.BuildExpression.{found}
 use Rattle.appends.specs.Answers.{ok-not-refused}
@@ -25,9 +24,8 @@ use Rattle.appends.specs.Area.{cellsNumbers}
 use Rattle.appends.specs.Expressions.Emit.{emit}
 use Rattle.ast.specs.Table.{treeAt}
 use Rattle.ast.specs.Operands.{kindAt}
-use Rattle.ast.specs.Row.{numberOf, treeOf, row-tree, column-row, qualified-row}
+use Rattle.ast.specs.Row.{numberOf, treeOf, row-tree}
 use Rattle.ast.specs.declared.row.Kind.{Kind}
-use Rattle.ast.specs.declared.row.Kind.the-variants as K
 use Rattle.scope.specs.Labels.{packed}
 use Rattle.scope.specs.Scopes.{matchesOf, scopeFrom}
 use Rattle.scope.specs.Matches.{matched-from}
@@ -36,7 +34,6 @@ use Rattle.scope.specs.LabelOf.{foundNumber, passedNumber, Passed}
 use Rattle.plan.specs.Layout.{cellsEnd}
 use Rattle.build_expression.specs.Rows.{columnStep, column-is}
 use Rattle.build_expression.specs.Builds.{scopeAt}
-use Rattle.build_projection.specs.Items.{itemOf}
 use Rattle.build_projection.specs.Aliases.{rowOf, aliasAddress, aliasLength, item-tree}
 use Rattle.build_projection.specs.Pushes.{PutAs, ItemPut}
 use Rattle.build_projection.specs.declared.projection.Pushed.{Pushed}
@@ -74,7 +71,7 @@ unfoldable pub cellLabel : List ℕ → List ℕ → ℕ → Expr → ℕ
 cellLabel xs area n e = elim (asColumn e) [ some w ↦ getD xs (getD area (cellsEnd n + 1) 0) 0 | none ↦ 0 ]
 
 -- item x stands in the area from the n-th cell on, behind those before it
-pub record Stands (c q : Bytes) (t parts xs ms ts : List ℕ) (x n : ℕ) (area : List ℕ) : Type 0 where
+pub record ItemStands (c q : Bytes) (t parts xs ms ts : List ℕ) (x n : ℕ) (area : List ℕ) : Type 0 where
   pub before : List ℕ
   pub cells : List Cell
   pub next : ℕ
@@ -85,7 +82,7 @@ pub record Stands (c q : Bytes) (t parts xs ms ts : List ℕ) (x n : ℕ) (area 
 pub stands-put : {c q : Bytes} {t parts xs ms ts : List ℕ} {x n : ℕ} {area area′ : List ℕ} {k : ℕ} {nodes nodes′ : List ℕ}
     {r : Pushed} {m j : ℕ} → cellsEnd n ≤ length area
     → ItemPut c q t parts xs ms ts x n area area′ k nodes nodes′ r → r ≡ P.Done m j
-    → Stands c q t parts xs ms ts x n area′
+    → ItemStands c q t parts xs ms ts x n area′
 unfolding PutAs
 stands-put {c} {q} {t} {parts} {xs} {ms} {ts} {x} {n} {area} {m = m} l p e =
     let o = rw e at (p .is 0) in
@@ -112,7 +109,7 @@ column-stands n i area before l h =
     ∙ getD-append-add b (6 ∷ i ∷ 0 ∷ 0 ∷ []) 1 0
 
 module _ {c q : Bytes} {t parts xs ms ts : List ℕ} {x n : ℕ} {area : List ℕ}
-    (s : Stands c q t parts xs ms ts x n area) (z : usedMatches ms ≡ []) where
+    (s : ItemStands c q t parts xs ms ts x n area) (z : usedMatches ms ≡ []) where
   abbrev here : rules.Scope
   here = scopeAt c q t xs ms ts 0
 
@@ -155,21 +152,21 @@ none-used [] ms e h = sym e
 none-used (u ∷ us) ms e h = absurd (omega (arith, h))
 
 -- BY THE KIND OF A ROW
-module _ (xs area : List ℕ) (n : ℕ) (t : List ℕ) (r : ℕ) (k : Kind) (h : numberOf k ≡ kindAt t r) where
-  module _ {p l : ℕ} (e : p ≡ getD area (cellsEnd n + 1) 0) (g : l ≡ getD xs p 0) where
-    pub cell-column : k ≡ K.Column → (c q : Bytes) → l ≡ cellLabel xs area n (treeAt c q t r)
-    unfolding cellLabel asColumn
-    cell-column f c q = (rw e at g) ∙ sym (ap (cellLabel xs area n) (column-row c q t r k h f))
+module _ (xs area : List ℕ) (n : ℕ) (t : List ℕ) (r : ℕ) (k : Kind) (h : numberOf k ≡ kindAt t r) (v : Kind) (e : k ≡ v)
+  where
+    row-label : (c q : Bytes) → cellLabel xs area n (treeAt c q t r) ≡ cellLabel xs area n (treeOf (treeAt c q t) v c q t r)
+    row-label c q = ap (cellLabel xs area n)
+        (row-tree c q t r k h ∙ ap (λ (i : Kind). treeOf (treeAt c q t) i c q t r) e)
 
-    pub cell-qualified : k ≡ K.Qualified → (c q : Bytes) → l ≡ cellLabel xs area n (treeAt c q t r)
-    unfolding cellLabel asColumn
-    cell-qualified f c q = (rw e at g) ∙ sym (ap (cellLabel xs area n) (qualified-row c q t r k h f))
+    -- a column name
+    pub cell-named : {p l : ℕ} → p ≡ getD area (cellsEnd n + 1) 0 → l ≡ getD xs p 0
+        → ((c q : Bytes) → (w : ColumnName) × (asColumn (treeOf (treeAt c q t) v c q t r) ≡ some w))
+        → (c q : Bytes) → l ≡ cellLabel xs area n (treeAt c q t r)
+    unfolding cellLabel
+    cell-named f g o c q = (rw f at g) ∙ sym (row-label c q ∙ rw (cellLabel, o c q .1))
 
-  -- anything else
-  pub cell-none : (v : Kind) → k ≡ v → ((c q : Bytes) → asColumn (treeOf (treeAt c q t) v c q t r) ≡ none)
-      → (c q : Bytes) → 0 ≡ cellLabel xs area n (treeAt c q t r)
-  unfolding cellLabel
-  cell-none v e o c q =
-      let w : treeAt c q t r ≡ treeOf (treeAt c q t) v c q t r =
-      row-tree c q t r k h ∙ ap (λ (i : Kind). treeOf (treeAt c q t) i c q t r) e in
-      sym (ap (cellLabel xs area n) w ∙ rw (cellLabel, o c q))
+    -- anything else
+    pub cell-none : ((c q : Bytes) → asColumn (treeOf (treeAt c q t) v c q t r) ≡ none)
+        → (c q : Bytes) → 0 ≡ cellLabel xs area n (treeAt c q t r)
+    unfolding cellLabel
+    cell-none o c q = sym (row-label c q ∙ rw (cellLabel, o c q))

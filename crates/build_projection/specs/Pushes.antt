@@ -5,31 +5,31 @@ use native.Mathlib.Numerals.{add-one, sub-one}
 use mathlib.Core.Path.{_≡_, refl, sym, ap, _∙_}
 use mathlib.Core.List.{List, [], _∷_, _++_, map, append-assoc, append-nil}
 use mathlib.Core.Option.{Option}
-use lib.ListN.{length, take, drop, getD, drop-of-length-le}
+use lib.ListN.{length, take, drop, getD, set, drop-of-length-le}
 use lib.Seq.{drop-cons}
-use Rattle.rules.specs.Refusals.{Answer, ok, refused}
+use Rattle.rules.specs.Refusals.{Answer, ok}
 use Rattle.rules.specs.Limits.{mostColumns}
 use Rattle.rules.specs.Lists.{Bytes, concat}
 use Rattle.rules.specs.Lines.{Word}
-use Rattle.rules.specs.Ast.{Item, size}
+use Rattle.rules.specs.Ast.{size}
 use Rattle.rules.specs.Cells.{Cell}
 use Rattle.rules.specs.Area.{itemNumbers}
 use Rattle.rules.specs.Sizes.{total}
 use Rattle.rules.specs.BuildSelect.{itemBuilt}
 use Rattle.appends.specs.Area.{cellsNumbers, cells-numbers-append}
 use Rattle.appends.specs.Expressions.Emit.{emit}
-use Rattle.appends.specs.Lists.Each.{Entries, after, after-none, after-refused}
+use Rattle.appends.specs.Lists.Each.{Entries, after, after-none}
 use Rattle.appends.specs.Lists.Kinds.{emitFirsts}
-use Rattle.appends.specs.Lists.Entry.{emitFirst, item-step, item-refused}
+use Rattle.appends.specs.Lists.Entry.{item-step, item-refused}
 use Rattle.appends.specs.Lists.Loops.{firsts-step, firsts-stop, firsts-done}
-use Rattle.ast.specs.Table.{treeAt}
+use Rattle.numbers.specs.Kept.{Kept, kept-part, kept-on, kept-set}
 use Rattle.plan.specs.Layout.{cellsEnd, itemSize}
 use Rattle.plan.specs.Cells.{Room}
-use Rattle.plan.specs.Emits.{Emitting, writtenOf, Emits}
+use Rattle.plan.specs.Emits.{Emitting, Emits, accepted}
 use Rattle.plan.specs.Appended.{Appended, appended-none}
 use Rattle.plan.specs.Parts.{items-on}
 use Rattle.plan.specs.Room.{items-size}
-use Rattle.plan.specs.Steps.{Refuses}
+use Rattle.plan.specs.Steps.{Refuses, emits-refused}
 use Rattle.plan.specs.declared.cells.Written.{Written}
 use Rattle.plan.specs.declared.cells.Written.the-variants as W
 use Rattle.build_expression.specs.Rows.{emit-within}
@@ -75,18 +75,25 @@ pub record ItemsPut (c q : Bytes) (t parts xs ms ts items : List ℕ) (n : ℕ) 
   pub is : (h : ℕ) → AllAs (emitFirsts (itemBuilt (scopeAt c q t xs ms ts h)) n (map (itemOf c q t parts) items))
       n area area′ k nodes nodes′ r
 
--- where they are put, the first of the labels that are stored are those that f gives each
-pub record Labelled (f : ℕ → ℕ) (items labels : List ℕ) (r : Pushed) : Type 0 where
-  pub is : (m j : ℕ) → r ≡ P.Done m j → take (length items) labels ≡ map f items
+-- the labels that are stored: where the items are put, the first are those that f gives each; behind them all is as it was
+pub record Labelled (f : ℕ → ℕ) (items labels labels′ : List ℕ) (r : Pushed) : Type 0 where
+  pub is : (m j : ℕ) → r ≡ P.Done m j → take (length items) labels′ ≡ map f items
+  pub kept : Kept (length items) mostColumns labels labels′
 
-pub labelled-done : {f : ℕ → ℕ} {items labels : List ℕ} (m j : ℕ) → take (length items) labels ≡ map f items
-    → Labelled f items labels (P.Done m j)
-labelled-done m j h = record { is = λ k i e. h }
+pub labelled-done : {f : ℕ → ℕ} {items labels labels′ : List ℕ} (m j : ℕ) → take (length items) labels′ ≡ map f items
+    → Kept (length items) mostColumns labels labels′ → Labelled f items labels labels′ (P.Done m j)
+labelled-done m j h k = record { is = λ n i e. h; kept = k }
 
-pub labelled-refused : (f : ℕ → ℕ) (items labels : List ℕ) (x y : ℕ) → Labelled f items labels (P.Refused x y)
-labelled-refused f items labels x y = record {
+pub labelled-refused : (f : ℕ → ℕ) {items labels labels′ : List ℕ} (x y : ℕ)
+    → Kept (length items) mostColumns labels labels′ → Labelled f items labels labels′ (P.Refused x y)
+labelled-refused f x y k = record {
   is = λ m j e. absurd (let z : _≡_ {A = ℕ} 0 1 = cc in omega arith);
+  kept = k;
 }
+
+pub kept-next : {i b : ℕ} (v : ℕ) {s s′ : List ℕ} → Kept i b s s′ → Kept (i + 1) b s (set s′ i v)
+kept-next {i} {b} v {s} {s′} k =
+    kept-on (kept-part (i + 1) b k (omega arith) (omega arith)) (kept-set s′ i v (i + 1) b (omega arith))
 
 -- there is room for all items' cells and parts
 unfoldable pub itemsSize : Bytes → Bytes → List ℕ → List ℕ → List ℕ → ℕ
@@ -98,16 +105,6 @@ pub record ItemsFit (c q : Bytes) (t parts items : List ℕ) (n : ℕ) (area : L
   pub space : k + itemSize * length items ≤ length nodes
 
 -- ONE ITEM
-done-told : (a : Emitting) (m : ℕ) → W.Done m ≡ writtenOf a → (cs : List Cell) × (a ≡ ok (cs, m))
-unfolding writtenOf
-done-told (ok p) m e = let z : m ≡ p .1 = cc in (p .0, rw z)
-done-told (refused w) m e = absurd (let z : _≡_ {A = ℕ} 0 1 = cc in omega arith)
-
-refused-told : (a : Emitting) (x y : ℕ) → W.Refused x y ≡ writtenOf a → Refuses a x y
-unfolding writtenOf
-refused-told (ok p) x y e = absurd (let z : _≡_ {A = ℕ} 0 1 = cc in omega arith)
-refused-told (refused w) x y e = record { why = w; is = refl; number = cc; line = cc }
-
 module _ {c q : Bytes} {t xs ms ts : List ℕ} {r n : ℕ} {area area′ : List ℕ} {w : Written}
     (b : Builds c q t xs ms ts r n area area′ w) (parts : List ℕ) (x : ℕ) (g : r ≡ rowOf parts x) where
   emits-item : (h : ℕ) → Emits (emit (scopeAt c q t xs ms ts h) n (itemOf c q t parts x .expr)) n area area′ w
@@ -116,13 +113,13 @@ module _ {c q : Bytes} {t xs ms ts : List ℕ} {r n : ℕ} {area area′ : List 
   pub put-refused : (k : ℕ) (nodes nodes′ : List ℕ) (y l : ℕ) → w ≡ W.Refused y l
       → ItemPut c q t parts xs ms ts x n area area′ k nodes nodes′ (P.Refused y l)
   unfolding PutAs
-  put-refused k nodes nodes′ y l e = record { is = λ h. refused-told _ y l (sym e ∙ emits-item h .answer) }
+  put-refused k nodes nodes′ y l e = record { is = λ h. emits-refused y l (emits-item h) e }
 
   -- the next cell is behind the n-th, and there is room up to it
   pub put-some : (m : ℕ) → w ≡ W.Done m → n < m
   put-some m e =
-      let o = done-told _ m (sym e ∙ emits-item 0 .answer) in
-      emit-within (scopeAt c q t xs ms ts 0) n (itemOf c q t parts x .expr) (o .0) m (o .1) .some′
+      let o = accepted m (emits-item 0) e in
+      emit-within (scopeAt c q t xs ms ts 0) n (itemOf c q t parts x .expr) (o .cells) m (o .is) .some′
 
   pub put-done : {k j : ℕ} {nodes nodes′ : List ℕ} (m : ℕ) → w ≡ W.Done m
       → Appended (itemNumbers ((m - 1, itemOf c q t parts x .alias) ∷ [])) k nodes j nodes′
@@ -130,8 +127,8 @@ module _ {c q : Bytes} {t xs ms ts : List ℕ} {r n : ℕ} {area area′ : List 
   unfolding PutAs
   put-done m e a = record {
     is = λ h.
-        let o = done-told _ m (sym e ∙ emits-item h .answer) in
-        record { cells = o .0; is = o .1; stand = emits-item h .cells (o .0) m (o .1); part = rw (← sub-one m) a };
+        let o = accepted m (emits-item h) e in
+        record { cells = o .cells; is = o .is; stand = emits-item h .cells (o .cells) m (o .is); part = rw (← sub-one m) a };
   }
 
 -- ALL ITEMS

@@ -6,7 +6,7 @@ ghost use Rattle.rules.specs.Lists.{Bytes};
 ghost use Rattle.ast.specs.Table.{treeAt};
 ghost use Rattle.plan.specs.Layout.{cellsEnd};
 ghost use Rattle.scope.specs.UsedMatches.{usedMatches};
-ghost use Rattle.build_projection.specs.Labels.{labelNumber, cellLabel, Stands};
+ghost use Rattle.build_projection.specs.Labels.{labelNumber, cellLabel, ItemStands};
 use crate::projection::alias_address;
 use crate::projection::alias_length;
 use crate::projection::item_row;
@@ -61,7 +61,7 @@ pub fn item_label<'a>(
     n: u32,
 ) -> u32
     requires { ⌜ now used ≡ usedMatches (take width (now matches)) ⌝ }
-    requires { ⌜ Stands (now catalog) (now statement) (now cells) (now parts) (take width (now labels)) (take width (now matches))
+    requires { ⌜ ItemStands (now catalog) (now statement) (now cells) (now parts) (take width (now labels)) (take width (now matches))
         (take count (now tables)) x n (now area) ⌝ }
     ensures { λ r. ⌜ r ≡ labelNumber (now (catalog .entry)) (now (statement .entry)) (now (cells .entry)) (now (parts .entry))
         (take width (now (labels .entry))) (take width (now (matches .entry))) (take count (now (tables .entry))) x ⌝ }

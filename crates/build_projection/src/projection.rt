@@ -134,7 +134,7 @@ pub fn put_items<'a>(
         (now (items .entry)) n (now (area .entry)) (now (area .exit)) k (now (nodes .entry)) (now (nodes .exit)) r ⌝ }
     ensures { λ r. ⌜ Labelled (labelNumber (now (catalog .entry)) (now (statement .entry)) (now (cells .entry)) (now (parts .entry))
         (take width (now (labels .entry))) (take width (now (matches .entry))) (take count (now (tables .entry))))
-        (now (items .entry)) (now (projected .exit)) r ⌝ }
+        (now (items .entry)) (now (projected .entry)) (now (projected .exit)) r ⌝ }
 {
     let used = used_matches(matches, width);
     let mut m = n;

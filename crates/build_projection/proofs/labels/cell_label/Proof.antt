@@ -3,7 +3,7 @@ use mathlib.Core.Path.{refl}
 use Rattle.rules.specs.Views.{asColumn}
 use Rattle.ast.specs.Row.{treeOf}
 use Rattle.ast.specs.declared.row.Kind.the-variants as K
-use Rattle.build_projection.specs.Labels.{cell-column, cell-qualified, cell-none}
+use Rattle.build_projection.specs.Labels.{cell-named, cell-none}
 use borrow.Author.Needs.{needs}
 use Rattle.build_projection.proofs.labels.cell_label.Statement.{statement}
 use Rattle.build_projection.proofs.labels.cell_label.Tie as tie
@@ -67,11 +67,13 @@ enum-told-8 c = search needs
 
 -- src/labels.rt:30:1
 returns : tie.Need-returns
-returns c = cell-column _ _ _ _ _ _ (c .before .before .before .before .kind-of .ensures) (c .before .position .ensures) (c .number .ensures) (c .before .before .enum-told .given .1)
+unfolding asColumn treeOf
+returns c = cell-named _ _ _ _ _ _ (c .before .before .before .before .kind-of .ensures) K.Column (c .before .before .enum-told .given .1) (c .before .position .ensures) (c .number .ensures) (λ b q. (_, refl))
 
 -- src/labels.rt:30:1
 returns-2 : tie.Need-returns-2
-returns-2 c = cell-qualified _ _ _ _ _ _ (c .before .before .before .before .kind-of .ensures) (c .before .position2 .ensures) (c .number2 .ensures) (c .before .before .enum-told2 .given .1)
+unfolding asColumn treeOf
+returns-2 c = cell-named _ _ _ _ _ _ (c .before .before .before .before .kind-of .ensures) K.Qualified (c .before .before .enum-told2 .given .1) (c .before .position2 .ensures) (c .number2 .ensures) (λ b q. (_, refl))
 
 -- src/labels.rt:30:1
 returns-3 : tie.Need-returns-3

@@ -1,13 +1,15 @@
 -- `projection::put_items`: the cells, parts and labels of the items so far, and the items that are left.
 use native.Mathlib.Omega.{arith}
 use borrow.Author.Needs.{needs}
-use mathlib.Core.Path.{refl, sym, ap, _∙_}
+use mathlib.Core.Path.{refl, sym, _∙_}
 use mathlib.Core.List.{[], map}
 use Prim.Native.Nat.{_-_}
 use lib.ListN.{length, take, length-map}
+use Rattle.rules.specs.Limits.{mostColumns}
+use Rattle.numbers.specs.Kept.{Kept, kept-all, kept-part}
 use Rattle.scope.specs.Copies.{Copying, copying-begin, copying-map, stored}
 use Rattle.build_projection.specs.Labels.{labelNumber, stands-put}
-use Rattle.build_projection.specs.Pushes.{Pushing, pushing-begin, cells-before, room-here, space-here, pushing-refused, pushing-more, pushing-end, labelled-done, labelled-refused}
+use Rattle.build_projection.specs.Pushes.{Pushing, pushing-begin, cells-before, room-here, space-here, pushing-refused, pushing-more, pushing-end, labelled-done, labelled-refused, kept-next}
 use Rattle.build_projection.proofs.projection.put_items.Statement.{statement}
 use Rattle.build_projection.proofs.projection.put_items.Tie as tie
 use Rattle.build_projection.proofs.projection.put_items.Reads as reads
@@ -22,6 +24,7 @@ Inv-loop catalog statement cells parts items labels matches width tables count a
     nodes₀ nodes i m j
     × Copying [] 0 (map (labelNumber catalog statement cells parts (take width labels) (take width matches)
     (take count tables)) items) i projected
+    × Kept i mostColumns projected₀ projected
 
 abbrev μ-loop : tie.MeasureT-loop
 μ-loop catalog statement cells parts items labels matches width tables count area₀ n nodes₀ k projected₀ used m₀ j₀ i₀ area nodes projected m j i =
@@ -33,7 +36,7 @@ used-matches-requires c κs = search needs
 
 -- src/projection.rt:143:5
 loop-holds : tie.Need-loop-holds Inv-loop μ-loop
-loop-holds c = (pushing-begin _ _ _ (c .before .before .before .before .before .before .before .before .before .before .before .before .pre .1), copying-begin _ (c .before .before .before .before .before .before .before .before .before .before .before .before .pre .0) refl)
+loop-holds c = (pushing-begin _ _ _ (c .before .before .before .before .before .before .before .before .before .before .before .before .pre .1), copying-begin _ (c .before .before .before .before .before .before .before .before .before .before .before .before .pre .0) refl, kept-all _ _ _)
 
 -- src/projection.rt:149:13
 mul-put-item : tie.Need-mul-put-item Inv-loop μ-loop
@@ -70,7 +73,7 @@ same-length-3 c = c .before .before .before .before .before .before .before .bef
 returns : tie.Need-returns Inv-loop μ-loop
 returns c = (
   pushing-refused (c .before .before .before .before .before .before .before .before .before .before .before .before .loop .inv .0) (c .before .before .before .before .before .before .before .before .before .before .before .loop-test .taken) (c .before .before .before .before .before .before .before .put-item .ensures) _ _ (c .before .step .given .1),
-  labelled-refused _ _ _ _ _,
+  labelled-refused _ _ _ (kept-part _ _ (c .before .before .before .before .before .before .before .before .before .before .before .before .loop .inv .2) (c .before .before .before .before .before .before .before .before .before .before .before .before .loop .inv .0 .within) (omega arith)),
 )
 
 -- src/projection.rt:164:26
@@ -117,6 +120,7 @@ loop-again c = (
       (take (c .before .before .before .before .before .before .before .before .before .before .before .before .before .before .before .before .before .before .before .before .before .before .before .before .before .before .before .before .args .width) (c .before .before .before .before .before .before .before .before .before .before .before .before .before .before .before .before .before .before .before .before .before .before .before .before .before .before .before .before .args .labels .now)) (take (c .before .before .before .before .before .before .before .before .before .before .before .before .before .before .before .before .before .before .before .before .before .before .before .before .before .before .before .before .args .width) (c .before .before .before .before .before .before .before .before .before .before .before .before .before .before .before .before .before .before .before .before .before .before .before .before .before .before .before .before .args .matches .now))
       (take (c .before .before .before .before .before .before .before .before .before .before .before .before .before .before .before .before .before .before .before .before .before .before .before .before .before .before .before .before .args .count) (c .before .before .before .before .before .before .before .before .before .before .before .before .before .before .before .before .before .before .before .before .before .before .before .before .before .before .before .before .args .tables .now))) (c .before .before .before .before .before .before .before .before .before .before .before .before .before .before .before .before .before .before .before .before .before .before .before .before .before .before .before .before .args .items .now) _ (c .before .before .before .before .before .before .before .before .before .before .before .before .before .before .before .loop .inv .1) (omega (arith, c .before .before .before .before .before .before .before .before .before .before .before .before .before .before .before .before .before .before .before .before .before .before .before .before .before .before .before .before .pre .1 .few, c .before .before .before .before .before .before .before .before .before .before .before .before .before .before .loop-test .taken))
       (c .before .before .before .before .before .before .before .before .before .before .before .before .before .before .loop-test .taken) (c .item-label .ensures),
+  kept-next _ (c .before .before .before .before .before .before .before .before .before .before .before .before .before .before .before .loop .inv .2),
 )
 
 -- src/projection.rt:113:1
@@ -137,7 +141,7 @@ returns-2 c = (
   pushing-end (c .before .loop .inv .0) (c .loop-test .left),
   labelled-done _ _ (stored (c .before .loop .inv .1) refl (length-map (c .before .before .before .before .before .before .before .before .before .before .before .before .before .before .args .items .now) (labelNumber (c .before .before .before .before .before .before .before .before .before .before .before .before .before .before .args .catalog .now) (c .before .before .before .before .before .before .before .before .before .before .before .before .before .before .args .statement .now) (c .before .before .before .before .before .before .before .before .before .before .before .before .before .before .args .cells .now) (c .before .before .before .before .before .before .before .before .before .before .before .before .before .before .args .parts .now)
       (take (c .before .before .before .before .before .before .before .before .before .before .before .before .before .before .args .width) (c .before .before .before .before .before .before .before .before .before .before .before .before .before .before .args .labels .now)) (take (c .before .before .before .before .before .before .before .before .before .before .before .before .before .before .args .width) (c .before .before .before .before .before .before .before .before .before .before .before .before .before .before .args .matches .now))
-      (take (c .before .before .before .before .before .before .before .before .before .before .before .before .before .before .args .count) (c .before .before .before .before .before .before .before .before .before .before .before .before .before .before .args .tables .now)))) (c .before .loop .inv .0 .within) (c .loop-test .left)),
+      (take (c .before .before .before .before .before .before .before .before .before .before .before .before .before .before .args .count) (c .before .before .before .before .before .before .before .before .before .before .before .before .before .before .args .tables .now)))) (c .before .loop .inv .0 .within) (c .loop-test .left)) (kept-part _ _ (c .before .loop .inv .2) (c .before .loop .inv .0 .within) (omega arith)),
 )
 
 pub put-items-spec : {M : Type 1} → statement M
