@@ -21,6 +21,7 @@ use Rattle.claims.specs.Words.Within.{StatementName}
 use Rattle.claims.specs.Within.{ExprWithin, TextsWithin, select-few, select-counts, select-parts}
 use Rattle.claims.specs.Widths.Labels.{from-labels}
 use Rattle.claims.specs.Refused.Qualified.{IsQualified, from-qualified}
+use Rattle.claims.specs.Room.From.{FromFits}
 use Rattle.appends.specs.Area.{cellsNumbers}
 use Rattle.appends.specs.From.Laid.{stageOf}
 use Rattle.appends.specs.From.Clause.{from-none}
@@ -46,13 +47,14 @@ pub record ClauseRoom (c q : Bytes) (ts : List ℕ) (fs : List From) (area nodes
   pub parts : All (FromHas (ExprWithin c q) (StatementName c q)) fs
   pub tables : total fromTables fs ≤ mostFromTables
   pub cells : Room 0 (3 * total fromSize fs) area
-  pub numbers : length nodes ≡ nodesSize
+  pub numbers : FromFits fs (length nodes)
+  pub most : length nodes ≤ nodesSize
 
 -- a SELECT that was read has room for its FROM
 pub clause-room : {c q : Bytes} {ts : List ℕ} {fs : List From} {area nodes : List ℕ} (d : Select)
     → TextsWithin c q (catalogAt c q ts) (Ast.select d) → d .from ≡ fs → leastArea ≤ length area
-    → length nodes ≡ nodesSize → ClauseRoom c q ts fs area nodes
-clause-room {c} {q} {ts} {fs} d h e a n =
+    → FromFits (d .from) (length nodes) → length nodes ≤ nodesSize → ClauseRoom c q ts fs area nodes
+clause-room {c} {q} {ts} {fs} d h e a n l =
     let m : 3 * total fromSize fs ≤ _ = rw e at (room-from (catalogAt c q ts) d (select-few h)) in
     record {
       statement = Ast.select d;
@@ -60,7 +62,8 @@ clause-room {c} {q} {ts} {fs} d h e a n =
       parts = rw e at (select-parts h .from);
       tables = rw e at (select-counts h .from);
       cells = record { counted = omega (arith, m); held = omega (arith, m, a) };
-      numbers = n;
+      numbers = rw e at n;
+      most = l;
     }
 
 -- THE CONTRACT
@@ -99,7 +102,7 @@ module _ (c q : Bytes) (ts cells : List ℕ) (fs : List From) (s : Scope) (d : N
 -- NO ITEMS
 pub empty-room : {c q : Bytes} {ts : List ℕ} {fs : List From} {area nodes : List ℕ}
     → ClauseRoom c q ts fs area nodes → emptyRowSize ≤ length nodes
-empty-room h = omega (arith, h .numbers)
+empty-room h = h .numbers .row
 
 pub clause-none : (c q : Bytes) (ts cells area : List ℕ) {nodes nodes′ : List ℕ} (x : Source) → New (x .scope)
     → x .number ≡ 0 → x .n ≡ 0 → x .m ≡ 1 → Appended (recordNumbers (values ([] ∷ []))) 0 nodes (x .k) nodes′

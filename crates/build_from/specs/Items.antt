@@ -18,6 +18,7 @@ use Rattle.rules.specs.Sizes.{fromSize, optionSize}
 use Rattle.claims.specs.Answers.{ensured}
 use Rattle.claims.specs.Reading.Limits.{fromTables}
 use Rattle.claims.specs.Reading.Has.{FromHas}
+use Rattle.claims.specs.Room.Nodes.{tableRoom, joinRoom}
 use Rattle.appends.specs.From.Laid.{sourceOf}
 use Rattle.appends.specs.From.Sides.{sides-first, sides-second}
 use Rattle.appends.specs.Room.From.{item-next, item-numbers}
@@ -29,7 +30,7 @@ use Rattle.from.specs.Access.{lineAt, kindAt, leftSide, rightSide}
 use Rattle.from.specs.declared.row.Kind.the-variants as K
 use Rattle.plan.specs.Room.{laid-in-use}
 use Rattle.plan.specs.Steps.{Refuses, refuses-on}
-use Rattle.build_from.specs.Sources.{Laid, tableRoom, joinRoom, ItemRoom, Accepted, Builds}
+use Rattle.build_from.specs.Sources.{Laid, ItemRoom, Accepted, Builds}
 use Rattle.build_from.specs.Tables.{tableRow}
 use Rattle.build_from.specs.Merges.{merge-empty}
 use Rattle.build_from.specs.Predicates.{predicateIn}

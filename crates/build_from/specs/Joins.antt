@@ -19,6 +19,7 @@ use Rattle.rules.specs.Scope as rules
 use Rattle.rules.specs.BuildFrom as building
 use Rattle.rules.specs.BuildFrom.{isOuter, isRight, buildSides, swapped, buildFrom}
 use Rattle.rules.specs.Sizes.{optionSize}
+use Rattle.claims.specs.Room.Nodes.{joinRoom}
 use Rattle.appends.specs.Area.{cellsNumbers}
 use Rattle.appends.specs.Expressions.Option.{emitOption}
 use Rattle.appends.specs.From.Laid.{SourceLaid}
@@ -35,7 +36,7 @@ use Rattle.plan.specs.Appended.{Appended}
 use Rattle.plan.specs.Records.{records-first, records-on}
 use Rattle.plan.specs.Cells.{Room}
 use Rattle.plan.specs.Steps.{Refuses, refuses-on, Stands, stands-on}
-use Rattle.build_from.specs.Sources.{Laid, joinRoom}
+use Rattle.build_from.specs.Sources.{Laid}
 use Rattle.build_from.specs.Merges.{TwoScopes, scope-width, merge-empty, MergedScope, Merges}
 use Rattle.build_from.specs.Predicates.{predicateIn, PredicateStands, PredicateBuilt}
 use Rattle.build_from.specs.Rows.{joinAt, firstOf, secondOf, joinRow}

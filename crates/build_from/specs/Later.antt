@@ -22,6 +22,7 @@ use Rattle.rules.specs.Stage.{Stage}
 use Rattle.rules.specs.BuildFrom.{mergeInto, buildFrom, buildLaterItems}
 use Rattle.rules.specs.Sizes.{fromSize}
 use Rattle.claims.specs.Reading.Limits.{fromTables}
+use Rattle.claims.specs.Room.Nodes.{tableRoom}
 use Rattle.appends.specs.Answers.{bind-ok, bind-refused}
 use Rattle.appends.specs.Nodes.Lays.{Lays}
 use Rattle.appends.specs.From.Laid.{stageOf}
@@ -34,7 +35,7 @@ use Rattle.plan.specs.Layout.{joinSize}
 use Rattle.plan.specs.Appended.{Appended}
 use Rattle.plan.specs.Records.{records-on}
 use Rattle.plan.specs.Steps.{refuses-on, Lies, Taken, NotTaken}
-use Rattle.build_from.specs.Sources.{tableRoom, ItemRoom, Accepted, Builds}
+use Rattle.build_from.specs.Sources.{ItemRoom, Accepted, Builds}
 use Rattle.build_from.specs.Merges.{TwoScopes, Merges}
 use Rattle.build_from.specs.Joins.{join-size}
 use Rattle.build_from.specs.Items.{laid-cells, laid-numbers}

@@ -17,6 +17,7 @@ use Rattle.claims.specs.Reading.Limits.{fromTables}
 use Rattle.claims.specs.Reading.Has.{FromHas}
 use Rattle.claims.specs.Words.Within.{StatementName}
 use Rattle.claims.specs.Within.{ExprWithin}
+use Rattle.claims.specs.Room.Nodes.{tableRoom}
 use Rattle.appends.specs.From.Laid.{stageOf}
 use Rattle.appends.specs.From.Clause.{from-refused, from-first, later-end}
 use Rattle.ast.specs.Table.{treeAt}
@@ -26,7 +27,7 @@ use Rattle.from.specs.Layout.{rootsBefore, rootsAt, fromAt, fromsAt}
 use Rattle.from.specs.Roots.{froms-count, from-item}
 use Rattle.plan.specs.Cells.{Room}
 use Rattle.plan.specs.Steps.{Refuses, refuses-on, step-done, Standing, standing-on}
-use Rattle.build_from.specs.Sources.{tableRoom, ItemRoom, Builds}
+use Rattle.build_from.specs.Sources.{ItemRoom, Builds}
 use Rattle.build_from.specs.Merges.{merge-empty}
 use Rattle.build_from.specs.Items.{laid-cells, laid-numbers}
 use Rattle.build_from.specs.Later.{later-stops, later-goes, LaterRoom, LaterBuilds}
@@ -70,8 +71,8 @@ module _ {c q : Bytes} {ts : List ℕ} {fs : List From} {f : From} {gs : List Fr
     parts = room .parts .0;
     tables = omega (arith, room .tables);
     cells = record { counted = omega (arith, room .cells .counted); held = omega (arith, room .cells .held) };
-    numbers = omega (arith, room .tables, room .numbers);
-    most = omega (arith, room .numbers);
+    numbers = omega (arith, room .numbers .tables);
+    most = room .most;
     few = omega arith;
   }
 
@@ -99,7 +100,7 @@ module _ {c q : Bytes} {ts : List ℕ} {fs : List From} {f : From} {gs : List Fr
             counted = omega (arith, room .cells .counted, i);
             held = omega (arith, room .cells .held, i, d .kept);
           };
-          numbers = omega (arith, room .tables, room .numbers, k, d .kept-nodes);
+          numbers = omega (arith, room .numbers .tables, k, d .kept-nodes);
           node = o .laid .is .node;
           is = ap (buildFromClause (catalogAt c q ts)) e
               ∙ from-first (catalogAt c q ts) f gs s (a .line) 0 0 (o .laid .cells) (o .laid .records) (a .n) (a .m)
@@ -136,7 +137,7 @@ module _ {c q : Bytes} {ts cells : List ℕ} {fs gs : List From} {f : From} {gs�
       tables = omega (arith, part .tables);
       cells = record { counted = omega (arith, part .room .counted); held = omega (arith, part .room .held) };
       numbers = omega (arith, part .numbers);
-      most = omega (arith, h .numbers, p .kept-nodes);
+      most = omega (arith, h .most, p .kept-nodes);
       few = part .few;
     };
     numbers = omega (arith, part .numbers);

@@ -17,6 +17,7 @@ use Rattle.claims.specs.Reading.Limits.{fromTables}
 use Rattle.claims.specs.Reading.Has.{FromHas}
 use Rattle.claims.specs.Words.Within.{StatementName}
 use Rattle.claims.specs.Within.{ExprWithin, TextsWithin}
+use Rattle.claims.specs.Room.Nodes.{tableRoom, joinRoom}
 use Rattle.appends.specs.From.Laid.{SourceLaid}
 use Rattle.ast.specs.Table.{treeAt}
 use Rattle.schema.specs.Layout.{catalogAt}
@@ -35,13 +36,6 @@ pub record Laid (a : Answer building.Source) (s : rules.Scope) (l i k u : ℕ) (
   pub stands : Stands i u area nodes cells records j v area′ nodes′
 
 -- ROOM
--- numbers of the nodes of each table, and those of them that the first needs not: a join and a remap
-abbrev pub tableRoom : ℕ
-tableRoom = 272
-
-abbrev pub joinRoom : ℕ
-joinRoom = 265
-
 -- the catalog's numbers ts stand for tables that were read, f is of the statement that was, and there is room for it
 -- from the n-th cell and the m-th node on, k numbers of the nodes being in use
 pub record ItemRoom (c q : Bytes) (ts : List ℕ) (f : From) (n m k : ℕ) (area nodes : List ℕ) : Type 0 where

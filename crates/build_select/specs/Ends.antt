@@ -45,7 +45,7 @@ use Rattle.build_select.specs.Held.{plans-after}
 use Rattle.build_select.specs.States.{clause-read, OrderState, OffsetState, LimitState}
 
 -- THE END: all of a plan stands
-module _ {d : Node Built} {n m k : ℕ} {area nodes : List ℕ} (h : Held d n m k area nodes) where
+module _ {q : Select} {d : Node Built} {n m k : ℕ} {area nodes : List ℕ} (h : Held q d n m k area nodes) where
   pub end-room : n ≤ mostPlanCells
       → (planSize ≤ length area) × (n ≤ mostPlanCells) × (k ≤ k) × (k ≤ nodesSize) × (k ≤ length nodes)
   end-room l =
@@ -54,7 +54,7 @@ module _ {d : Node Built} {n m k : ℕ} {area nodes : List ℕ} (h : Held d n m 
         omega (arith, h .free .areaRoom),
         l,
         omega arith,
-        omega (arith, a .fits, e, h .free .nodesRoom),
+        omega (arith, a .fits, e, h .free .most),
         omega (arith, a .fits, e),
       )
 
@@ -87,8 +87,8 @@ module _ {w g n m k : ℕ} {area nodes : List ℕ} (h : LimitState w g n m k are
   remap-follows = held-follows (h .held) (omega (
     arith,
     held-numbers (h .held),
-    rooms.remap-numbers (h .past) (h .offset) (h .is),
-    h .held .free .nodesRoom,
+    rooms.remap-numbers (h .past) (h .offset) (h .is) (h .held .free .fits),
+    h .held .free .later,
     scope-wide,
   ))
     where
@@ -113,7 +113,7 @@ module _ {w g n m k : ℕ} {area nodes : List ℕ} (h : LimitState w g n m k are
         absurd (let y : _≡_ {A = ℕ} 0 1 = ok-not-refused _ (z .why) (z .is) in omega arith)
 
     module _ {n′ m′ k′ : ℕ} (e : r ≡ S.Done n′ m′ k′) where
-      on : HeldOn (λ d. d) (ok (buildRemap (h .node) (scopeOf (treeAt c q (h .cells)) c q (h .scope)))) n′ m′ k′ area nodes′
+      on : HeldOn (h .select) (λ d. d) (ok (buildRemap (h .node) (scopeOf (treeAt c q (h .cells)) c q (h .scope)))) n′ m′ k′ area nodes′
       on = step-on (h .held) s n′ m′ k′ e
 
       node-is : buildRemap (h .node) (h .stage .scope) ≡ on .node
@@ -144,7 +144,7 @@ module _ {c q : Bytes} {cells parts : List ℕ} {w g n m k : ℕ} {area nodes : 
     (h : OffsetState c q cells parts w g n m k area nodes) where
   pub limit-follows : Follows rowsSize m k nodes
   limit-follows = held-follows (h .held)
-      (omega (arith, held-numbers (h .held), rooms.limit-numbers (h .past) (h .is), h .held .free .nodesRoom))
+      (omega (arith, held-numbers (h .held), rooms.limit-numbers (h .past) (h .is) (h .held .free .fits), h .held .free .later))
 
   limit-clause : {z : Clause} → z ≡ clauseAt parts limitKind → h .select .limit ≡ clauseOf c q cells z
   limit-clause hz = h .read .limit ∙ clause-read c q cells parts limitKind (h .read .table) hz
@@ -192,7 +192,7 @@ module _ {c q : Bytes} {cells parts : List ℕ} {w g n m k : ℕ} {area nodes : 
     (h : OrderState c q cells parts w g n m k area nodes) where
   pub offset-follows : Follows rowsSize m k nodes
   offset-follows = held-follows (h .held)
-      (omega (arith, held-numbers (h .held), rooms.offset-numbers (h .past), h .held .free .nodesRoom))
+      (omega (arith, held-numbers (h .held), rooms.offset-numbers (h .past) (h .held .free .fits), h .held .free .later))
 
   offset-clause : {z : Clause} → z ≡ clauseAt parts offsetKind → h .select .offset ≡ clauseOf c q cells z
   offset-clause hz = h .read .offset ∙ clause-read c q cells parts offsetKind (h .read .table) hz

@@ -28,7 +28,7 @@ use Rattle.scope.specs.Scopes.{upTo, scopeOf, scopeFrom, Valid, Plain}
 use Rattle.scope.specs.declared.Scope.{Scope}
 use Rattle.statement.specs.Layout.{selectOf}
 use Rattle.statement.specs.Access.{selectAt}
-use Rattle.plan.specs.Layout.{aggregateHead, functionSize, sourceHead, itemSize, nodesSize}
+use Rattle.plan.specs.Layout.{aggregateHead, functionSize, sourceHead, itemSize}
 use Rattle.plan.specs.Cells.{Room}
 use Rattle.plan.specs.Steps.{refuses-on, Steps, step-done, step-refused}
 use Rattle.plan.specs.declared.cells.Written.{Written}
@@ -182,9 +182,9 @@ module _ {c q : Bytes} {cells parts items : List ℕ} {scope : Scope} {n m k : �
     arith,
     ap length (read-group (h .read) froms),
     ap length (read-functions (h .read) froms),
-    rooms.groups-numbers (h .past),
+    rooms.groups-numbers (h .past) (h .held .free .fits),
     held-numbers (h .held),
-    h .held .free .nodesRoom,
+    h .held .free .later,
   )
 
   pub groups-ready : GroupsReady c q cells parts scope n m k area nodes
@@ -196,7 +196,7 @@ module _ {c q : Bytes} {cells parts items : List ℕ} {scope : Scope} {n m k : �
     few-functions = rw (← select-functions c q cells froms parts) functions-few;
     room = rw (← select-groups c q cells froms parts, ← select-functions c q cells froms parts) groups-room;
     nodes-room = rw (← select-groups c q cells froms parts, ← select-functions c q cells froms parts) groups-numbers;
-    nodes-most = omega (arith, h .held .free .nodesRoom);
+    nodes-most = h .held .free .most;
     source = held-some (h .held);
     in-use = held-few (h .held);
   }
@@ -221,7 +221,7 @@ module _ {c q : Bytes} {cells parts items : List ℕ} {scope : Scope} {n m k : �
         (stages.groups-refused (h .select) itemsHere (h .stage))) (s .kept)
 
     module _ (e : x .number ≡ 0) where
-      on : HeldOn (λ d. stageOf d (scopeOf (treeAt c q cells) c q (x .scope)))
+      on : HeldOn (h .select) (λ d. stageOf d (scopeOf (treeAt c q cells) c q (x .scope)))
           (buildGroups (h .stage) (h .select .group) (functionsOf itemsHere (laterOf (h .select)))) (x .n) (x .m) (x .k)
           area₁ nodes₁
       on = step-on (h .held) (stage-done grouped e) (x .n) (x .m) (x .k) refl
@@ -258,9 +258,9 @@ module _ {c q : Bytes} {cells parts items : List ℕ} {scope : Scope} {n m k : �
       projection-numbers : x .k + sourceHead + itemSize * mostColumns ≤ length nodes₁
       projection-numbers = omega (
         arith,
-        rooms.items-numbers after,
+        rooms.items-numbers after (on .held .free .fits),
         held-numbers (on .held),
-        on .held .free .nodesRoom,
+        on .held .free .later,
       )
 
       pub projection-ready : ProjectionReady c q cells parts items (x .scope) (x .n) (x .m) (x .k) area₁ nodes₁
@@ -278,7 +278,7 @@ module _ {c q : Bytes} {cells parts items : List ℕ} {scope : Scope} {n m k : �
         later = λ gs. omega (arith, ap (total size) (read-later (h .read) gs), rooms.later-few after);
         room = rw (total-map (λ (i : Item). size (i .expr)) (itemOf c q cells parts) items) at projection-room;
         space = projection-numbers;
-        most = omega (arith, on .held .free .nodesRoom);
+        most = on .held .free .most;
         some-node = held-some (on .held);
         few-nodes = held-few (on .held);
       }
@@ -302,7 +302,7 @@ module _ {c q : Bytes} {cells parts items : List ℕ} {scope : Scope} {n m k : �
             (stages.projection-refused (h .select) itemsHere a)) (t .kept))
 
         module _ (f : y .number ≡ 0) where
-          on₂ : HeldOn (λ d. stageOf d (scopeOf (treeAt c q cells) c q (y .scope)))
+          on₂ : HeldOn (h .select) (λ d. stageOf d (scopeOf (treeAt c q cells) c q (y .scope)))
               (buildProjection a itemsHere (laterOf (h .select))) (y .n) (y .m) (y .k) area₂ nodes₂
           on₂ = step-on (on .held) (stage-done projected f) (y .n) (y .m) (y .k) refl
 

@@ -6,12 +6,14 @@ use mathlib.Core.List.{List, [], _∷_}
 use lib.ListN.{length}
 use Rattle.rules.specs.Refusals.{Refusal, refusalNumber, Answer, ok, refused}
 use Rattle.rules.specs.Limits.{leastArea}
+use Rattle.rules.specs.Ast.{Select}
 use Rattle.rules.specs.Plan.{Built, Node, Plan}
 use Rattle.rules.specs.Plan as P
 use Rattle.rules.specs.Cells.{cellCount}
 use Rattle.rules.specs.Nodes.{nodes}
 use Rattle.rules.specs.Entry.{outcome}
-use Rattle.claims.specs.Room.Nodes.{nodeRoom}
+use Rattle.claims.specs.Room.Nodes.{mostLaterNumbers, nodeRoom}
+use Rattle.claims.specs.Room.From.{FromFits}
 use Rattle.plan.specs.Layout.{nodesSize}
 use Rattle.plan.specs.Room.{laid-in-use}
 use Rattle.plan.specs.Steps.{Refuses, Steps, Standing, standing-on, standing-refused}
@@ -21,7 +23,6 @@ use Rattle.plan.specs.declared.steps.Step.{Step}
 use Rattle.plan.specs.declared.steps.Step.the-variants as S
 use Rattle.build_clauses.specs.Follows.{Follows}
 use Rattle.build_statement.specs.Plans.{plannedOf, Plans}
-use Rattle.build_statement.specs.Kinds.{Free}
 
 -- NODES: there is one, and each takes some numbers
 nodes-some : (d : Node Built) → 0 < nodes d
@@ -50,14 +51,34 @@ nodes-few (P.offset n k) = omega (arith, nodes-few n)
 nodes-few (P.limit n k) = omega (arith, nodes-few n)
 nodes-few (P.remap n ts) = omega (arith, nodes-few n)
 
--- the node d stands in n cells, m nodes and k numbers of the nodes, and there is room for a plan
-pub record Held (d : Node Built) (n m k : ℕ) (area nodes : List ℕ) : Type 0 where
+-- there is room for the plan of the SELECT q: `from` numbers are enough for the nodes of its FROM, and as many as the
+-- others may take are left behind them
+pub record SelectRoom (q : Select) (area nodes : List ℕ) : Type 0 where
+  pub areaRoom : leastArea ≤ length area
+  pub from : ℕ
+  pub fits : FromFits (q .from) from
+  pub later : from + mostLaterNumbers ≤ length nodes
+  pub most : length nodes ≤ nodesSize
+
+-- and there still is where the lengths are kept
+pub room-kept : {q : Select} {area area′ nodes nodes′ : List ℕ} → SelectRoom q area nodes → length area′ ≡ length area
+    → length nodes′ ≡ length nodes → SelectRoom q area′ nodes′
+room-kept h e g = record {
+  areaRoom = omega (arith, h .areaRoom, e);
+  from = h .from;
+  fits = h .fits;
+  later = omega (arith, h .later, g);
+  most = omega (arith, h .most, g);
+}
+
+-- the node d stands in n cells, m nodes and k numbers of the nodes, and there is room for the plan of the SELECT q
+pub record Held (q : Select) (d : Node Built) (n m k : ℕ) (area nodes : List ℕ) : Type 0 where
   pub area₀ : List ℕ
   pub nodes₀ : List ℕ
   pub standing : Standing d n m k area₀ nodes₀ area nodes
-  pub free : Free area nodes
+  pub free : SelectRoom q area nodes
 
-module _ {d : Node Built} {n m k : ℕ} {area nodes : List ℕ} (h : Held d n m k area nodes) where
+module _ {q : Select} {d : Node Built} {n m k : ℕ} {area nodes : List ℕ} (h : Held q d n m k area nodes) where
   pub held-cells : cellCount d ≡ n
   held-cells = omega (arith, h .standing .lays .next)
 
@@ -74,25 +95,26 @@ module _ {d : Node Built} {n m k : ℕ} {area nodes : List ℕ} (h : Held d n m 
   held-few = omega (arith, h .standing .lays .node, nodes-few d, held-numbers)
 
 -- a record may follow
-pub held-follows : {d : Node Built} {n m k : ℕ} {area nodes : List ℕ} {size : ℕ} → Held d n m k area nodes
-    → k + size ≤ length nodes → Follows size m k nodes
+pub held-follows : {q : Select} {d : Node Built} {n m k : ℕ} {area nodes : List ℕ} {size : ℕ}
+    → Held q d n m k area nodes → k + size ≤ length nodes → Follows size m k nodes
 held-follows h l = record {
   source = held-some h;
   counted = held-few h;
   room = l;
-  most = omega (arith, h .free .nodesRoom);
+  most = h .free .most;
 }
 
 -- a step on
-pub record HeldOn {B : Type 0} (view : Node Built → B) (a : Answer B) (n m k : ℕ) (area nodes : List ℕ) : Type 0 where
+pub record HeldOn {B : Type 0} (q : Select) (view : Node Built → B) (a : Answer B) (n m k : ℕ) (area nodes : List ℕ)
+    : Type 0 where
   pub node : Node Built
   pub answer : a ≡ ok (view node)
-  pub held : Held node n m k area nodes
+  pub held : Held q node n m k area nodes
 
-module _ {B : Type 0} {view : Node Built → B} {a : Node Built → Answer B} {d : Node Built} {n m k : ℕ}
-    {area nodes area′ nodes′ : List ℕ} {r : Step} (h : Held d n m k area nodes)
+module _ {B : Type 0} {view : Node Built → B} {a : Node Built → Answer B} {q : Select} {d : Node Built} {n m k : ℕ}
+    {area nodes area′ nodes′ : List ℕ} {r : Step} (h : Held q d n m k area nodes)
     (s : Steps view a n m k area nodes area′ nodes′ r) where
-  pub step-on : (n′ m′ k′ : ℕ) → r ≡ S.Done n′ m′ k′ → HeldOn view (a d) n′ m′ k′ area′ nodes′
+  pub step-on : (n′ m′ k′ : ℕ) → r ≡ S.Done n′ m′ k′ → HeldOn q view (a d) n′ m′ k′ area′ nodes′
   step-on n′ m′ k′ e =
       let w = standing-on n′ m′ k′ (h .standing) s e in
       record {
@@ -102,10 +124,7 @@ module _ {B : Type 0} {view : Node Built → B} {a : Node Built → Answer B} {d
           area₀ = h .area₀;
           nodes₀ = h .nodes₀;
           standing = w .standing;
-          free = record {
-            areaRoom = omega (arith, s .kept, h .free .areaRoom);
-            nodesRoom = s .kept-nodes ∙ h .free .nodesRoom;
-          };
+          free = room-kept (h .free) (s .kept) (s .kept-nodes);
         };
       }
 

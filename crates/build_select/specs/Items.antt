@@ -147,7 +147,7 @@ module _ {c q : Bytes} {cells parts items : List ℕ} {scope : Scope} {n m k : �
 
   pub where-follows : Follows filterSize m k nodes
   where-follows = held-follows (h .held)
-      (omega (arith, held-numbers (h .held), rooms.where-numbers (h .past), h .held .free .nodesRoom))
+      (omega (arith, held-numbers (h .held), rooms.where-numbers (h .past) (h .held .free .fits), h .held .free .later))
 
   module _ {area₁ nodes₁ : List ℕ} {r : Step} (s : Steps (λ d. stageOf d lent)
       (λ d. buildWhere (stageOf d lent) (clauseOf c q cells w)) n m k area nodes area₁ nodes₁ r) where
@@ -164,7 +164,7 @@ module _ {c q : Bytes} {cells parts items : List ℕ} {scope : Scope} {n m k : �
         (stages.where-refused (h .select) (h .stage) listedItems)) (s .kept)
 
     module _ {n₁ m₁ k₁ : ℕ} (e : r ≡ S.Done n₁ m₁ k₁) where
-      on : HeldOn (λ d. stageOf d (h .stage .scope)) (buildWhere (h .stage) (h .select .filter)) n₁ m₁ k₁ area₁ nodes₁
+      on : HeldOn (h .select) (λ d. stageOf d (h .stage .scope)) (buildWhere (h .stage) (h .select .filter)) n₁ m₁ k₁ area₁ nodes₁
       on = step-on (h .held) step n₁ m₁ k₁ e
 
       pub where-state : WhereState c q cells parts items scope n₁ m₁ k₁ area₁ nodes₁

@@ -53,7 +53,7 @@ module _ {c q : Bytes} {cells parts : List ℕ} {scope : Scope} {n m k : ℕ} {a
 
   pub having-follows : Follows filterSize m k nodes
   having-follows = held-follows (h .held)
-      (omega (arith, held-numbers (h .held), rooms.having-numbers (h .past), h .held .free .nodesRoom))
+      (omega (arith, held-numbers (h .held), rooms.having-numbers (h .past) (h .held .free .fits), h .held .free .later))
 
   module _ {area₁ nodes₁ : List ℕ} {r : Step}
       (s : Steps (λ d. d) (λ d. buildHaving d (clauseOf c q cells w) lent) n m k area nodes area₁ nodes₁ r) where
@@ -65,7 +65,7 @@ module _ {c q : Bytes} {cells parts : List ℕ} {scope : Scope} {n m k : ℕ} {a
         (refuses-on (step-stop (h .held) step x l e) (stages.having-refused (h .select) (h .stage))) (s .kept)
 
     module _ {n₁ m₁ k₁ : ℕ} (e : r ≡ S.Done n₁ m₁ k₁) where
-      on : HeldOn (λ d. d) (buildHaving (h .stage .node) (h .select .having) (h .stage .scope)) n₁ m₁ k₁ area₁ nodes₁
+      on : HeldOn (h .select) (λ d. d) (buildHaving (h .stage .node) (h .select .having) (h .stage .scope)) n₁ m₁ k₁ area₁ nodes₁
       on = step-on (h .held) step n₁ m₁ k₁ e
 
       after : AfterHaving (h .catalog) (h .select) (h .stage) (on .node)
@@ -79,9 +79,9 @@ module _ {c q : Bytes} {cells parts : List ℕ} {scope : Scope} {n m k : ℕ} {a
       order-follows = held-follows (on .held) (omega (
         arith,
         held-numbers (on .held),
-        rooms.order-numbers after,
+        rooms.order-numbers after (on .held .free .fits),
         ap length (h .read .order),
-        on .held .free .nodesRoom,
+        on .held .free .later,
       ))
 
       module _ {area₂ nodes₂ : List ℕ} {y : Step} (t : Steps (λ d. d)

@@ -8,3 +8,4 @@ pub mod Later
 pub mod Groups
 pub mod Items
 pub mod Sources
+pub mod Tables

@@ -28,7 +28,8 @@ use Rattle.claims.specs.Count.Totals.{total-most}
 use Rattle.claims.specs.Count.Arguments.{argumentsCost, arguments-most}
 use Rattle.claims.specs.Count.Stars.{expanded-items}
 use Rattle.claims.specs.Count.Uses.{itemsArguments, retain-most, functions-total}
-use Rattle.claims.specs.Room.Nodes.{mostNodeNumbers, mostFromNumbers, filterNumbers, nodeRoom}
+use Rattle.claims.specs.Room.Nodes.{mostLaterNumbers, filterNumbers, nodeRoom}
+use Rattle.claims.specs.Room.From.{FromFits}
 use Rattle.claims.specs.Room.Select.{RoomAt, from-at, where-at}
 use Rattle.appends.specs.Scopes.Stars.{stars-functions}
 use Rattle.appends.specs.Room.Written.{written}
@@ -38,7 +39,7 @@ use Rattle.appends.specs.Room.Stages.{groupsWritten, where-cells, groups-cells}
 use Rattle.appends.specs.Room.Clauses.{room-where, room-groups, room-having, room-order, room-whole}
 use Rattle.appends.specs.Room.Records.{functions-length, numbers-where, numbers-items, numbers-having, numbers-order}
 use Rattle.appends.specs.Room.Records.{numbers-offset, numbers-limit, numbers-remap}
-use Rattle.plan.specs.Layout.{cellsEnd, mostPlanCells, aggregateHead, functionSize, filterSize, sourceHead, itemSize, keySize, rowsSize, nodesSize}
+use Rattle.plan.specs.Layout.{cellsEnd, mostPlanCells, aggregateHead, functionSize, filterSize, sourceHead, itemSize, keySize, rowsSize}
 use Rattle.plan.specs.Cells.{Room}
 use Rattle.build_select.specs.Sizes.{later-sizes, functions-sizes, expanded-sizes, expanded-none}
 use Rattle.build_select.specs.History.{AfterFrom, AfterWhere, AfterGroups, AfterProjection, AfterHaving, AfterOrder}
@@ -69,8 +70,8 @@ module _ {c : Catalog} {q : Select} where
     pub where-room : {area : List ℕ} → leastArea ≤ length area → Room (cellCount (f .node)) (3 * clauseSize (q .filter)) area
     where-room l = clause-room (clauseSize (q .filter)) (omega (arith, room-where c q (h .few) f (h .is))) filter-few l
 
-    pub where-numbers : nodeRoom (f .node) + filterSize ≤ nodesSize
-    where-numbers = numbers-where c q (h .few) (h .limited) f (h .is)
+    pub where-numbers : {most : ℕ} → FromFits (q .from) most → nodeRoom (f .node) + filterSize ≤ most + mostLaterNumbers
+    where-numbers fits = numbers-where c q (h .few) (h .limited) fits f (h .is)
 
   -- GROUPS
   module _ {is′ : List Item} {w : Stage} (h : AfterWhere c q is′ w) where
@@ -103,10 +104,10 @@ module _ {c : Catalog} {q : Select} where
       functions-length q (f .node) is′ (h .items),
     )
 
-    pub groups-numbers : nodeRoom (w .node) + aggregateHead + length (q .group)
-        + functionSize * length (functionsOf (q .items) (laterOf q)) ≤ nodesSize
-    groups-numbers =
-        let r = ensured (buildFromClause c (q .from)) _ (from-at c (q .from) (h .past .limited .from)) f (h .past .is) in
+    pub groups-numbers : {most : ℕ} → FromFits (q .from) most → nodeRoom (w .node) + aggregateHead + length (q .group)
+        + functionSize * length (functionsOf (q .items) (laterOf q)) ≤ most + mostLaterNumbers
+    groups-numbers fits =
+        let r = ensured (buildFromClause c (q .from)) _ (from-at c (q .from) fits) f (h .past .is) in
         let s = ensured (buildWhere f (q .filter)) _ (where-at f r (q .filter)) w (h .is) in
         omega (arith, s .nodes, h .past .limited .group, functions-few)
 
@@ -196,10 +197,11 @@ module _ {c : Catalog} {q : Select} where
     unfolding selectSize
     later-few = omega (arith, h .past .past .few, later-sizes q)
 
-    pub items-numbers : nodeRoom (a .node) + sourceHead + itemSize * mostColumns ≤ nodesSize
-    items-numbers = omega (
+    pub items-numbers : {most : ℕ} → FromFits (q .from) most
+        → nodeRoom (a .node) + sourceHead + itemSize * mostColumns ≤ most + mostLaterNumbers
+    items-numbers fits = omega (
       arith,
-      numbers-items c q (h .past .past .few) (h .past .past .limited) (h .past .from)
+      numbers-items c q (h .past .past .few) (h .past .past .limited) fits (h .past .from)
           (h .past .past .is) is′ (h .past .items) w (h .past .is) a (h .is),
     )
 
@@ -219,8 +221,8 @@ module _ {c : Catalog} {q : Select} where
         ))
         (omega (arith, g .past .past .few)) l
 
-    pub having-numbers : nodeRoom (p .node) + filterSize ≤ nodesSize
-    having-numbers = numbers-having c q (g .past .past .few) (g .past .past .limited) (g .past .from) (g .past .past .is)
+    pub having-numbers : {most : ℕ} → FromFits (q .from) most → nodeRoom (p .node) + filterSize ≤ most + mostLaterNumbers
+    having-numbers fits = numbers-having c q (g .past .past .few) (g .past .past .limited) fits (g .past .from) (g .past .past .is)
         (h .items) (g .past .items) (g .before) (g .past .is) (h .before) (g .is) p (h .is)
 
   -- ORDER
@@ -238,10 +240,11 @@ module _ {c : Catalog} {q : Select} where
         ))
         (omega (arith, e .past .past .past .few)) l
 
-    pub order-numbers : nodeRoom d + sourceHead + keySize * length (q .order) ≤ nodesSize
-    order-numbers = omega (
+    pub order-numbers : {most : ℕ} → FromFits (q .from) most
+        → nodeRoom d + sourceHead + keySize * length (q .order) ≤ most + mostLaterNumbers
+    order-numbers fits = omega (
       arith,
-      numbers-order c q (e .past .past .past .few) (e .past .past .past .limited)
+      numbers-order c q (e .past .past .past .few) (e .past .past .past .limited) fits
           (e .past .past .from) (e .past .past .past .is) (e .items) (e .past .past .items) (e .past .before)
           (e .past .past .is) (e .before) (e .past .is) p (e .is) d (h .is),
     )
@@ -259,8 +262,8 @@ module _ {c : Catalog} {q : Select} where
         (at .past .past .items) (at .past .before) (at .past .past .is) (at .before) (at .past .is) p (at .is) (h .before)
         (having .is) o (h .is)
 
-    pub offset-numbers : nodeRoom o + rowsSize ≤ nodesSize
-    offset-numbers = numbers-offset c q (at .past .past .past .few) (at .past .past .past .limited) (at .past .past .from)
+    pub offset-numbers : {most : ℕ} → FromFits (q .from) most → nodeRoom o + rowsSize ≤ most + mostLaterNumbers
+    offset-numbers fits = numbers-offset c q (at .past .past .past .few) (at .past .past .past .limited) fits (at .past .past .from)
         (at .past .past .past .is) (at .items) (at .past .past .items) (at .past .before) (at .past .past .is) (at .before)
         (at .past .is) p (at .is) (h .before) (having .is) o (h .is)
 
@@ -269,8 +272,8 @@ module _ {c : Catalog} {q : Select} where
       offset-cells = ensured (buildRows invalidOffset (λ k t. P.offset t k) o (q .offset)) _
           (rows-cells invalidOffset (λ k t. P.offset t k) (λ k t. unfold cellCount expressions in refl) o (q .offset)) n i
 
-      pub limit-numbers : nodeRoom n + rowsSize ≤ nodesSize
-      limit-numbers = numbers-limit c q (at .past .past .past .few) (at .past .past .past .limited) (at .past .past .from)
+      pub limit-numbers : {most : ℕ} → FromFits (q .from) most → nodeRoom n + rowsSize ≤ most + mostLaterNumbers
+      limit-numbers fits = numbers-limit c q (at .past .past .past .few) (at .past .past .past .limited) fits (at .past .past .from)
           (at .past .past .past .is) (at .items) (at .past .past .items) (at .past .before) (at .past .past .is)
           (at .before) (at .past .is) p (at .is) (h .before) (having .is) o (h .is) n i
 
@@ -284,10 +287,11 @@ module _ {c : Catalog} {q : Select} where
               (rows-cells invalidLimit (λ k t. P.limit t k) (λ k t. unfold cellCount expressions in refl) n (q .limit)) m j,
         )
 
-        pub remap-numbers : nodeRoom m + sourceHead + width (p .scope) ≤ nodesSize
-        remap-numbers = omega (
+        pub remap-numbers : {most : ℕ} → FromFits (q .from) most
+            → nodeRoom m + sourceHead + width (p .scope) ≤ most + mostLaterNumbers
+        remap-numbers fits = omega (
           arith,
-          numbers-remap c q (at .past .past .past .few) (at .past .past .past .limited)
+          numbers-remap c q (at .past .past .past .few) (at .past .past .past .limited) fits
               (at .past .past .from) (at .past .past .past .is) (at .items) (at .past .past .items) (at .past .before)
               (at .past .past .is) (at .before) (at .past .is) p (at .is) (h .before) (having .is) o (h .is) n i m j,
         )

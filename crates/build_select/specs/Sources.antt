@@ -9,6 +9,7 @@ use Rattle.rules.specs.Ast.{Select}
 use Rattle.rules.specs.Ast as Ast
 use Rattle.rules.specs.BuildSelect.{buildSelect}
 use Rattle.claims.specs.Within.{TextsWithin, select-few, select-counts, select-parts}
+use Rattle.claims.specs.Room.From.{FromFits}
 use Rattle.appends.specs.From.Laid.{stageOf}
 use Rattle.appends.specs.Select.Stages as stages
 use Rattle.appends.specs.Select.Stages.{selectItems}
@@ -25,8 +26,7 @@ use Rattle.plan.specs.declared.cells.Written.the-variants as W
 use Rattle.build_from.specs.Clause.{ClauseRoom, clause-room, ClauseBuilds}
 use Rattle.build_from.specs.declared.Source.{Source}
 use Rattle.build_statement.specs.Plans.{Plans}
-use Rattle.build_statement.specs.Kinds.{Free}
-use Rattle.build_select.specs.Held.{plans-refused, plans-after}
+use Rattle.build_select.specs.Held.{SelectRoom, room-kept, plans-refused, plans-after}
 use Rattle.build_select.specs.States.{FromState}
 
 -- the numbers stand for a catalog and a SELECT that were read from the texts c and q, whose sections stay as they are when
@@ -35,7 +35,7 @@ pub record SelectReady (c q : Bytes) (tables cells froms parts area nodes : List
   pub within : TextsWithin c q (catalogAt c q tables) (Ast.select (selectAt c q cells froms parts))
   pub table : length cells ≡ tableSize
   pub stay : SectionsStay q cells parts
-  pub free : Free area nodes
+  pub free : SelectRoom (selectAt c q cells froms parts) area nodes
 
 module _ {c q : Bytes} {tables cells froms parts area nodes : List ℕ}
     (h : SelectReady c q tables cells froms parts area nodes) {rows : ℕ} (hr : rows ≡ fromRows parts) where
@@ -46,8 +46,11 @@ module _ {c q : Bytes} {tables cells froms parts area nodes : List ℕ}
   unfolding selectAt selectOf
   from-is = rw hr
 
+  from-fits : FromFits (d .from) (length nodes)
+  from-fits = record { row = omega (arith, h .free .fits .row, h .free .later); tables = omega (arith, h .free .fits .tables, h .free .later) }
+
   pub source-room : ClauseRoom c q tables (fromsAt c q cells froms rows) area nodes
-  source-room = clause-room d (h .within) from-is (h .free .areaRoom) (h .free .nodesRoom)
+  source-room = clause-room d (h .within) from-is (h .free .areaRoom) from-fits (h .free .most)
 
   module _ {area₁ nodes₁ : List ℕ} {x : Source}
       (b : ClauseBuilds c q tables cells (fromsAt c q cells froms rows) area nodes area₁ nodes₁ x) where
@@ -77,10 +80,7 @@ module _ {c q : Bytes} {tables cells froms parts area nodes : List ℕ}
               area₀ = area;
               nodes₀ = nodes;
               standing = a .standing;
-              free = record {
-                areaRoom = omega (arith, b .kept, h .free .areaRoom);
-                nodesRoom = b .kept-nodes ∙ h .free .nodesRoom;
-              };
+              free = room-kept (h .free) (b .kept) (b .kept-nodes);
             };
           }
 

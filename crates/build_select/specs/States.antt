@@ -93,7 +93,7 @@ pub record FromState (c q : Bytes) (cells parts : List ℕ) (scope : Scope) (n m
   pub within : SelectWithin c q (selectAt c q cells froms parts)
   pub table : length cells ≡ tableSize
   pub stay : SectionsStay q cells parts
-  pub held : Held (stage .node) n m k area nodes
+  pub held : Held (selectAt c q cells froms parts) (stage .node) n m k area nodes
 
 -- the items, by the numbers items
 pub record ItemsState (c q : Bytes) (cells parts items : List ℕ) (scope : Scope) (n m k : ℕ) (area nodes : List ℕ)
@@ -107,7 +107,7 @@ pub record ItemsState (c q : Bytes) (cells parts items : List ℕ) (scope : Scop
   pub scoped : Scoped c q cells (stage .scope) scope
   pub plain : Plain scope
   pub within : SelectWithin c q select
-  pub held : Held (stage .node) n m k area nodes
+  pub held : Held select (stage .node) n m k area nodes
 
 -- WHERE: the numbers items stand for the SELECT's items
 pub record WhereState (c q : Bytes) (cells parts items : List ℕ) (scope : Scope) (n m k : ℕ) (area nodes : List ℕ)
@@ -120,7 +120,7 @@ pub record WhereState (c q : Bytes) (cells parts items : List ℕ) (scope : Scop
   pub scoped : Scoped c q cells (stage .scope) scope
   pub plain : Plain scope
   pub within : SelectWithin c q select
-  pub held : Held (stage .node) n m k area nodes
+  pub held : Held select (stage .node) n m k area nodes
 
 -- the projection
 pub record ProjectionState (c q : Bytes) (cells parts : List ℕ) (scope : Scope) (n m k : ℕ) (area nodes : List ℕ)
@@ -131,7 +131,7 @@ pub record ProjectionState (c q : Bytes) (cells parts : List ℕ) (scope : Scope
   pub past : AfterProjection catalog select stage
   pub read : Read c q cells parts select
   pub scoped : Scoped c q cells (stage .scope) scope
-  pub held : Held (stage .node) n m k area nodes
+  pub held : Held select (stage .node) n m k area nodes
 
 -- ORDER, over w columns of which the last h are hidden
 pub record OrderState (c q : Bytes) (cells parts : List ℕ) (w h n m k : ℕ) (area nodes : List ℕ) : Type 0 where
@@ -145,7 +145,7 @@ pub record OrderState (c q : Bytes) (cells parts : List ℕ) (w h n m k : ℕ) (
   pub scoped : Scoped c q cells (stage .scope) scope
   pub width : scope .width ≡ w
   pub hidden : scope .hidden ≡ h
-  pub held : Held node n m k area nodes
+  pub held : Held select node n m k area nodes
 
 -- OFFSET
 pub record OffsetState (c q : Bytes) (cells parts : List ℕ) (w h n m k : ℕ) (area nodes : List ℕ) : Type 0 where
@@ -161,7 +161,7 @@ pub record OffsetState (c q : Bytes) (cells parts : List ℕ) (w h n m k : ℕ) 
   pub scoped : Scoped c q cells (stage .scope) scope
   pub width : scope .width ≡ w
   pub hidden : scope .hidden ≡ h
-  pub held : Held node n m k area nodes
+  pub held : Held select node n m k area nodes
 
 -- LIMIT
 pub record LimitState (w h n m k : ℕ) (area nodes : List ℕ) : Type 0 where
@@ -180,4 +180,4 @@ pub record LimitState (w h n m k : ℕ) (area nodes : List ℕ) : Type 0 where
   pub scoped : Scoped (texts .0) (texts .1) cells (stage .scope) scope
   pub width : scope .width ≡ w
   pub hidden : scope .hidden ≡ h
-  pub held : Held node n m k area nodes
+  pub held : Held select node n m k area nodes

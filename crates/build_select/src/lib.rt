@@ -15,6 +15,9 @@ use items::select_items;
 use plan::cells::Written;
 use statement::access::from_rows;
 
+// Numbers that are enough for the nodes of a SELECT over at most one table.
+pub const ONE_TABLE_SIZE: usize = 1702;
+
 // FROM, and all that follows.
 pub fn build_select(
     catalog: &[u8],

@@ -15,7 +15,6 @@ ghost use Rattle.planner.specs.Outcomes.{builtOf, Answers, Refused};
 ghost use Rattle.planner.specs.Kinds.{StatementReady};
 use building::build;
 use numbers::refusals::SHORT_AREA;
-use plan::NODES_SIZE;
 use plan::cells::Written;
 use plan::finish::LAYOUT;
 use plan::finish::clear;
@@ -71,17 +70,7 @@ fn plan_read(
         (statementAt (now (catalog .entry)) (now (statement .entry)) (now (cells .entry)) (now (froms .entry)) (now (parts .entry)))))
         r (now (area .exit)) ⌝ }
 {
-    let mut nodes = [0u32; NODES_SIZE];
-    let built = build(
-        catalog,
-        statement,
-        tables,
-        cells,
-        froms,
-        parts,
-        area,
-        &mut nodes,
-    );
+    let built = build(catalog, statement, tables, cells, froms, parts, area);
     match built {
         Written::Done(n) => Outcome {
             number: 0,

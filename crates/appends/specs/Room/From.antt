@@ -21,7 +21,7 @@ use Rattle.rules.specs.Sizes.{total, optionSize, fromSize}
 use Rattle.claims.specs.Answers.{Ensures, then, ensured, weaken}
 use Rattle.claims.specs.Building.FromClause.{SidesBuilt, FromSteps, from-by, clause-by}
 use Rattle.claims.specs.Reading.Limits.{fromTables}
-use Rattle.claims.specs.Room.Nodes.{nodeRoom}
+use Rattle.claims.specs.Room.Nodes.{nodeRoom, tableRoom, joinRoom}
 use Rattle.claims.specs.Room.From.{room-steps}
 use Rattle.appends.specs.Lists.Joined.{count-append}
 use Rattle.appends.specs.From.Laid.{sourceOf, SourceLaid}
@@ -109,5 +109,5 @@ item-next c f s l i k cs rs j m h = omega (
 )
 
 -- NUMBERS of an accepted item's nodes
-pub item-numbers : (c : Catalog) (f : From) → Ensures (buildFrom c f) (λ r. nodeRoom (r .node) + 265 ≤ 272 * fromTables f)
+pub item-numbers : (c : Catalog) (f : From) → Ensures (buildFrom c f) (λ r. nodeRoom (r .node) + joinRoom ≤ tableRoom * fromTables f)
 item-numbers c f = from-by (room-steps c) f

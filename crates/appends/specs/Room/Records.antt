@@ -1,5 +1,5 @@
 -- Room for the node records of a SELECT, clause by clause: the numbers of the nodes before, and all that the next record
--- may take, are within the most numbers of nodes, whether or not that clause is accepted.
+-- may take, are within what is enough for its FROM and the most of the others, whether or not that clause is accepted.
 use Prim.Native.Nat.{ℕ, _+_, _*_, _≤_}
 use native.Mathlib.Omega.{arith}
 use mathlib.Core.Path.{_≡_, ap, _∙_}
@@ -24,8 +24,9 @@ use Rattle.claims.specs.Count.Totals.{total-append, total-map}
 use Rattle.claims.specs.Count.Stars.{expanded-items}
 use Rattle.claims.specs.Count.Uses.{later-total, given-size}
 use Rattle.claims.specs.Reading.Limits.{LimitedSelect}
-use Rattle.claims.specs.Room.Nodes.{mostNodeNumbers, mostFromNumbers, filterNumbers, mostGroupNumbers, mostItemNumbers}
+use Rattle.claims.specs.Room.Nodes.{mostLaterNumbers, filterNumbers, mostGroupNumbers, mostItemNumbers}
 use Rattle.claims.specs.Room.Nodes.{mostKeyNumbers, rowCountNumbers, nodeRoom}
+use Rattle.claims.specs.Room.From.{FromFits}
 use Rattle.claims.specs.Room.Select.{RoomAt, from-at, where-at, groups-at, projection-at, width-at, having-room}
 use Rattle.claims.specs.Room.Select.{order-room, rows-room, offset-room, limit-room}
 use Rattle.appends.specs.Scopes.Stars.{collectEach-size, stars-functions}
@@ -61,34 +62,35 @@ functions-length q n is′ e =
     )
 
 -- SELECT
-module _ (c : Catalog) (q : Select) (few : selectSize q ≤ mostCells) (limited : LimitedSelect q) where
+module _ (c : Catalog) (q : Select) (few : selectSize q ≤ mostCells) (limited : LimitedSelect q) {most : ℕ}
+    (fits : FromFits (q .from) most) where
   module _ (f : Stage) (ef : buildFromClause c (q .from) ≡ ok f) where
-    at-from : RoomAt mostFromNumbers f
-    at-from = ensured (buildFromClause c (q .from)) _ (from-at c (q .from) (limited .from)) f ef
+    at-from : RoomAt most f
+    at-from = ensured (buildFromClause c (q .from)) _ (from-at c (q .from) fits) f ef
 
-    pub numbers-where : nodeRoom (f .node) + filterNumbers ≤ mostNodeNumbers
+    pub numbers-where : nodeRoom (f .node) + filterNumbers ≤ most + mostLaterNumbers
     numbers-where = omega (arith, at-from .nodes)
 
     module _ (is′ : List Item) (ei : buildItems q (f .node) ≡ ok is′) (w : Stage)
         (ew : buildWhere f (q .filter) ≡ ok w) where
-      at-where : RoomAt (mostFromNumbers + filterNumbers) w
+      at-where : RoomAt (most + filterNumbers) w
       at-where = ensured (buildWhere f (q .filter)) _ (where-at f at-from (q .filter)) w ew
 
       module _ (a : Stage) (ea : buildGroups w (q .group) (functionsOf is′ (laterOf q)) ≡ ok a) where
-        at-groups : RoomAt (mostFromNumbers + filterNumbers + mostGroupNumbers) a
+        at-groups : RoomAt (most + filterNumbers + mostGroupNumbers) a
         at-groups = ensured (buildGroups w (q .group) (functionsOf is′ (laterOf q))) _
             (groups-at w at-where (q .group) (functionsOf is′ (laterOf q))) a ea
 
-        pub numbers-items : nodeRoom (a .node) + itemRecord mostColumns ≤ mostNodeNumbers
+        pub numbers-items : nodeRoom (a .node) + itemRecord mostColumns ≤ most + mostLaterNumbers
         numbers-items = omega (arith, at-groups .nodes)
 
         module _ (p : Stage) (ep : buildProjection a is′ (laterOf q) ≡ ok p) where
-          at-items : RoomAt (mostFromNumbers + filterNumbers + mostGroupNumbers + mostItemNumbers) p
+          at-items : RoomAt (most + filterNumbers + mostGroupNumbers + mostItemNumbers) p
           at-items = ensured (buildProjection a is′ (laterOf q)) _
               (projection-at a at-groups is′ (laterOf q)
               (ensured (buildItems q (f .node)) _ (expanded-items q (f .node)) is′ ei .1)) p ep
 
-          pub numbers-having : nodeRoom (p .node) + filterNumbers ≤ mostNodeNumbers
+          pub numbers-having : nodeRoom (p .node) + filterNumbers ≤ most + mostLaterNumbers
           numbers-having = omega (arith, at-items .nodes)
 
           module _ (h : Node Built) (eh : buildHaving (p .node) (q .having) (p .scope) ≡ ok h) where
@@ -96,7 +98,7 @@ module _ (c : Catalog) (q : Select) (few : selectSize q ≤ mostCells) (limited 
             having-nodes = ensured (buildHaving (p .node) (q .having) (p .scope)) _
                 (having-room (p .node) (q .having) (p .scope)) h eh
 
-            pub numbers-order : nodeRoom h + keyRecord (length (q .order)) ≤ mostNodeNumbers
+            pub numbers-order : nodeRoom h + keyRecord (length (q .order)) ≤ most + mostLaterNumbers
             numbers-order = omega (arith, at-items .nodes, having-nodes, limited .order)
 
             module _ (o : Node Built) (eo : buildOrder h (q .order) (p .scope) ≡ ok o) where
@@ -104,7 +106,7 @@ module _ (c : Catalog) (q : Select) (few : selectSize q ≤ mostCells) (limited 
               order-nodes = ensured (buildOrder h (q .order) (p .scope)) _
                   (order-room h (q .order) (p .scope) (limited .order)) o eo
 
-              pub numbers-offset : nodeRoom o + rowCountNumbers ≤ mostNodeNumbers
+              pub numbers-offset : nodeRoom o + rowCountNumbers ≤ most + mostLaterNumbers
               numbers-offset = omega (arith, at-items .nodes, having-nodes, order-nodes)
 
               module _ (n : Node Built) (en : buildRows invalidOffset (λ k t. P.offset t k) o (q .offset) ≡ ok n) where
@@ -112,7 +114,7 @@ module _ (c : Catalog) (q : Select) (few : selectSize q ≤ mostCells) (limited 
                 offset-nodes = ensured (buildRows invalidOffset (λ k t. P.offset t k) o (q .offset)) _
                     (rows-room invalidOffset (λ k t. P.offset t k) offset-room o (q .offset)) n en
 
-                pub numbers-limit : nodeRoom n + rowCountNumbers ≤ mostNodeNumbers
+                pub numbers-limit : nodeRoom n + rowCountNumbers ≤ most + mostLaterNumbers
                 numbers-limit = omega (arith, at-items .nodes, having-nodes, order-nodes, offset-nodes)
 
                 module _ (m : Node Built) (em : buildRows invalidLimit (λ k t. P.limit t k) n (q .limit) ≡ ok m) where
@@ -120,7 +122,7 @@ module _ (c : Catalog) (q : Select) (few : selectSize q ≤ mostCells) (limited 
                   limit-nodes = ensured (buildRows invalidLimit (λ k t. P.limit t k) n (q .limit)) _
                       (rows-room invalidLimit (λ k t. P.limit t k) limit-room n (q .limit)) m em
 
-                  pub numbers-remap : nodeRoom m + remapRecord (width (p .scope)) ≤ mostNodeNumbers
+                  pub numbers-remap : nodeRoom m + remapRecord (width (p .scope)) ≤ most + mostLaterNumbers
                   numbers-remap = omega (
                     arith,
                     at-items .nodes,

@@ -1,3 +1,4 @@
+-- `build_select`: FROM is refused, or all that follows is built over its stage.
 use Rattle.build_select.specs.Sources.{source-room, source-stop, source-state, source-plans}
 use borrow.Author.Needs.{needs}
 use Rattle.build_select.proofs.build_select.Statement.{statement}
@@ -8,47 +9,36 @@ use Rattle.build_from.proofs.clause.build_from_clause.Reads as build-from-claus
 use Rattle.build_select.proofs.items.select_items.Reads as select-items-reads
 use Rattle.statement.proofs.access.from_rows.Reads as from-rows-reads
 
--- src/lib.rt:36:9
 from-rows-requires : tie.Need-from-rows-requires
 from-rows-requires c κs = search needs
 
--- src/lib.rt:37:9
 build-from-clause-requires : tie.Need-build-from-clause-requires
 build-from-clause-requires c κs = source-room (c .before .before .before .before .before .before .before .before .before .before .before .before .pre) (c .before .before .before .from-rows .ensures)
 
--- src/lib.rt:39:9
 same-length : tie.Need-same-length
 same-length c = search needs
 
--- src/lib.rt:39:9
 same-length-2 : tie.Need-same-length-2
 same-length-2 c = search needs
 
--- src/lib.rt:39:9
 same-length-3 : tie.Need-same-length-3
 same-length-3 c = search needs
 
--- src/lib.rt:39:9
 returns : tie.Need-returns
 returns c = source-stop (c .before .before .before .before .before .before .before .before .before .before .before .before .before .before .before .before .before .before .before .pre) (c .before .before .before .before .before .before .before .before .before .before .from-rows .ensures) (c .before .before .before .before .before .before .build-from-clause .ensures) (c .if1 .taken)
 
--- src/lib.rt:41:5
 select-items-requires : tie.Need-select-items-requires
 select-items-requires c κs = source-state (c .before .before .before .before .before .before .before .before .before .before .before .before .before .before .before .before .before .before .before .before .before .before .pre) (c .before .before .before .before .before .before .before .before .before .before .before .before .before .from-rows .ensures) (c .before .before .before .before .before .before .before .before .before .build-from-clause .ensures) (c .before .before .before .if1 .left)
 
--- src/lib.rt:19:1
 same-length-4 : tie.Need-same-length-4
 same-length-4 c = search needs
 
--- src/lib.rt:19:1
 same-length-5 : tie.Need-same-length-5
 same-length-5 c = search needs
 
--- src/lib.rt:19:1
 same-length-6 : tie.Need-same-length-6
 same-length-6 c = search needs
 
--- src/lib.rt:19:1
 returns-2 : tie.Need-returns-2
 returns-2 c = source-plans (c .before .before .before .before .before .before .before .before .before .before .before .before .before .before .before .before .before .before .before .before .before .before .before .before .before .before .before .before .before .pre) (c .before .before .before .before .before .before .before .before .before .before .before .before .before .before .before .before .before .before .before .before .from-rows .ensures) (c .before .before .before .before .before .before .before .before .before .before .before .before .before .before .before .before .build-from-clause .ensures) (c .before .before .before .before .before .before .before .before .before .before .if1 .left) (c .before .before .before .before .before .before .select-items .ensures (source-state (c .before .before .before .before .before .before .before .before .before .before .before .before .before .before .before .before .before .before .before .before .before .before .before .before .before .before .before .before .before .pre) (c .before .before .before .before .before .before .before .before .before .before .before .before .before .before .before .before .before .before .before .before .from-rows .ensures) (c .before .before .before .before .before .before .before .before .before .before .before .before .before .before .before .before .build-from-clause .ensures) (c .before .before .before .before .before .before .before .before .before .before .if1 .left)))
 

@@ -53,6 +53,21 @@ rowCountNumbers = 5
 abbrev pub mostRemapNumbers : ℕ
 mostRemapNumbers = 259
 
+-- those of all nodes behind FROM's
+abbrev pub mostLaterNumbers : ℕ
+mostLaterNumbers = filterNumbers + mostGroupNumbers + mostItemNumbers + filterNumbers + mostKeyNumbers + rowCountNumbers
+    + rowCountNumbers + mostRemapNumbers
+
+-- those of one empty row; of each table of FROM, and of a join and a remap, which the first table needs not
+abbrev pub emptyRowRoom : ℕ
+emptyRowRoom = 3
+
+abbrev pub tableRoom : ℕ
+tableRoom = 272
+
+abbrev pub joinRoom : ℕ
+joinRoom = 265
+
 -- NODES
 -- the numbers of given rows: a length and its cells for each
 unfoldable pub rowsRoom : {E : Type 0} → List (List E) → ℕ

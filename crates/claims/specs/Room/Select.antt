@@ -32,7 +32,7 @@ use Rattle.claims.specs.Reading.Limits.{fromTables}
 use Rattle.claims.specs.Room.Nodes.{mostNodeNumbers, mostFromNumbers, filterNumbers, mostGroupNumbers}
 use Rattle.claims.specs.Room.Nodes.{mostItemNumbers, mostKeyNumbers, rowCountNumbers, mostRemapNumbers}
 use Rattle.claims.specs.Room.Nodes.{nodeRoom, planNodeRoom, ownRoom}
-use Rattle.claims.specs.Room.From.{fromClause-room}
+use Rattle.claims.specs.Room.From.{FromFits, from-fits, fromClause-room}
 use Rattle.claims.specs.Widths.Bounded.{BoundedStage, stage-wide}
 use Rattle.claims.specs.Widths.Scopes.{wide-width}
 use Rattle.claims.specs.Widths.FromStages.{from-stage, where-stage, group-stage}
@@ -136,14 +136,13 @@ pub record RoomAt (n : ℕ) (f : Stage) : Type 0 where
   pub narrow : columnCount (f .node) ≤ mostColumns
   pub bounded : BoundedStage f
 
-pub from-at : (c : Catalog) (fs : List From) → total fromTables fs ≤ mostFromTables
-    → Ensures (buildFromClause c fs) (RoomAt mostFromNumbers)
-from-at c fs tables = weaken (buildFromClause c fs) _ _
+pub from-at : (c : Catalog) (fs : List From) {n : ℕ} → FromFits fs n → Ensures (buildFromClause c fs) (RoomAt n)
+from-at c fs fits = weaken (buildFromClause c fs) _ _
     (λ f h. record {
       nodes = h .0 .0;
       narrow = omega (arith, stage-width f (h .1), h .0 .1);
       bounded = h .1;
-    }) (both (buildFromClause c fs) _ _ (fromClause-room c fs tables) (from-stage c fs))
+    }) (both (buildFromClause c fs) _ _ (fromClause-room c fs fits) (from-stage c fs))
 
 module _ {n : ℕ} (f : Stage) (h : RoomAt n f) where
   pub where-at : (c : Option Clause) → Ensures (buildWhere f c) (RoomAt (n + filterNumbers))
@@ -179,7 +178,7 @@ pub select-room : (c : Catalog) (q : Select) → total fromTables (q .from) ≤ 
     → Ensures (buildSelect c q) (λ p. planNodeRoom p + ownRoom p ≤ mostNodeNumbers)
 unfolding buildSelect planNodeRoom ownRoom
 select-room c q tables keys =
-    then (buildFromClause c (q .from)) _ _ _ (from-at c (q .from) tables) λ f hf.
+    then (buildFromClause c (q .from)) _ _ _ (from-at c (q .from) (from-fits (q .from) tables)) λ f hf.
     then (buildItems q (f .node)) _ _ _ (expanded-items q (f .node)) λ is′ hi.
     then (buildWhere f (q .filter)) _ _ _ (where-at f hf (q .filter)) λ w hw.
     then (buildGroups w (q .group) _) _ _ _ (groups-at w hw (q .group) _) λ a ha.

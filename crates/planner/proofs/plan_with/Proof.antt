@@ -1,3 +1,4 @@
+-- `plan_with`: a text is refused over a cleared area, or the statement that was read is planned.
 use Rattle.planner.specs.Reads.{statement-ready, statement-answer, text-refused}
 use borrow.Author.Needs.{needs}
 use Rattle.planner.proofs.plan_with.Statement.{statement}
@@ -8,47 +9,36 @@ use Rattle.planner.proofs.plan_read.Reads as plan-read-reads
 use Rattle.planner.proofs.refuse.Reads as refuse-reads
 use Rattle.reader.proofs.read_texts.Reads as read-texts-reads
 
--- src/lib.rt:98:9
 read-texts-requires : tie.Need-read-texts-requires
 read-texts-requires c κs = search needs
 
--- src/lib.rt:107:24
 enum-known-texts : tie.Need-enum-known-texts
 enum-known-texts c = search needs
 
--- src/lib.rt:107:36
 refuse-requires : tie.Need-refuse-requires
 refuse-requires c κs = search needs
 
--- src/lib.rt:109:33
 enum-told : tie.Need-enum-told
 enum-told c = search needs
 
--- src/lib.rt:108:33
 plan-read-requires : tie.Need-plan-read-requires
 plan-read-requires c κs = (statement-ready (c .before .before .before .before .before .before .before .before .before .read-texts .ensures) _ _ _ (c .before .before .before .before .before .enum-told .given .1), c .before .before .before .before .before .before .before .before .before .before .before .before .before .before .before .before .before .before .pre .1)
 
--- src/lib.rt:89:1
 same-length : tie.Need-same-length
 same-length c = search needs
 
--- src/lib.rt:89:1
 same-length-2 : tie.Need-same-length-2
 same-length-2 c = search needs
 
--- src/lib.rt:89:1
 returns : tie.Need-returns
 returns c = text-refused (c .before .before .before .before .before .before .before .before .before .read-texts .ensures) _ _ _ _ (c .before .before .before .before .before .texts .given .1) (c .before .before .before .before .before .before .before .before .before .before .before .before .before .before .before .before .before .before .pre .1) (c .before .before .refuse .ensures)
 
--- src/lib.rt:89:1
 same-length-3 : tie.Need-same-length-3
 same-length-3 c = search needs
 
--- src/lib.rt:89:1
 same-length-4 : tie.Need-same-length-4
 same-length-4 c = search needs
 
--- src/lib.rt:89:1
 returns-2 : tie.Need-returns-2
 returns-2 c = statement-answer (c .before .before .before .before .before .before .before .before .before .before .before .before .read-texts .ensures) _ _ _ _ (c .before .before .before .before .before .before .before .before .enum-told .given .1) (c .before .before .plan-read .ensures)
 

@@ -1,3 +1,4 @@
+-- `most_columns`: the lesser of n and the most columns.
 use native.Mathlib.Omega.{arith}
 use borrow.Author.Needs.{needs}
 use Rattle.scope.proofs.most_columns.Statement.{statement}

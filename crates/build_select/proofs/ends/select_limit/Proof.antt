@@ -1,3 +1,4 @@
+-- `ends::select_limit`: LIMIT is refused, or the last remap follows it.
 use Rattle.build_select.specs.Ends.{limit-follows, limit-stop, limit-on, limit-plans}
 use borrow.Author.Needs.{needs}
 use Rattle.build_select.proofs.ends.select_limit.Statement.{statement}
@@ -8,43 +9,33 @@ use Rattle.build_clauses.proofs.rows.build_limit.Reads as build-limit-reads
 use Rattle.build_select.proofs.ends.select_remap.Reads as select-remap-reads
 use Rattle.statement.proofs.access.clause_at.Reads as clause-at-reads
 
--- src/ends.rt:59:9
 clause-at-requires : tie.Need-clause-at-requires
 clause-at-requires c κs = search needs
 
--- src/ends.rt:60:9
 build-limit-requires : tie.Need-build-limit-requires
 build-limit-requires c κs = limit-follows (c .before .before .before .before .before .before .before .before .pre)
 
--- src/ends.rt:62:23
 enum-known-limited : tie.Need-enum-known-limited
 enum-known-limited c = search needs
 
--- src/ends.rt:63:20
 enum-known-limited-2 : tie.Need-enum-known-limited-2
 enum-known-limited-2 c = search needs
 
--- src/ends.rt:63:32
 select-remap-requires : tie.Need-select-remap-requires
 select-remap-requires c κs = limit-on (c .before .before .before .before .before .before .before .before .before .before .before .before .before .before .before .before .pre) (c .before .before .before .before .before .before .before .before .before .clause-at .ensures) (c .before .before .before .before .before .before .before .build-limit .ensures .is _) _ _ _ (c .before .before .before .limited2 .given .1)
 
--- src/ends.rt:41:1
 same-length : tie.Need-same-length
 same-length c = search needs
 
--- src/ends.rt:41:1
 returns : tie.Need-returns
 returns c = λ h. limit-stop h (c .before .before .before .before .before .before .before .clause-at .ensures) (c .before .before .before .before .before .build-limit .ensures .is _) _ _ (c .before .limited .given .1)
 
--- src/ends.rt:41:1
 same-length-2 : tie.Need-same-length-2
 same-length-2 c = search needs
 
--- src/ends.rt:41:1
 same-length-3 : tie.Need-same-length-3
 same-length-3 c = search needs
 
--- src/ends.rt:41:1
 returns-2 : tie.Need-returns-2
 returns-2 c = λ h. limit-plans h (c .before .before .before .before .before .before .before .before .before .before .before .before .before .before .clause-at .ensures) (c .before .before .before .before .before .before .before .before .before .before .before .before .build-limit .ensures .is _) _ _ _ (c .before .before .before .before .before .before .before .before .limited2 .given .1) (c .before .before .before .before .select-remap .ensures (limit-on h (c .before .before .before .before .before .before .before .before .before .before .before .before .before .before .clause-at .ensures) (c .before .before .before .before .before .before .before .before .before .before .before .before .build-limit .ensures .is _) _ _ _ (c .before .before .before .before .before .before .before .before .limited2 .given .1)))
 

@@ -1,3 +1,4 @@
+-- `ends::select_offset`: OFFSET is refused, or LIMIT follows it.
 use Rattle.build_select.specs.Ends.{offset-follows, offset-stop, offset-on, offset-plans}
 use borrow.Author.Needs.{needs}
 use Rattle.build_select.proofs.ends.select_offset.Statement.{statement}
@@ -8,43 +9,33 @@ use Rattle.build_clauses.proofs.rows.build_offset.Reads as build-offset-reads
 use Rattle.build_select.proofs.ends.select_limit.Reads as select-limit-reads
 use Rattle.statement.proofs.access.clause_at.Reads as clause-at-reads
 
--- src/ends.rt:86:9
 clause-at-requires : tie.Need-clause-at-requires
 clause-at-requires c κs = search needs
 
--- src/ends.rt:87:9
 build-offset-requires : tie.Need-build-offset-requires
 build-offset-requires c κs = offset-follows (c .before .before .before .before .before .before .before .before .pre)
 
--- src/ends.rt:89:23
 enum-known-skipped : tie.Need-enum-known-skipped
 enum-known-skipped c = search needs
 
--- src/ends.rt:90:20
 enum-known-skipped-2 : tie.Need-enum-known-skipped-2
 enum-known-skipped-2 c = search needs
 
--- src/ends.rt:90:32
 select-limit-requires : tie.Need-select-limit-requires
 select-limit-requires c κs = offset-on (c .before .before .before .before .before .before .before .before .before .before .before .before .before .before .before .before .pre) (c .before .before .before .before .before .before .before .before .before .clause-at .ensures) (c .before .before .before .before .before .before .before .build-offset .ensures .is _) _ _ _ (c .before .before .before .skipped2 .given .1)
 
--- src/ends.rt:68:1
 same-length : tie.Need-same-length
 same-length c = search needs
 
--- src/ends.rt:68:1
 returns : tie.Need-returns
 returns c = λ h. offset-stop h (c .before .before .before .before .before .before .before .clause-at .ensures) (c .before .before .before .before .before .build-offset .ensures .is _) _ _ (c .before .skipped .given .1)
 
--- src/ends.rt:68:1
 same-length-2 : tie.Need-same-length-2
 same-length-2 c = search needs
 
--- src/ends.rt:68:1
 same-length-3 : tie.Need-same-length-3
 same-length-3 c = search needs
 
--- src/ends.rt:68:1
 returns-2 : tie.Need-returns-2
 returns-2 c = λ h. offset-plans h (c .before .before .before .before .before .before .before .before .before .before .before .before .before .before .clause-at .ensures) (c .before .before .before .before .before .before .before .before .before .before .before .before .build-offset .ensures .is _) _ _ _ (c .before .before .before .before .before .before .before .before .skipped2 .given .1) (c .before .before .before .before .select-limit .ensures (offset-on h (c .before .before .before .before .before .before .before .before .before .before .before .before .before .before .clause-at .ensures) (c .before .before .before .before .before .before .before .before .before .before .before .before .build-offset .ensures .is _) _ _ _ (c .before .before .before .before .before .before .before .before .skipped2 .given .1)))
 

@@ -1,3 +1,4 @@
+-- `items::list_items`: the items over the columns in use.
 use Rattle.build_select.specs.Items.{built-as}
 use borrow.Author.Needs.{needs}
 use Rattle.build_select.proofs.items.list_items.Statement.{statement}
@@ -7,27 +8,21 @@ use Rattle.build_select.proofs.items.list_items.Lts as lts
 use Rattle.build_projection.proofs.items.build_items.Reads as build-items-reads
 use Rattle.scope.proofs.lookup.first.Reads as first-reads
 
--- src/items.rt:39:9
 first-requires : tie.Need-first-requires
 first-requires c κs = search needs
 
--- src/items.rt:40:9
 first-requires-2 : tie.Need-first-requires-2
 first-requires-2 c κs = search needs
 
--- src/items.rt:41:5
 build-items-requires : tie.Need-build-items-requires
 build-items-requires c κs = search needs
 
--- src/items.rt:26:1
 same-length : tie.Need-same-length
 same-length c = search needs
 
--- src/items.rt:26:1
 same-length-2 : tie.Need-same-length-2
 same-length-2 c = search needs
 
--- src/items.rt:26:1
 returns : tie.Need-returns
 returns c = built-as (c .before .before .before .before .before .before .before .before .first .ensures) (c .before .before .before .before .before .before .before .first2 .ensures) (c .before .before .before .before .build-items .ensures)
 

@@ -1,3 +1,4 @@
+-- `items::select_where`: WHERE is refused, or groups follow it.
 use Rattle.build_select.specs.Items.{where-room, where-follows, where-stop, where-on, where-goes}
 use borrow.Author.Needs.{needs}
 use Rattle.build_select.proofs.items.select_where.Statement.{statement}
@@ -9,51 +10,39 @@ use Rattle.build_select.proofs.groups.select_groups.Reads as select-gro
 use Rattle.scope.proofs.lookup.first.Reads as first-reads
 use Rattle.statement.proofs.access.clause_at.Reads as clause-at-reads
 
--- src/items.rt:68:9
 clause-at-requires : tie.Need-clause-at-requires
 clause-at-requires c κs = search needs
 
--- src/items.rt:69:9
 build-where-requires : tie.Need-build-where-requires
 build-where-requires c κs = (where-room (c .before .before .before .before .before .before .before .before .before .before .before .before .before .before .before .before .before .pre) (c .before .before .before .before .before .before .before .before .before .clause-at .ensures), where-follows (c .before .before .before .before .before .before .before .before .before .before .before .before .before .before .before .before .before .pre) (c .before .before .before .before .before .before .before .before .before .clause-at .ensures))
 
--- src/items.rt:86:23
 enum-known-filtered : tie.Need-enum-known-filtered
 enum-known-filtered c = search needs
 
--- src/items.rt:87:20
 enum-known-filtered-2 : tie.Need-enum-known-filtered-2
 enum-known-filtered-2 c = search needs
 
--- src/items.rt:88:17
 first-requires : tie.Need-first-requires
 first-requires c κs = search needs
 
--- src/items.rt:89:13
 select-groups-requires : tie.Need-select-groups-requires
 select-groups-requires c κs = where-on (c .before .before .before .before .before .before .before .before .before .before .before .before .before .before .before .before .before .before .before .before .before .before .before .before .before .before .before .before .pre) (c .before .before .before .before .before .before .before .before .before .before .before .before .before .before .before .before .before .before .before .before .clause-at .ensures) (c .before .before .before .before .before .before .before .before .before .before .build-where .ensures .is _) (c .before .before .before .before .filtered2 .given .1) (c .before .before .first .ensures)
 
--- src/items.rt:45:1
 same-length : tie.Need-same-length
 same-length c = search needs
 
--- src/items.rt:45:1
 same-length-2 : tie.Need-same-length-2
 same-length-2 c = search needs
 
--- src/items.rt:45:1
 returns : tie.Need-returns
 returns c = λ h. where-stop h (c .before .before .before .before .before .before .before .before .before .before .before .before .before .before .before .before .before .clause-at .ensures) (c .before .before .before .before .before .before .before .build-where .ensures .is _) _ _ (c .before .filtered .given .1)
 
--- src/items.rt:45:1
 same-length-3 : tie.Need-same-length-3
 same-length-3 c = search needs
 
--- src/items.rt:45:1
 same-length-4 : tie.Need-same-length-4
 same-length-4 c = search needs
 
--- src/items.rt:45:1
 returns-2 : tie.Need-returns-2
 returns-2 c = λ h. where-goes h (c .before .before .before .before .before .before .before .before .before .before .before .before .before .before .before .before .before .before .before .before .before .before .before .before .before .clause-at .ensures) (c .before .before .before .before .before .before .before .before .before .before .before .before .before .before .before .build-where .ensures .is _) (c .before .before .before .before .before .before .before .before .before .filtered2 .given .1) (c .before .before .before .before .before .before .before .first .ensures) (c .before .before .before .before .select-groups .ensures)
 

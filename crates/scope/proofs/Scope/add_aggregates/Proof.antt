@@ -1,3 +1,4 @@
+-- `Scope::add_aggregates`: each row so far has its label and its match; those are the child scope.
 use borrow.Author.Needs.{needs}
 use native.Mathlib.Omega.{arith}
 use Prim.Native.Nat.{_-_, _≤_, _<_}

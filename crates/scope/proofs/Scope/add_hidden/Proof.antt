@@ -1,3 +1,4 @@
+-- `Scope::add_hidden`: the column that is passed on stands behind the others, hidden.
 use mathlib.Core.Path.{refl, ap}
 use lib.ListN.{set}
 use Rattle.scope.specs.Hide.{hidden-added}

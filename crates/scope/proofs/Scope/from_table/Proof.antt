@@ -1,3 +1,4 @@
+-- `Scope::from_table`: the labels so far are those of the table's first columns.
 use native.Mathlib.Omega.{arith}
 use Prim.Native.Nat.{_-_, _≤_}
 use mathlib.Core.Path.{refl}

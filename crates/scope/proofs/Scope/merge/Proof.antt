@@ -1,3 +1,4 @@
+-- `Scope::merge`: the other scope's labels and tables so far stand behind the own ones.
 use native.Mathlib.Omega.{arith}
 use Prim.Native.Nat.{_+_, _-_, _≤_}
 use mathlib.Core.Path.{_≡_, refl, ap, _∙_}

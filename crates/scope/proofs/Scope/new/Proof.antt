@@ -1,3 +1,4 @@
+-- `Scope::new`: no columns and no tables.
 use Rattle.scope.specs.New.{new}
 use Rattle.scope.proofs.Scope.new.Statement.{statement}
 use Rattle.scope.proofs.Scope.new.Tie as tie

@@ -1,3 +1,4 @@
+-- `Scope::project`: the labels so far are the first of those given.
 use native.Mathlib.Omega.{arith}
 use Prim.Native.Nat.{_-_, _≤_}
 use mathlib.Core.Path.{_≡_, refl}

@@ -1,3 +1,4 @@
+-- `Scope::project_items`: each item so far has its label, and its match where no item before is equal.
 use borrow.Author.Needs.{needs}
 use native.Mathlib.Omega.{arith}
 use Prim.Native.Nat.{_-_, _≤_, _<_}

@@ -1,3 +1,4 @@
+-- `Scope::swap`: the second columns come first, then the first ones.
 use borrow.Author.Needs.{needs}
 use Prim.Native.Nat.{_-_, _≤_}
 use native.Mathlib.Omega.{arith}

@@ -1,3 +1,4 @@
+-- `expressions::label_found`: the label at the position that was found, or none.
 use mathlib.Core.Path.{ap}
 use Rattle.rules.specs.Refusals.{unknownQualifier, unknownColumn, ambiguousColumn, constantOnly, notAggregated}
 use Rattle.scope.specs.Lookup.{foundOf}

@@ -1,3 +1,4 @@
+-- `expressions::label_of`: a column name's label, and none for every other record.
 use mathlib.Core.Path.{refl}
 use Rattle.rules.specs.Views.{asColumn}
 use Rattle.ast.specs.Row.{treeOf}

@@ -1,3 +1,4 @@
+-- `hidden::hidden_target`: a shown column keeps its position, a hidden one is dropped.
 use Rattle.scope.specs.Targets.{target-shown, target-hidden}
 use borrow.Author.Needs.{needs}
 use Rattle.scope.proofs.hidden.hidden_target.Statement.{statement}

@@ -1,3 +1,4 @@
+-- `labels::behind`: a label with a table has a slot further on.
 use mathlib.Core.Path.{sym}
 use Rattle.scope.specs.Slots.{shifted-free, shifted-slot}
 use borrow.Author.Needs.{needs}

@@ -1,3 +1,4 @@
+-- `lookup::first_matches`: the first n matches, or all.
 use mathlib.Core.Path.{sym}
 use native.Mathlib.Omega.{arith}
 use lib.Seq.{take-all, length-take-le}

@@ -1,3 +1,4 @@
+-- `lookup::has_table`: no table so far has the name.
 use mathlib.Core.Bool.{true}
 use Prim.Native.Nat.{_-_}
 use mathlib.Core.Path.{_≡_, refl, sym, _∙_}

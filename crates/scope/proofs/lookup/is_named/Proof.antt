@@ -1,3 +1,4 @@
+-- `lookup::is_named`: a label of 0 has no name; any other has that of its place.
 use mathlib.Core.Path.{sym, _∙_}
 use Rattle.scope.specs.Names.{named-none, named-some}
 use borrow.Author.Needs.{needs}

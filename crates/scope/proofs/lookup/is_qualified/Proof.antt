@@ -1,3 +1,4 @@
+-- `lookup::is_qualified`: a label with a table is qualified where both names agree.
 use mathlib.Core.Path.{sym, _∙_}
 use borrow.Author.Tests.{not-true, not-false}
 use Rattle.scope.specs.Names.{qualified-none, qualified-other, qualified-both}

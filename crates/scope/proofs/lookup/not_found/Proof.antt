@@ -1,3 +1,4 @@
+-- `lookup::not_found`: no column so far is matched.
 use Prim.Native.Nat.{_-_, _≤_}
 use lib.ListN.{length}
 use Rattle.scope.specs.Search.{NoneBefore, none-before, none-more, missing-column, missing-aggregated}

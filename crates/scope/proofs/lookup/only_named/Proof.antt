@@ -1,3 +1,4 @@
+-- `lookup::only_named`: the columns so far that have the name are none or the one at hand.
 use mathlib.Core.Logic.{⊎-elim}
 use Prim.Native.Nat.{ℕ, _-_, _≤_, _<_}
 use native.Mathlib.Omega.{arith}

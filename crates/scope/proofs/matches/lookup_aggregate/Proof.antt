@@ -1,3 +1,4 @@
+-- `matches::lookup_aggregate`: no column so far is matched to an equal expression.
 use borrow.Author.Needs.{needs}
 use Prim.Native.Nat.{_-_}
 use native.Mathlib.Omega.{arith}

@@ -1,3 +1,4 @@
+-- `matches::match_number`: one more than the row.
 use native.Mathlib.Omega.{arith}
 use Rattle.scope.specs.NewMatch.{matchNumber}
 use borrow.Author.Needs.{needs}

@@ -1,3 +1,4 @@
+-- `matches::new_match`: the row, where no column before is matched to an equal expression.
 use mathlib.Core.Path.{_∙_}
 use Rattle.scope.specs.NewMatch.{new-none, new-row}
 use borrow.Author.Needs.{needs}

@@ -1,3 +1,4 @@
+-- `matches::pass_match`: the match, where no column before is matched to an equal expression.
 use Rattle.scope.specs.NewMatch.{pass-none, pass-some}
 use borrow.Author.Needs.{needs}
 use Rattle.scope.proofs.matches.pass_match.Statement.{statement}

@@ -1,3 +1,4 @@
+-- `merging::may_merge`: a name that both hold comes before a width that is passed.
 use Rattle.scope.specs.Merging.{may-taken, may-wide, may-fit}
 use borrow.Author.Needs.{needs}
 use Rattle.scope.proofs.merging.may_merge.Statement.{statement}

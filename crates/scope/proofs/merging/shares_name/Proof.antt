@@ -1,3 +1,4 @@
+-- `merging::shares_name`: no name so far is held by both.
 use Prim.Native.Nat.{_-_}
 use mathlib.Core.Path.{_≡_, sym, _∙_}
 use lib.ListN.{length, drop}

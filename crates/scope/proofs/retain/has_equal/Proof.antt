@@ -1,3 +1,4 @@
+-- `retain::has_equal`: no row so far has an equal expression.
 use borrow.Author.Needs.{needs}
 use Prim.Native.Nat.{_-_}
 use lib.ListN.{take}

@@ -1,3 +1,4 @@
+-- `retain::retain`: the rows so far are kept, each expression once.
 use native.Mathlib.Omega.{arith}
 use Prim.Native.Nat.{_+_, _-_, _≤_}
 use mathlib.Core.Logic.{⊎-elim}
