@@ -68,9 +68,9 @@ fn takes_star(table: &[u32], r: usize, aggregate: Aggregate) -> bool
 }
 
 // The argument at row r: the constant true for the star of `count`.
-fn argument<'a>(
-    catalog: &[u8],
-    statement: &[u8],
+fn argument<'t, 'a>(
+    catalog: &'t [u8],
+    statement: &'t [u8],
     table: &[u32],
     r: usize,
     labels: &'a [u32],
@@ -108,9 +108,9 @@ fn argument<'a>(
 
 // The argument of the aggregate that the record at row r calls: 14 where it has not one argument, then 15 where an
 // aggregate stands in it.
-pub fn build_function<'a>(
-    catalog: &[u8],
-    statement: &[u8],
+pub fn build_function<'t, 'a>(
+    catalog: &'t [u8],
+    statement: &'t [u8],
     table: &[u32],
     r: usize,
     labels: &'a [u32],

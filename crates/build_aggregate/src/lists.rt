@@ -25,9 +25,9 @@ use plan::pushes::push;
 pub const FUNCTION_SIZE: usize = 2;
 
 // The group at row r.
-fn add_group<'a>(
-    catalog: &[u8],
-    statement: &[u8],
+fn add_group<'t, 'a>(
+    catalog: &'t [u8],
+    statement: &'t [u8],
     table: &[u32],
     r: usize,
     labels: &'a [u32],
@@ -68,9 +68,9 @@ fn add_group<'a>(
 }
 
 // The function at row r.
-fn add_function<'a>(
-    catalog: &[u8],
-    statement: &[u8],
+fn add_function<'t, 'a>(
+    catalog: &'t [u8],
+    statement: &'t [u8],
     table: &[u32],
     r: usize,
     labels: &'a [u32],
@@ -118,9 +118,9 @@ fn add_function<'a>(
 }
 
 // The groups at the rows.
-pub fn build_groups<'a>(
-    catalog: &[u8],
-    statement: &[u8],
+pub fn build_groups<'t, 'a>(
+    catalog: &'t [u8],
+    statement: &'t [u8],
     table: &[u32],
     rows: &[usize],
     labels: &'a [u32],
@@ -168,9 +168,9 @@ pub fn build_groups<'a>(
 }
 
 // The functions at the rows.
-pub fn build_functions<'a>(
-    catalog: &[u8],
-    statement: &[u8],
+pub fn build_functions<'t, 'a>(
+    catalog: &'t [u8],
+    statement: &'t [u8],
     table: &[u32],
     rows: &[usize],
     labels: &'a [u32],

@@ -32,9 +32,9 @@ fn row_at(groups: &[usize], functions: &[usize], i: usize) -> usize
 }
 
 // The node over a source, by the rows of its groups and of its functions.
-pub fn build_node<'a>(
-    catalog: &[u8],
-    statement: &[u8],
+pub fn build_node<'t, 'a>(
+    catalog: &'t [u8],
+    statement: &'t [u8],
     table: &[u32],
     groups: &[usize],
     functions: &[usize],

@@ -1,13 +1,12 @@
 -- WHERE and HAVING as steps: the cells of an expression, then a filter.
 use Prim.Native.Nat.{ℕ, pred, _+_, _-_, _*_, _≤_, _<_}
-use native.Mathlib.Omega.{arith}
 use native.Mathlib.Numerals.{sub-one}
 use mathlib.Core.Path.{_≡_, refl, ap, _∙_}
 use mathlib.Core.Bool.{Bool, true, false, not}
 use mathlib.Core.List.{List, [], _∷_, _++_}
-use lib.ListN.{length, getD}
+use lib.ListN.{length}
 use Rattle.rules.specs.Refusals.{Refusal, refusalNumber, Answer, ok, refused, _>>=_}
-use Rattle.rules.specs.Refusals.{havingWithoutAggregate, unknownColumn, notAggregated}
+use Rattle.rules.specs.Refusals.{havingWithoutAggregate}
 use Rattle.rules.specs.Lists.{Bytes, isEmpty, mapOption}
 use Rattle.rules.specs.Ast.{Expr, size}
 use Rattle.rules.specs.Plan.{Built, Node}
@@ -15,7 +14,6 @@ use Rattle.rules.specs.Cells.{Cell}
 use Rattle.rules.specs.Nodes.{NodeRecord, filter}
 use Rattle.rules.specs.Area.{recordNumbers}
 use Rattle.rules.specs.Scope as rules
-use Rattle.rules.specs.Scope.{missing, notFound}
 use Rattle.rules.specs.BuildExpression.{buildOption, clauseExpr}
 use Rattle.rules.specs.BuildSelect.{filtered, buildWhere, buildHaving}
 use Rattle.rules.specs.Sizes.{optionSize, clauseSize}
@@ -25,8 +23,6 @@ use Rattle.appends.specs.From.Laid.{stageOf}
 use Rattle.appends.specs.Select.Filters.{where-step, where-refused, having-without, having-step, having-refused}
 use Rattle.ast.specs.Table.{treeAt}
 use Rattle.scope.specs.Scopes.{matchesOf, scopeFrom}
-use Rattle.scope.specs.Lookup.{foundOf}
-use Rattle.scope.specs.Search.{Missing, NoneBefore, missing-column, missing-aggregated}
 use Rattle.statement.specs.EntryAccess.{clauseOf}
 use Rattle.statement.specs.declared.access.Clause.{Clause}
 use Rattle.statement.specs.declared.access.Clause.the-variants as C
@@ -150,29 +146,6 @@ pub record HavingBuilt (c q : Bytes) (t : List ℕ) (w : Clause) (xs ms ts : Lis
     (area nodes area′ nodes′ : List ℕ) (x : Step) : Type 0 where
   pub is : (h : ℕ) → Steps (λ d. d) (λ d. buildHaving d (clauseOf c q t w) (scopeAt c q t xs ms ts h))
       n m k area nodes area′ nodes′ x
-
--- whether an expression is matched to a column
-module _ {ms : List ℕ} {i : ℕ} (k : NoneBefore ms i) (e : ℕ → Expr) where
-  abbrev ofMatches : rules.Scope
-  ofMatches = record { columns = []; tables = []; aggregates = matchesOf e 0 ms; hidden = [] }
-
-  pub matched-none : length ms ≤ i → false ≡ not (isEmpty (matchesOf e 0 ms))
-  unfolding notFound foundOf
-  matched-none h = go (isEmpty (matchesOf e 0 ms)) (missing-column k h .is ofMatches e refl)
-    where
-      go : (b : Bool) → _≡_ {A = rules.Found} (elim b [ true ↦ missing unknownColumn | false ↦ missing notAggregated ])
-          (missing unknownColumn) → false ≡ not b
-      go true g = refl
-      go false g = absurd (let z : _≡_ {A = ℕ} 0 1 = cc in omega arith)
-
-  pub matched-some : i < length ms → (getD ms i 0 ≡ 0 → ⊥) → true ≡ not (isEmpty (matchesOf e 0 ms))
-  unfolding notFound foundOf
-  matched-some h z = go (isEmpty (matchesOf e 0 ms)) (missing-aggregated k h z .is ofMatches e refl)
-    where
-      go : (b : Bool) → _≡_ {A = rules.Found} (elim b [ true ↦ missing unknownColumn | false ↦ missing notAggregated ])
-          (missing notAggregated) → true ≡ not b
-      go true g = absurd (let z : _≡_ {A = ℕ} 0 1 = cc in omega arith)
-      go false g = refl
 
 not-back : (b d : Bool) → b ≡ not d → d ≡ not b
 not-back true true e = e

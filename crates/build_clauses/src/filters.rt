@@ -1,13 +1,9 @@
 // WHERE and HAVING: a filter behind the node before it.
-ghost use mathlib.Core.Path.{_≡_};
-ghost use mathlib.Core.Bool.{not};
-ghost use Prim.Native.Nat.{ℕ, _*_};
+ghost use Prim.Native.Nat.{_*_};
 ghost use lib.ListN.{take};
-ghost use Rattle.rules.specs.Lists.{isEmpty};
-ghost use Rattle.rules.specs.Ast.{Expr, size};
+ghost use Rattle.rules.specs.Ast.{size};
 ghost use Rattle.rules.specs.Sizes.{clauseSize};
 ghost use Rattle.ast.specs.Table.{treeAt};
-ghost use Rattle.scope.specs.Scopes.{matchesOf};
 ghost use Rattle.statement.specs.EntryAccess.{clauseOf};
 ghost use Rattle.plan.specs.Layout.{filterSize};
 ghost use Rattle.plan.specs.Cells.{Room};
@@ -18,28 +14,13 @@ use numbers::refusals::HAVING_WITHOUT_AGGREGATE;
 use plan::cells::Written;
 use plan::nodes::filter;
 use plan::steps::Step;
-use scope::lookup::first_matches;
+use scope::lookup::is_matched;
 use statement::access::Clause;
 
-// Whether an expression is matched to one of the first columns.
-fn is_matched(matches: &[u16], width: u32) -> bool
-    ensures { λ r. ⌜ ((e : ℕ → Expr) → r ≡ not (isEmpty (matchesOf e 0 (take width (now (matches .entry)))))) ⌝ }
-{
-    let ms = first_matches(matches, width as usize);
-    let mut i: usize = 0;
-    while i < ms.len() {
-        if ms[i] != 0 {
-            return true;
-        }
-        i += 1;
-    }
-    false
-}
-
 // The rows for which the expression at row r holds.
-fn build_filter<'a>(
-    catalog: &[u8],
-    statement: &[u8],
+fn build_filter<'t, 'a>(
+    catalog: &'t [u8],
+    statement: &'t [u8],
     cells: &[u32],
     r: usize,
     labels: &'a [u32],
@@ -82,9 +63,9 @@ fn build_filter<'a>(
 }
 
 // WHERE over FROM's scope.
-pub fn build_where<'a>(
-    catalog: &[u8],
-    statement: &[u8],
+pub fn build_where<'t, 'a>(
+    catalog: &'t [u8],
+    statement: &'t [u8],
     cells: &[u32],
     clause: Clause,
     labels: &'a [u32],
@@ -126,9 +107,9 @@ pub fn build_where<'a>(
 }
 
 // HAVING, which wants a group or an aggregate.
-pub fn build_having<'a>(
-    catalog: &[u8],
-    statement: &[u8],
+pub fn build_having<'t, 'a>(
+    catalog: &'t [u8],
+    statement: &'t [u8],
     cells: &[u32],
     clause: Clause,
     labels: &'a [u32],

@@ -26,9 +26,9 @@ use sections::entry::first_row;
 use statement::access::descending;
 
 // The key of an entry: its cells from the n-th on, its part of the record behind k numbers.
-fn put_key<'a>(
-    catalog: &[u8],
-    statement: &[u8],
+fn put_key<'t, 'a>(
+    catalog: &'t [u8],
+    statement: &'t [u8],
     cells: &[u32],
     e: Entry,
     labels: &'a [u32],
@@ -70,9 +70,9 @@ fn put_key<'a>(
 }
 
 // All keys, one after the other.
-fn put_keys<'a>(
-    catalog: &[u8],
-    statement: &[u8],
+fn put_keys<'t, 'a>(
+    catalog: &'t [u8],
+    statement: &'t [u8],
     cells: &[u32],
     parts: &[u32],
     labels: &'a [u32],
@@ -123,9 +123,9 @@ fn put_keys<'a>(
 }
 
 // ORDER; without keys nothing is appended.
-pub fn build_order<'a>(
-    catalog: &[u8],
-    statement: &[u8],
+pub fn build_order<'t, 'a>(
+    catalog: &'t [u8],
+    statement: &'t [u8],
     cells: &[u32],
     parts: &[u32],
     labels: &'a [u32],

@@ -50,9 +50,9 @@ fn found(f: Found, line: u32, area: &mut [u32], n: u32) -> Written
 }
 
 // The column record at row r, under a qualifier.
-fn column<'a>(
-    catalog: &[u8],
-    statement: &[u8],
+fn column<'t, 'a>(
+    catalog: &'t [u8],
+    statement: &'t [u8],
     table: &[u32],
     r: usize,
     labels: &'a [u32],
@@ -137,9 +137,9 @@ fn call(catalog: &[u8], statement: &[u8], table: &[u32], r: usize) -> Begun
 }
 
 // A record that is matched to no column.
-fn unmatched<'a>(
-    catalog: &[u8],
-    statement: &[u8],
+fn unmatched<'t, 'a>(
+    catalog: &'t [u8],
+    statement: &'t [u8],
     table: &[u32],
     r: usize,
     labels: &'a [u32],
@@ -200,9 +200,9 @@ fn unmatched<'a>(
 }
 
 // A match comes first, and is one column.
-pub fn begin<'a>(
-    catalog: &[u8],
-    statement: &[u8],
+pub fn begin<'t, 'a>(
+    catalog: &'t [u8],
+    statement: &'t [u8],
     table: &[u32],
     r: usize,
     labels: &'a [u32],

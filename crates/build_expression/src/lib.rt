@@ -27,9 +27,9 @@ pub enum Begun {
 }
 
 // The cells of the tree at row r from the n-th on: a match first, then the operands, the left one first.
-fn build_tree<'a>(
-    catalog: &[u8],
-    statement: &[u8],
+fn build_tree<'t, 'a>(
+    catalog: &'t [u8],
+    statement: &'t [u8],
     table: &[u32],
     r: usize,
     labels: &'a [u32],
@@ -107,9 +107,9 @@ fn build_tree<'a>(
 }
 
 // The same, where no match is looked for if nothing is matched.
-pub fn build_expression<'a>(
-    catalog: &[u8],
-    statement: &[u8],
+pub fn build_expression<'t, 'a>(
+    catalog: &'t [u8],
+    statement: &'t [u8],
     table: &[u32],
     r: usize,
     labels: &'a [u32],

@@ -10,6 +10,7 @@ ghost use Rattle.plan.specs.Cells.{Room};
 ghost use Rattle.plan.specs.Emits.{Emits};
 ghost use Rattle.build_expression.specs.Rows.{unaryStep, isStep, binaryStep};
 use ast::row;
+use numbers::literals::is_null_or_nan;
 use numbers::refusals::INVALID_IS;
 use plan::cells;
 use plan::cells::Written;
@@ -36,7 +37,7 @@ pub fn is(table: &[u32], r: usize, area: &mut [u32], m: u32) -> Written
     let kind = row::literal_number(table, r);
     let a = row::literal_first(table, r);
     let b = row::literal_second(table, r);
-    if !cells::is_null_or_nan(kind, a, b) {
+    if !is_null_or_nan(kind, a, b) {
         let line = row::line(table, r);
         return Written::Refused(INVALID_IS, line);
     }

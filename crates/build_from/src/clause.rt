@@ -15,9 +15,9 @@ use plan::nodes;
 use scope::Scope;
 
 // The item in row r behind the clause a: its scope merged into the clause's, and the cross join of both.
-fn join_item(
-    catalog: &[u8],
-    statement: &[u8],
+fn join_item<'t>(
+    catalog: &'t [u8],
+    statement: &'t [u8],
     tables: &[u32],
     cells: &[u32],
     froms: &[u32],
@@ -90,9 +90,9 @@ fn empty_clause(nodes: &mut [u32]) -> Source
 
 // The items in the first `rows` rows of FROM, from the first cell and the first node on. Where it is accepted, `line` is
 // not determined.
-pub fn build_from_clause(
-    catalog: &[u8],
-    statement: &[u8],
+pub fn build_from_clause<'t>(
+    catalog: &'t [u8],
+    statement: &'t [u8],
     tables: &[u32],
     cells: &[u32],
     froms: &[u32],

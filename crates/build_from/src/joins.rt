@@ -11,9 +11,9 @@ use plan::nodes;
 
 // The join in row r of the sides a and b, a built before b: their scopes merged, its predicate over both, its record; the
 // columns of a right join swapped back.
-pub fn build_join(
-    catalog: &[u8],
-    statement: &[u8],
+pub fn build_join<'t>(
+    catalog: &'t [u8],
+    statement: &'t [u8],
     cells: &[u32],
     froms: &[u32],
     r: u32,

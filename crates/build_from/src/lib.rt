@@ -26,9 +26,9 @@ pub struct Source {
 
 // The item in row r of FROM from the n-th cell and the m-th node on, k numbers of the nodes being in use: a scan, or a join
 // of the items in two rows before it.
-pub fn build_from(
-    catalog: &[u8],
-    statement: &[u8],
+pub fn build_from<'t>(
+    catalog: &'t [u8],
+    statement: &'t [u8],
     tables: &[u32],
     cells: &[u32],
     froms: &[u32],

@@ -20,9 +20,9 @@ pub struct Root {
 }
 
 // The predicate of the join in row r.
-pub fn build_predicate<'a>(
-    catalog: &[u8],
-    statement: &[u8],
+pub fn build_predicate<'t, 'a>(
+    catalog: &'t [u8],
+    statement: &'t [u8],
     cells: &[u32],
     froms: &[u32],
     r: u32,

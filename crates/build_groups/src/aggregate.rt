@@ -47,9 +47,9 @@ fn retain_rows(
 }
 
 // The aggregate node over the node before it, by the rows that are retained, and its scope.
-fn build_retained(
-    catalog: &[u8],
-    statement: &[u8],
+fn build_retained<'t>(
+    catalog: &'t [u8],
+    statement: &'t [u8],
     cells: &[u32],
     kept: &[usize],
     rows: Kept,
@@ -108,9 +108,9 @@ fn build_retained(
 }
 
 // The aggregate stage over the first g rows of groups and the first f of functions, one at least.
-pub fn build_aggregate(
-    catalog: &[u8],
-    statement: &[u8],
+pub fn build_aggregate<'t>(
+    catalog: &'t [u8],
+    statement: &'t [u8],
     cells: &[u32],
     groups: &[usize],
     g: usize,

@@ -14,9 +14,9 @@ use scope::Scope;
 use stage::Stage;
 
 // Groups and aggregates over the node before them; where there are none, all is as it was.
-pub fn build_groups(
-    catalog: &[u8],
-    statement: &[u8],
+pub fn build_groups<'t>(
+    catalog: &'t [u8],
+    statement: &'t [u8],
     cells: &[u32],
     parts: &[u32],
     scope: Scope,

@@ -10,9 +10,9 @@ use scope::Scope;
 use scope::matches::Matched;
 
 // One row after the other, until the child is full.
-pub fn hide_rows<'a>(
-    catalog: &[u8],
-    statement: &[u8],
+pub fn hide_rows<'t, 'a>(
+    catalog: &'t [u8],
+    statement: &'t [u8],
     cells: &[u32],
     rows: &[usize],
     labels: &'a [u32],

@@ -69,9 +69,9 @@ fn position(found: Found) -> Matched
 }
 
 // The parent's column that a name means, where it means none of the child's.
-fn lacking_name<'a>(
-    catalog: &[u8],
-    statement: &[u8],
+fn lacking_name<'t, 'a>(
+    catalog: &'t [u8],
+    statement: &'t [u8],
     labels: &'a [u32],
     matches: &'a [u16],
     width: u32,
@@ -128,9 +128,9 @@ fn lacking_name<'a>(
 }
 
 // The same of the expression at row r, where it is a column's name.
-fn lacking_column<'a>(
-    catalog: &[u8],
-    statement: &[u8],
+fn lacking_column<'t, 'a>(
+    catalog: &'t [u8],
+    statement: &'t [u8],
     cells: &[u32],
     r: usize,
     labels: &'a [u32],
@@ -199,9 +199,9 @@ fn lacking_column<'a>(
 }
 
 // The parent's column to hide for the expression at row r.
-pub fn to_hide<'a>(
-    catalog: &[u8],
-    statement: &[u8],
+pub fn to_hide<'t, 'a>(
+    catalog: &'t [u8],
+    statement: &'t [u8],
     cells: &[u32],
     r: usize,
     labels: &'a [u32],

@@ -20,9 +20,9 @@ pub struct Hiding {
 
 // The columns of the parent, whose arrays are lent, that are passed on hidden to the child. The parent's position of each
 // goes into `positions`.
-pub fn build_select_hidden<'a>(
-    catalog: &[u8],
-    statement: &[u8],
+pub fn build_select_hidden<'t, 'a>(
+    catalog: &'t [u8],
+    statement: &'t [u8],
     cells: &[u32],
     parts: &[u32],
     labels: &'a [u32],

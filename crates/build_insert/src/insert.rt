@@ -53,9 +53,9 @@ fn end_insert(
 }
 
 // The rows and the end, of a table that is named by the n bytes at a, by its column map.
-fn build_mapped(
-    catalog: &[u8],
-    statement: &[u8],
+fn build_mapped<'t>(
+    catalog: &'t [u8],
+    statement: &'t [u8],
     cells: &[u32],
     parts: &[u32],
     a: u32,
@@ -82,9 +82,9 @@ fn build_mapped(
 }
 
 // 5 at the statement's line where there is no such table.
-pub fn build_insert(
-    catalog: &[u8],
-    statement: &[u8],
+pub fn build_insert<'t>(
+    catalog: &'t [u8],
+    statement: &'t [u8],
     tables: &[u32],
     cells: &[u32],
     parts: &[u32],

@@ -32,9 +32,9 @@ pub enum Listed {
 }
 
 // The value at row r: its cells from the n-th on, its root behind k numbers.
-fn build_value(
-    catalog: &[u8],
-    statement: &[u8],
+fn build_value<'t>(
+    catalog: &'t [u8],
+    statement: &'t [u8],
     cells: &[u32],
     r: usize,
     area: &mut [u32],
@@ -74,9 +74,9 @@ fn build_value(
 }
 
 // Several values one behind the other, the first at row r.
-fn build_values(
-    catalog: &[u8],
-    statement: &[u8],
+fn build_values<'t>(
+    catalog: &'t [u8],
+    statement: &'t [u8],
     cells: &[u32],
     r: usize,
     values: u32,
@@ -109,9 +109,9 @@ fn build_values(
 }
 
 // A row: how many values it has, then their roots.
-fn build_row(
-    catalog: &[u8],
-    statement: &[u8],
+fn build_row<'t>(
+    catalog: &'t [u8],
+    statement: &'t [u8],
     cells: &[u32],
     e: Entry,
     area: &mut [u32],
@@ -141,9 +141,9 @@ fn build_row(
 }
 
 // All rows, their cells the plan's first ones.
-fn build_rows(
-    catalog: &[u8],
-    statement: &[u8],
+fn build_rows<'t>(
+    catalog: &'t [u8],
+    statement: &'t [u8],
     cells: &[u32],
     parts: &[u32],
     area: &mut [u32],
@@ -174,9 +174,9 @@ fn build_rows(
 }
 
 // The values node of all rows, the plan's first.
-pub fn build_node(
-    catalog: &[u8],
-    statement: &[u8],
+pub fn build_node<'t>(
+    catalog: &'t [u8],
+    statement: &'t [u8],
     cells: &[u32],
     parts: &[u32],
     area: &mut [u32],

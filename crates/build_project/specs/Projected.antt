@@ -1,12 +1,12 @@
 -- The projected scope of the items.
-use Prim.Native.Nat.{ℕ, zero, suc, _≤_, _<_}
+use Prim.Native.Nat.{ℕ, _≤_}
 use native.Mathlib.Omega.{arith}
 use mathlib.Core.Path.{_≡_, refl, sym, ap, _∙_}
 use mathlib.Core.Bool.{Bool, true, false, not}
-use mathlib.Core.List.{List, _∷_, map}
+use mathlib.Core.List.{List, map}
 use mathlib.Core.Logic.{_⊎_, inl, inr}
-use lib.ListN.{length, getD, take, drop, length-map, drop-of-length-le}
-use lib.Seq.{drop-cons, length-take-le}
+use lib.ListN.{length, take, length-map}
+use lib.Seq.{length-take-le}
 use Rattle.rules.specs.Limits.{mostColumns}
 use Rattle.rules.specs.Lists.{Bytes, isEmpty}
 use Rattle.rules.specs.Ast.{Expr, Item}
@@ -16,7 +16,6 @@ use Rattle.ast.specs.Table.{treeAt}
 use Rattle.scope.specs.Labels.{columnsOf, columns-length}
 use Rattle.scope.specs.Slots.{Below}
 use Rattle.scope.specs.Scopes.{matchesOf, scopeFrom, scopeOf, labelsOf, tableNumbers, Valid, Plain}
-use Rattle.scope.specs.Search.{NoneBefore}
 use Rattle.scope.specs.Project.{Projectable, Projected}
 use Rattle.scope.specs.Items.{ItemsFit, ItemsProjected}
 use Rattle.scope.specs.declared.Scope.{Scope}
@@ -36,19 +35,6 @@ pub record ScopeProjected (c q : Bytes) (cells parts items : List ℕ) (s r : Sc
       ≡ rules.project (scopeOf (treeAt c q cells) c q s) (map (itemOf c q cells parts) items)
 
 -- WHETHER SOMETHING IS MATCHED
-some-match : (e : ℕ → Expr) (i x : ℕ) (ms : List ℕ) → (x ≡ 0 → ⊥) → true ≡ not (isEmpty (matchesOf e i (x ∷ ms)))
-unfolding matchesOf isEmpty
-some-match e i zero ms h = absurd (h refl)
-some-match e i (suc r) ms h = refl
-
-module _ {ms : List ℕ} {i : ℕ} (k : NoneBefore ms i) where
-  pub matched-here : i < length ms → (getD ms i 0 ≡ 0 → ⊥) → (e : ℕ → Expr) → true ≡ not (isEmpty (matchesOf e 0 ms))
-  matched-here h z e = rw (k .is e, drop-cons ms i 0 h) (some-match e i (getD ms i 0) (drop (suc i) ms) z)
-
-  pub matched-nowhere : length ms ≤ i → (e : ℕ → Expr) → false ≡ not (isEmpty (matchesOf e 0 ms))
-  unfolding matchesOf isEmpty
-  matched-nowhere h e = rw (k .is e, drop-of-length-le ms h)
-
 not-true : (x : Bool) → true ≡ not x → x ≡ false
 not-true true h = h
 not-true false h = refl

@@ -37,9 +37,9 @@ fn put_columns(positions: &[u32], area: &mut [u32], n: u32, nodes: &mut [u32], k
 }
 
 // The projection that starts at a place, its items pushed, by their labels: with its hidden columns it ends; 3 where they are too many.
-pub fn end_projection(
-    catalog: &[u8],
-    statement: &[u8],
+pub fn end_projection<'t>(
+    catalog: &'t [u8],
+    statement: &'t [u8],
     cells: &[u32],
     parts: &[u32],
     items: &[u32],

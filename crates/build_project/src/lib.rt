@@ -26,9 +26,9 @@ use stage::Stage;
 
 // The items by their numbers over the node before, which stands in n cells, m nodes and k numbers of the nodes: nothing for
 // a lone star.
-pub fn build_projection(
-    catalog: &[u8],
-    statement: &[u8],
+pub fn build_projection<'t>(
+    catalog: &'t [u8],
+    statement: &'t [u8],
     cells: &[u32],
     parts: &[u32],
     items: &[u32],

@@ -1,33 +1,12 @@
 // The scope of a projection's items (planner.rs, Scope::project).
 ghost use mathlib.Core.Path.{_≡_};
-ghost use mathlib.Core.Bool.{not};
-ghost use Prim.Native.Nat.{ℕ};
-ghost use lib.ListN.{take};
-ghost use Rattle.rules.specs.Lists.{isEmpty};
-ghost use Rattle.rules.specs.Ast.{Expr};
-ghost use Rattle.scope.specs.Scopes.{matchesOf};
 ghost use Rattle.build_project.specs.Labels.{itemLabels};
 ghost use Rattle.build_project.specs.Ready.{ItemsReady};
 ghost use Rattle.build_project.specs.Projected.{ScopeProjected};
 use super::rows::item_rows;
 use scope::COLUMNS;
 use scope::Scope;
-use scope::lookup::first_matches;
-
-// Whether something is matched to the first columns.
-fn is_matched(matches: &[u16], width: u32) -> bool
-    ensures { λ r. ⌜ ((e : ℕ → Expr) → r ≡ not (isEmpty (matchesOf e 0 (take width (now (matches .entry)))))) ⌝ }
-{
-    let ms = first_matches(matches, width as usize);
-    let mut i: usize = 0;
-    while i < ms.len() {
-        if ms[i] != 0 {
-            return true;
-        }
-        i += 1;
-    }
-    false
-}
+use scope::lookup::is_matched;
 
 // The columns of the items, by their labels, over the same tables; over groups and aggregates, each matched to its
 // expression.

@@ -45,9 +45,9 @@ fn cell_label(table: &[u32], r: usize, labels: &[u32], area: &[u32], n: u32) -> 
 
 // The label of item x, which stands in the plan from the n-th cell on: its alias, or what its expression passes on. `used` are
 // the matches, none where nothing is matched: then a column was looked up by its name, and its position stands in its cell.
-pub fn item_label<'a>(
-    catalog: &[u8],
-    statement: &[u8],
+pub fn item_label<'t, 'a>(
+    catalog: &'t [u8],
+    statement: &'t [u8],
     cells: &[u32],
     parts: &[u32],
     x: u32,

@@ -62,9 +62,9 @@ pub fn alias_length(catalog: &[u8], statement: &[u8], parts: &[u32], x: u32) -> 
 }
 
 // Item x: its cells from the n-th on, its part of the record behind k numbers.
-fn put_item<'a>(
-    catalog: &[u8],
-    statement: &[u8],
+fn put_item<'t, 'a>(
+    catalog: &'t [u8],
+    statement: &'t [u8],
     cells: &[u32],
     parts: &[u32],
     x: u32,
@@ -110,9 +110,9 @@ fn put_item<'a>(
 }
 
 // All items, one after the other, and the label of each.
-pub fn put_items<'a>(
-    catalog: &[u8],
-    statement: &[u8],
+pub fn put_items<'t, 'a>(
+    catalog: &'t [u8],
+    statement: &'t [u8],
     cells: &[u32],
     parts: &[u32],
     items: &[u32],

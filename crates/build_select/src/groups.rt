@@ -11,9 +11,9 @@ use plan::cells::Written;
 use scope::Scope;
 
 // Groups behind WHERE, then the projection, and all that follows.
-pub fn select_groups(
-    catalog: &[u8],
-    statement: &[u8],
+pub fn select_groups<'t>(
+    catalog: &'t [u8],
+    statement: &'t [u8],
     cells: &[u32],
     parts: &[u32],
     items: &[u32],

@@ -42,9 +42,9 @@ fn list_items<'a>(
 }
 
 // WHERE behind FROM and the items, which are the first w of those listed, and all that follows.
-fn select_where(
-    catalog: &[u8],
-    statement: &[u8],
+fn select_where<'t>(
+    catalog: &'t [u8],
+    statement: &'t [u8],
     cells: &[u32],
     parts: &[u32],
     listed: &[u32],
@@ -104,9 +104,9 @@ fn select_where(
 }
 
 // The items behind FROM, stars expanded, and all that follows.
-pub fn select_items(
-    catalog: &[u8],
-    statement: &[u8],
+pub fn select_items<'t>(
+    catalog: &'t [u8],
+    statement: &'t [u8],
     cells: &mut [u32],
     parts: &[u32],
     scope: Scope,

@@ -12,9 +12,9 @@ use sections::entry::HAVING;
 use statement::access::clause_at;
 
 // HAVING behind the projection, then ORDER, and all that follows.
-pub fn select_later(
-    catalog: &[u8],
-    statement: &[u8],
+pub fn select_later<'t>(
+    catalog: &'t [u8],
+    statement: &'t [u8],
     cells: &[u32],
     parts: &[u32],
     scope: Scope,

@@ -19,9 +19,9 @@ use statement::access::from_rows;
 pub const ONE_TABLE_SIZE: usize = 1702;
 
 // FROM, and all that follows.
-pub fn build_select(
-    catalog: &[u8],
-    statement: &[u8],
+pub fn build_select<'t>(
+    catalog: &'t [u8],
+    statement: &'t [u8],
     tables: &[u32],
     cells: &mut [u32],
     froms: &[u32],

@@ -10,9 +10,9 @@ use plan::cells::Written;
 use statement::access::Clause;
 
 // Its cells are the plan's first ones. The next cell is also the number of its root: one more than it, or 0.
-pub fn build_where<'a>(
-    catalog: &[u8],
-    statement: &[u8],
+pub fn build_where<'t, 'a>(
+    catalog: &'t [u8],
+    statement: &'t [u8],
     cells: &[u32],
     clause: Clause,
     labels: &'a [u32],

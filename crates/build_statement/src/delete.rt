@@ -46,9 +46,9 @@ fn end_delete(
     finish(area, nodes, DELETE, m, 1, k, e);
 }
 
-pub fn build_delete(
-    catalog: &[u8],
-    statement: &[u8],
+pub fn build_delete<'t>(
+    catalog: &'t [u8],
+    statement: &'t [u8],
     tables: &[u32],
     cells: &[u32],
     parts: &[u32],

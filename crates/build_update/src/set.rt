@@ -42,9 +42,9 @@ fn build_default(
 }
 
 // The set of the entry e, of the j-th column of the i-th table, over a scope whose arrays are lent.
-pub fn build_set<'a>(
-    catalog: &[u8],
-    statement: &[u8],
+pub fn build_set<'t, 'a>(
+    catalog: &'t [u8],
+    statement: &'t [u8],
     tables: &[u32],
     cells: &[u32],
     i: u32,

@@ -32,9 +32,9 @@ pub enum SetsWritten {
 }
 
 // The set of the entry e in the i-th table: its column is looked up before its value is built.
-fn write_set<'a>(
-    catalog: &[u8],
-    statement: &[u8],
+fn write_set<'t, 'a>(
+    catalog: &'t [u8],
+    statement: &'t [u8],
     tables: &[u32],
     cells: &[u32],
     i: u32,
@@ -101,9 +101,9 @@ fn write_set<'a>(
 }
 
 // All sets, from the n-th cell and behind the k numbers of the nodes.
-pub fn write_sets<'a>(
-    catalog: &[u8],
-    statement: &[u8],
+pub fn write_sets<'t, 'a>(
+    catalog: &'t [u8],
+    statement: &'t [u8],
     tables: &[u32],
     cells: &[u32],
     parts: &[u32],

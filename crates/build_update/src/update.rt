@@ -30,9 +30,9 @@ use text::lengths::length_at;
 
 // The plan behind the m cells of its filter, of the i-th table, which is named by the n bytes at a: the scan, the sets and
 // the end.
-fn end_update<'a>(
-    catalog: &[u8],
-    statement: &[u8],
+fn end_update<'t, 'a>(
+    catalog: &'t [u8],
+    statement: &'t [u8],
     tables: &[u32],
     cells: &[u32],
     parts: &[u32],
@@ -90,9 +90,9 @@ fn end_update<'a>(
     }
 }
 
-pub fn build_update(
-    catalog: &[u8],
-    statement: &[u8],
+pub fn build_update<'t>(
+    catalog: &'t [u8],
+    statement: &'t [u8],
     tables: &[u32],
     cells: &[u32],
     parts: &[u32],

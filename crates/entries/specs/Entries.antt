@@ -2,10 +2,12 @@
 -- names, rows, and also a clause, which is one record at most. An entry is one such record: its line, what its fields say, and
 -- the expressions behind it.
 use Prim.Native.Nat.{ℕ, zero, suc}
+use mathlib.Core.Path.{_≡_, sym}
 use mathlib.Core.Bool.{Bool, true, false}
 use mathlib.Core.List.{List, [], _∷_}
 use mathlib.Core.Option.{Option, none, some}
-use lib.ListN.{length, getD}
+use lib.Dec.{eqb}
+use lib.ListN.{length, getD, List·getD-map}
 use Rattle.rules.specs.Refusals.{ok}
 use Rattle.rules.specs.Limits.{mostEntries, mostRows, mostTableColumns}
 use Rattle.rules.specs.Lists.{Bytes, mapOption}
@@ -47,12 +49,20 @@ keywordOf k =
     []
 
 -- the most entries a section has
+abbrev most : List ℕ
+most = mostEntries ∷ 1 ∷ mostEntries ∷ 1 ∷ mostEntries ∷ 1 ∷ 1 ∷ 1 ∷ mostEntries ∷ mostRows ∷ mostEntries ∷ mostTableColumns ∷ []
+
 unfoldable pub mostOf : ℕ → ℕ
-mostOf k = getD (mostEntries ∷ 1 ∷ mostEntries ∷ 1 ∷ mostEntries ∷ 1 ∷ 1 ∷ 1 ∷ mostEntries ∷ mostRows ∷ mostEntries ∷ mostTableColumns ∷ []) k 0
+mostOf k = getD most k 0
 
 -- a clause, and `columns`: the next record of that kind does not belong to it
 unfoldable pub isOnce : ℕ → Bool
 isOnce k = getD (false ∷ true ∷ false ∷ true ∷ false ∷ true ∷ true ∷ true ∷ false ∷ false ∷ false ∷ false ∷ []) k false
+
+-- which are the sections of one entry at most
+pub once-one : (k : ℕ) → eqb (mostOf k) 1 ≡ isOnce k
+unfolding mostOf isOnce
+once-one k = sym (List·getD-map (λ n. eqb n 1) most k 0)
 
 -- HEADS
 -- no fields, and so many expressions

@@ -16,7 +16,7 @@ use crate::Constant;
 use crate::Reason;
 use crate::evaluate_constant;
 use ast::rows;
-use numbers::halves::joined;
+use numbers::literals::is_null_or_nan;
 
 // Whether an expression can be built over the empty scope: it can, or the first refusal and its line.
 pub enum Checked {
@@ -31,19 +31,6 @@ fn first_of(a: Checked, b: Checked) -> Checked
     match a {
         Checked::Passed => b,
         Checked::Refused(n, line) => Checked::Refused(n, line),
-    }
-}
-
-// Whether a literal of kind k is a null or a NaN.
-fn is_null_or_nan(k: u32, a: u32, b: u32) -> bool
-    ensures { λ x. ⌜ ((c q : Bytes) → x ≡ isNullOrNan (valueAt c q k a b)) ⌝ }
-{
-    match k {
-        2 => false,
-        3 => false,
-        4 => value::bits::is_nan(joined(a, b)),
-        5 => false,
-        _ => true,
     }
 }
 

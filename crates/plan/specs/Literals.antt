@@ -1,15 +1,11 @@
 -- A literal's cell by its kind and two numbers of 32 bits: the numbers are kept, a NaN's bits too.
-use Prim.Native.Nat.{ℕ, _+_, _-_, _*_, _/_, _%_, _^_, _≤_, _<_}
-use native.Mathlib.Omega.{arith}
-use mathlib.Core.Path.{_≡_, refl, sym, ap, _∙_}
-use mathlib.Core.Bool.{Bool, true, false}
+use Prim.Native.Nat.{ℕ, _^_, _<_}
+use mathlib.Core.Path.{_≡_, sym, ap, _∙_}
 use mathlib.Core.List.{[], _∷_}
 use lib.ListN.{length}
-use borrow.Author.Tests.{lt-ltb, le-ltb, eq-eqb, ne-eqb}
+use borrow.Author.Tests.{eq-eqb, ne-eqb}
 use Rattle.rules.specs.Lists.{Bytes}
 use Rattle.rules.specs.Places.{bytesAt, wordAt}
-use Rattle.rules.specs.Schema.{float}
-use Rattle.rules.specs.BuildExpression.{isNullOrNan}
 use Rattle.rules.specs.Cells.{constant, is}
 use Rattle.rules.specs.Area.{flag, span, valueNumbers, isNumbers, cellNumbers}
 use Rattle.numbers.specs.Bits.{joined, halves-joined, joined-small, bits-signed}
@@ -71,46 +67,3 @@ module _ (c q : Bytes) (k a b : ℕ) (l : LiteralKind) (e : l ≡ literalKindOf 
     pub is-text-numbers : l ≡ L.Text → cellNumbers (is x (valueAt c q k a b)) ≡ 14 ∷ x ∷ 0 ∷ 0 ∷ []
     unfolding cellNumbers isNumbers literalOf
     is-text-numbers f = rw (value-of L.Text f)
-
-  -- whether `is` takes it
-  pub takes-null : l ≡ L.Null → true ≡ isNullOrNan (valueAt c q k a b)
-  unfolding isNullOrNan literalOf
-  takes-null f = rw (value-of L.Null f)
-
-  pub refuses-bool : l ≡ L.Bool → false ≡ isNullOrNan (valueAt c q k a b)
-  unfolding isNullOrNan literalOf
-  refuses-bool f = rw (value-of L.Bool f)
-
-  pub refuses-int : l ≡ L.Int → false ≡ isNullOrNan (valueAt c q k a b)
-  unfolding isNullOrNan literalOf
-  refuses-int f = rw (value-of L.Int f)
-
-  pub takes-nan : (t : Bool) → t ≡ isNullOrNan (float (a + b * 2 ^ 32)) → l ≡ L.Float
-      → t ≡ isNullOrNan (valueAt c q k a b)
-  unfolding literalOf joined
-  takes-nan t h f = rw (value-of L.Float f) h
-
-  pub refuses-text : l ≡ L.Text → false ≡ isNullOrNan (valueAt c q k a b)
-  unfolding isNullOrNan literalOf
-  refuses-text f = rw (value-of L.Text f)
-
--- A NaN by the halves of its bits: all bits of the exponent, and one behind them
-module _ (low high m : ℕ) (l : low < 2 ^ 32) (e : m ≡ high % 2147483648) where
-  magnitude : (low + high * 2 ^ 32) % 2 ^ 63 ≡ low + m * 2 ^ 32
-  magnitude = omega arith
-
-  pub nan-above : 2146435072 < m → true ≡ isNullOrNan (float (low + high * 2 ^ 32))
-  unfolding isNullOrNan
-  nan-above h = rw magnitude (sym (lt-ltb 0x7ff0000000000000 (low + m * 2 ^ 32) (omega arith)))
-
-  pub nan-below : m < 2146435072 → false ≡ isNullOrNan (float (low + high * 2 ^ 32))
-  unfolding isNullOrNan
-  nan-below h = rw magnitude (sym (le-ltb 0x7ff0000000000000 (low + m * 2 ^ 32) (omega arith)))
-
-  pub infinite : m ≤ 2146435072 → low ≡ 0 → false ≡ isNullOrNan (float (low + high * 2 ^ 32))
-  unfolding isNullOrNan
-  infinite h g = rw magnitude (sym (le-ltb 0x7ff0000000000000 (low + m * 2 ^ 32) (omega arith)))
-
-  pub nan-at : 2146435072 ≤ m → (low ≡ 0 → ⊥) → true ≡ isNullOrNan (float (low + high * 2 ^ 32))
-  unfolding isNullOrNan
-  nan-at h g = rw magnitude (sym (lt-ltb 0x7ff0000000000000 (low + m * 2 ^ 32) (omega arith)))

@@ -1,10 +1,8 @@
 // Cells appended to the plan in the lent area, the first of them the n-th. Operands are given by their cells.
 ghost use mathlib.Core.Path.{_≡_};
 ghost use mathlib.Core.List.{[], _∷_};
-ghost use Prim.Native.Nat.{_+_, _*_, _^_};
+ghost use Prim.Native.Nat.{_+_};
 ghost use Rattle.rules.specs.Lists.{Bytes};
-ghost use Rattle.rules.specs.Schema.{float};
-ghost use Rattle.rules.specs.BuildExpression.{isNullOrNan};
 ghost use Rattle.rules.specs.Ast as ast;
 ghost use Rattle.rules.specs.Codes.{unaryCode, plainCode, binaryCode};
 ghost use Rattle.rules.specs.Area.{cellNumbers};
@@ -50,11 +48,6 @@ const EQUAL: u32 = 18;
 const GREATER: u32 = 19;
 
 const LESS: u32 = 20;
-
-// In the high half of a float's bits: the sign, and the exponent of infinities and NaNs.
-const SIGN: u32 = 2147483648;
-
-const EXPONENT: u32 = 2146435072;
 
 // A cell of a kind and three numbers.
 fn put_cell(area: &mut [u32], n: u32, kind: u32, a: u32, b: u32, c: u32)
@@ -103,37 +96,6 @@ pub fn constant(
             let length = length_at(catalog, statement, a, b);
             put_cell(area, n, TEXT, a, length, 0)
         }
-    }
-}
-
-// Whether 64 bits, by their halves, are a NaN's.
-fn is_nan(low: u32, high: u32) -> bool
-    ensures { λ r. ⌜ r ≡ isNullOrNan (float (low + high * 2 ^ 32)) ⌝ }
-{
-    let magnitude = high % SIGN;
-    if EXPONENT < magnitude {
-        return true;
-    }
-    if magnitude < EXPONENT {
-        return false;
-    }
-    if low == 0 {
-        return false;
-    }
-    true
-}
-
-// Whether `is` takes a literal, by its kind and two numbers: a null, or a NaN.
-pub fn is_null_or_nan(kind: u32, a: u32, b: u32) -> bool
-    ensures { λ r. ⌜ ((c q : Bytes) → r ≡ isNullOrNan (valueAt c q kind a b)) ⌝ }
-{
-    let literal = literal_kind(kind);
-    match literal {
-        LiteralKind::Null => true,
-        LiteralKind::Bool => false,
-        LiteralKind::Int => false,
-        LiteralKind::Float => is_nan(a, b),
-        LiteralKind::Text => false,
     }
 }
 

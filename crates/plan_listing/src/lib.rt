@@ -30,7 +30,12 @@ pub fn list_outcome(
 }
 
 // Both texts planned, and the start of their listing: whatever the texts are, and whatever the area holds.
-pub fn list_plan(catalog: &[u8], statement: &[u8], area: &mut Area, out: &mut Window) -> Listed
+pub fn list_plan<'t>(
+    catalog: &'t [u8],
+    statement: &'t [u8],
+    area: &mut Area,
+    out: &mut Window,
+) -> Listed
     ensures { λ r. ⌜ Lists (now (catalog .entry)) (now (statement .entry)) (now (area .entry)) (now (area .exit))
         (now (out .exit)) r ⌝ }
 {

@@ -26,9 +26,9 @@ use statement::access::kind_of;
 use statement::access::line;
 
 // By its kind, with room for the nodes of any statement.
-fn build_kind(
-    catalog: &[u8],
-    statement: &[u8],
+fn build_kind<'t>(
+    catalog: &'t [u8],
+    statement: &'t [u8],
     tables: &[u32],
     cells: &mut [u32],
     froms: &[u32],
@@ -73,9 +73,9 @@ fn has_one_table(parts: &[u32]) -> bool
 }
 
 // In as many numbers for its nodes as it may need: those of a SELECT over at most one table are few.
-pub fn build(
-    catalog: &[u8],
-    statement: &[u8],
+pub fn build<'t>(
+    catalog: &'t [u8],
+    statement: &'t [u8],
     tables: &[u32],
     cells: &mut [u32],
     froms: &[u32],

@@ -54,9 +54,9 @@ fn refuse(area: &mut [u32], number: u32, text: u32, line: u32) -> Outcome
 }
 
 // The plan of a statement that was read.
-fn plan_read(
-    catalog: &[u8],
-    statement: &[u8],
+fn plan_read<'t>(
+    catalog: &'t [u8],
+    statement: &'t [u8],
     tables: &[u32],
     cells: &mut [u32; CELL_NUMBERS],
     froms: &[u32; FROM_NUMBERS],
@@ -83,7 +83,12 @@ fn plan_read(
 }
 
 // Both texts read and planned; `tables` has enough numbers for the catalog.
-fn plan_with(catalog: &[u8], statement: &[u8], tables: &mut [u32], area: &mut [u32]) -> Outcome
+fn plan_with<'t>(
+    catalog: &'t [u8],
+    statement: &'t [u8],
+    tables: &mut [u32],
+    area: &mut [u32],
+) -> Outcome
     requires { ⌜ numbersFor (length (now catalog)) ≤ length (now tables) ⌝ }
     requires { ⌜ leastArea ≤ length (now area) ⌝ }
     ensures { λ r. ⌜ Answers (outcome (now (area .entry)) (builtOf (now (catalog .entry)) (now (statement .entry)))) r
@@ -116,7 +121,11 @@ fn plan_with(catalog: &[u8], statement: &[u8], tables: &mut [u32], area: &mut [u
 
 // The plan of the statement over the catalog, in the area: whatever the texts are, and whatever the area holds.
 #[no_mangle]
-pub extern "C" fn planner_plan(catalog: &[u8], statement: &[u8], area: &mut [u32]) -> Outcome
+pub extern "C" fn planner_plan<'t>(
+    catalog: &'t [u8],
+    statement: &'t [u8],
+    area: &mut [u32],
+) -> Outcome
     ensures { λ r. ⌜ Answers (plan (now (catalog .entry)) (now (statement .entry)) (now (area .entry))) r (now (area .exit)) ⌝ }
 {
     if area.len() < LEAST_AREA {

@@ -99,7 +99,7 @@ fn show_record(catalog: &[u8], statement: &[u8], outcome: Outcome) {
 }
 
 // Plans both texts and prints the listing; of a refusal also the record that it points at.
-fn plan(catalog: &[u8], statement: &[u8]) {
+fn plan<'t>(catalog: &'t [u8], statement: &'t [u8]) {
     let mut area = [0u32; LEAST_AREA];
     let outcome = planner_plan(catalog, statement, &mut area);
     print(catalog, statement, outcome, &area);

@@ -38,7 +38,7 @@ fn holds(out: &Window, listed: Listed, expected: &[u8]) -> bool
 }
 
 // Whether the listing of both texts is what is expected.
-fn agrees(catalog: &[u8], statement: &[u8], expected: &[u8]) -> bool
+fn agrees<'t>(catalog: &'t [u8], statement: &'t [u8], expected: &[u8]) -> bool
     requires { ⌜ length (now expected) < 65536 ⌝ }
     ensures { λ r. ⌜ r ≡ same (listing (now (catalog .entry)) (now (statement .entry))) (now (expected .entry)) ⌝ }
 {

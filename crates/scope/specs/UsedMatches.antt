@@ -2,12 +2,14 @@
 use Prim.Native.Nat.{ℕ, zero, suc, _+_, _≤_, _<_}
 use native.Mathlib.Omega.{arith}
 use native.Mathlib.Numerals.{add-one}
-use mathlib.Core.Path.{_≡_, refl, sym}
-use mathlib.Core.Bool.{Bool, true, false}
+use mathlib.Core.Path.{_≡_, refl, sym, _∙_}
+use mathlib.Core.Bool.{Bool, true, false, not}
 use mathlib.Core.List.{List, [], _∷_}
+use lib.Dec.{ltb}
 use lib.ListN.{length, getD, take, drop, length-take, drop-of-length-le}
 use lib.Seq.{drop-cons, take-all}
-use Rattle.rules.specs.Lists.{Bytes, any}
+use borrow.Author.Tests.{lt-ltb}
+use Rattle.rules.specs.Lists.{Bytes, any, isEmpty}
 use Rattle.rules.specs.Ast.{Expr}
 use Rattle.scope.specs.Scopes.{matchesOf, scopeFrom}
 
@@ -35,6 +37,25 @@ same-matches e ms = go (someMatch ms) refl
     go : (b : Bool) → someMatch ms ≡ b → matchesOf e 0 (elim b [ true ↦ ms | false ↦ [] ]) ≡ matchesOf e 0 ms
     go true h = refl
     go false h = sym (none-of e 0 ms h)
+
+-- WHETHER SOMETHING IS MATCHED
+some-of : (e : ℕ → Expr) (i : ℕ) (ms : List ℕ) → someMatch ms ≡ not (isEmpty (matchesOf e i ms))
+unfolding someMatch any isMatch matchesOf isEmpty
+some-of e i [] = refl
+some-of e i (zero ∷ ms) = some-of e (suc i) ms
+some-of e i (suc m ∷ ms) = refl
+
+used-length : (ms : List ℕ) → ltb 0 (length (usedMatches ms)) ≡ someMatch ms
+unfolding usedMatches someMatch any
+used-length [] = refl
+used-length (x ∷ ms) = go (someMatch (x ∷ ms))
+  where
+    go : (b : Bool) → ltb 0 (length {A = ℕ} (elim b [ true ↦ x ∷ ms | false ↦ [] ])) ≡ b
+    go true = lt-ltb 0 (length (x ∷ ms)) (omega arith)
+    go false = refl
+
+pub used-some : (e : ℕ → Expr) (ms : List ℕ) → ltb 0 (length (usedMatches ms)) ≡ not (isEmpty (matchesOf e 0 ms))
+used-some e ms = used-length ms ∙ some-of e 0 ms
 
 -- a scope is the same with them
 pub used-scope : (e : ℕ → Expr) (c q : Bytes) (xs ms ts : List ℕ) (h : ℕ)

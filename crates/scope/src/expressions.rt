@@ -16,9 +16,9 @@ use ast::row::qualifier_length;
 use numbers::number;
 
 // The label of the column that a name means, or 0.
-fn label_found<'a>(
-    catalog: &[u8],
-    statement: &[u8],
+fn label_found<'t, 'a>(
+    catalog: &'t [u8],
+    statement: &'t [u8],
     labels: &'a [u32],
     matches: &'a [u16],
     width: u32,
@@ -56,9 +56,9 @@ fn label_found<'a>(
 }
 
 // The label that the expression at row r passes on: that of a column name, and 0 for anything else.
-pub fn label_of<'a>(
-    catalog: &[u8],
-    statement: &[u8],
+pub fn label_of<'t, 'a>(
+    catalog: &'t [u8],
+    statement: &'t [u8],
     table: &[u32],
     labels: &'a [u32],
     matches: &'a [u16],

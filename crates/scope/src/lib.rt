@@ -95,10 +95,10 @@ impl Scope {
 
     // A child scope of at most 256 groups and aggregates, by the rows of their expressions: each is matched to its row,
     // and has the label that it passes on.
-    pub fn add_aggregates(
+    pub fn add_aggregates<'t>(
         self,
-        catalog: &[u8],
-        statement: &[u8],
+        catalog: &'t [u8],
+        statement: &'t [u8],
         table: &[u32],
         rows: &[usize],
     ) -> Scope

@@ -1,23 +1,25 @@
 // A column by its name.
 ghost use mathlib.Core.Path.{_≡_};
+ghost use mathlib.Core.Bool.{not};
 ghost use mathlib.Core.List.{List};
 ghost use Prim.Native.Nat.{ℕ, _<_};
 ghost use lib.ListN.{length, take};
 ghost use mathlib.Core.Option.{some};
-ghost use Rattle.rules.specs.Lists.{any, positions};
+ghost use Rattle.rules.specs.Lists.{any, positions, isEmpty};
 ghost use Rattle.rules.specs.Lines.{Word};
+ghost use Rattle.rules.specs.Ast.{Expr};
 ghost use Rattle.rules.specs.Equality.{sameName};
 ghost use Rattle.rules.specs.Places.{wordAt};
 ghost use Rattle.rules.specs.Scope.{isNamed, isQualified, theOnly, theLast};
 ghost use Rattle.scope.specs.Labels.{positionCount, labelAt, tablesOf, columnsOf};
 ghost use Rattle.scope.specs.Lookup.{qualifierOf, Sought, Looked};
+ghost use Rattle.scope.specs.Scopes.{matchesOf};
 ghost use Rattle.scope.specs.Search.{Missing};
 ghost use Rattle.scope.specs.UsedMatches.{usedMatches};
 use super::labels::has_name;
 use super::labels::slot;
 use numbers::number;
-use text::MOST_BYTES;
-use text::part;
+use text::places::bytes_at;
 
 // What was looked for: its position, or why there is none.
 pub enum Found {
@@ -176,9 +178,9 @@ fn lookup_qualified<'a>(
 }
 
 // The column that a name means under a qualifier, among some labels.
-fn lookup_named<'a>(
-    catalog: &[u8],
-    statement: &[u8],
+fn lookup_named<'t, 'a>(
+    catalog: &'t [u8],
+    statement: &'t [u8],
     labels: &'a [u32],
     matches: &'a [u16],
     tables: &'a [u32],
@@ -193,12 +195,7 @@ fn lookup_named<'a>(
     match qualifier {
         Qualifier::Nothing => only_named(catalog, statement, labels, matches, name),
         Qualifier::Table(b, m) => {
-            if b < MOST_BYTES {
-                let table = part(catalog, b as usize, m as usize);
-                return lookup_qualified(catalog, statement, labels, matches, tables, table, name);
-            }
-            let d = b - MOST_BYTES;
-            let table = part(statement, d as usize, m as usize);
+            let table = bytes_at(catalog, statement, b, m);
             lookup_qualified(catalog, statement, labels, matches, tables, table, name)
         }
     }
@@ -239,10 +236,18 @@ pub fn used_matches(matches: &[u16], width: u32) -> &[u16]
     &ms[..0]
 }
 
+// Whether something is matched to one of the first `width` columns.
+pub fn is_matched(matches: &[u16], width: u32) -> bool
+    ensures { λ r. ⌜ ((e : ℕ → Expr) → r ≡ not (isEmpty (matchesOf e 0 (take width (now (matches .entry)))))) ⌝ }
+{
+    let ms = used_matches(matches, width);
+    0 < ms.len()
+}
+
 // The column that a name means, in a scope whose arrays are lent.
-pub fn lookup<'a>(
-    catalog: &[u8],
-    statement: &[u8],
+pub fn lookup<'t, 'a>(
+    catalog: &'t [u8],
+    statement: &'t [u8],
     labels: &'a [u32],
     matches: &'a [u16],
     width: u32,
@@ -263,11 +268,6 @@ pub fn lookup<'a>(
     }
     let ms = first_matches(matches, width as usize);
     let ts = first(tables, count as usize);
-    if a < MOST_BYTES {
-        let name = part(catalog, a as usize, n as usize);
-        return lookup_named(catalog, statement, xs, ms, ts, qualifier, name);
-    }
-    let b = a - MOST_BYTES;
-    let name = part(statement, b as usize, n as usize);
+    let name = bytes_at(catalog, statement, a, n);
     lookup_named(catalog, statement, xs, ms, ts, qualifier, name)
 }

@@ -80,21 +80,7 @@ fn is_once(kind: u32) -> bool
     requires { ⌜ kind ≤ 11 ⌝ }
     ensures { λ r. ⌜ r ≡ isOnce kind ⌝ }
 {
-    match kind {
-        0 => false,
-        1 => true,
-        2 => false,
-        3 => true,
-        4 => false,
-        5 => true,
-        6 => true,
-        7 => true,
-        8 => false,
-        9 => false,
-        10 => false,
-        11 => false,
-        _ => false,
-    }
+    most_of(kind) == 1
 }
 
 // Where the n-th entry of a section starts.

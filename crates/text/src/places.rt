@@ -21,6 +21,17 @@ pub fn address(a: usize) -> u32
     MOST_BYTES + a as u32
 }
 
+// The n bytes at an address, or as many of them as there are.
+pub fn bytes_at<'a>(catalog: &'a [u8], statement: &'a [u8], a: u32, n: u32) -> &'a [u8]
+    ensures { λ r. ⌜ now r ≡ bytesAt (now (catalog .entry)) (now (statement .entry)) a n ⌝ }
+{
+    if a < MOST_BYTES {
+        return part(catalog, a as usize, n as usize);
+    }
+    let b = a - MOST_BYTES;
+    part(statement, b as usize, n as usize)
+}
+
 // Whether the n bytes at an address, or as many of them as there are, are x.
 pub fn holds_at(catalog: &[u8], statement: &[u8], a: u32, n: u32, x: &[u8]) -> bool
     ensures { λ r. ⌜ r ≡ same (bytesAt (now (catalog .entry)) (now (statement .entry)) a n) (now (x .entry)) ⌝ }

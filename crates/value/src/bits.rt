@@ -2,9 +2,8 @@
 ghost use mathlib.Core.Path.{_≡_};
 ghost use lib.Ieee as Ieee;
 ghost use lib.Ieee.{binary64, toBits};
-ghost use Rattle.rules.specs.Schema as rule;
 ghost use Rattle.rules.specs.Arithmetic.{floatOf};
-ghost use Rattle.rules.specs.BuildExpression.{isNullOrNan};
+use numbers::literals::is_nan;
 
 fn nan() -> f64
     ensures { λ r. ⌜ r ≡ Ieee.nan ⌝ }
@@ -30,11 +29,4 @@ pub fn to_bits(x: f64) -> u64
         return 0x7ff8_0000_0000_0000;
     }
     f64::to_bits(x)
-}
-
-// Whether the bits n are a NaN's.
-pub fn is_nan(n: u64) -> bool
-    ensures { λ r. ⌜ r ≡ isNullOrNan (rule.float n) ⌝ }
-{
-    n % 0x8000_0000_0000_0000 > 0x7ff0_0000_0000_0000
 }

@@ -21,23 +21,23 @@ use Rattle.build_expression.proofs.operators.unary.Reads as unary-reads
 use Rattle.build_expression.proofs.+build_tree.{statement}
 use Rattle.build_expression.proofs.+build_tree.Tie.{close}
 
-abbrev μ-build-tree : Measures 5 build-tree-kinds.ps ℕ
+abbrev μ-build-tree : Measures 4 build-tree-kinds.ps ℕ
 μ-build-tree κs a = length (a .1 .1 .0 .now) - a .1 .1 .1 .0
 
-abbrev build-tree-at : ℕ → In 5 build-tree-kinds.ps
+abbrev build-tree-at : ℕ → In 4 build-tree-kinds.ps
 build-tree-at t =
     and
-    5
+    4
     build-tree-kinds.ps
-    (is 5 build-tree-kinds.ps μ-build-tree t)
+    (is 4 build-tree-kinds.ps μ-build-tree t)
     build-tree.Pre
 
-abbrev build-tree-below : ℕ → In 5 build-tree-kinds.ps
+abbrev build-tree-below : ℕ → In 4 build-tree-kinds.ps
 build-tree-below t =
     and
-    5
+    4
     build-tree-kinds.ps
-    (falls 5 build-tree-kinds.ps _<_ μ-build-tree t)
+    (falls 4 build-tree-kinds.ps _<_ μ-build-tree t)
     build-tree.Pre
 
 -- what is asked and learnt of each function called

@@ -17,16 +17,16 @@ use Rattle.build_from.proofs.tables.build_table.Reads as build-table-re
 use Rattle.build_from.proofs.+build_from.{statement}
 use Rattle.build_from.proofs.+build_from.Tie.{close}
 
-abbrev μ-build-from : Measures 7 build-from-kinds.ps ℕ
+abbrev μ-build-from : Measures 6 build-from-kinds.ps ℕ
 μ-build-from κs a = a .1 .1 .1 .1 .1 .0
 
-abbrev build-from-at : ℕ → In 7 build-from-kinds.ps
+abbrev build-from-at : ℕ → In 6 build-from-kinds.ps
 build-from-at t =
-    and 7 build-from-kinds.ps (is 7 build-from-kinds.ps μ-build-from t) build-from.Pre
+    and 6 build-from-kinds.ps (is 6 build-from-kinds.ps μ-build-from t) build-from.Pre
 
-abbrev build-from-below : ℕ → In 7 build-from-kinds.ps
+abbrev build-from-below : ℕ → In 6 build-from-kinds.ps
 build-from-below t =
-    and 7 build-from-kinds.ps (falls 7 build-from-kinds.ps _<_ μ-build-from t) build-from.Pre
+    and 6 build-from-kinds.ps (falls 6 build-from-kinds.ps _<_ μ-build-from t) build-from.Pre
 
 build-from-rows-of-requires : (t : ℕ) → build-from-lts.Need-rows-of-requires (
   rows-of-reads.Asked,

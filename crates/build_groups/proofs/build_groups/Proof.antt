@@ -10,51 +10,39 @@ use Rattle.build_groups.proofs.aggregate.build_aggregate.Reads as build
 use Rattle.build_groups.proofs.rows.function_rows.Reads as function-rows-reads
 use Rattle.build_groups.proofs.rows.group_rows.Reads as group-rows-reads
 
--- src/lib.rt:38:31
 slice-aggregate-group-rows : tie.Need-slice-aggregate-group-rows
 slice-aggregate-group-rows c = search needs
 
--- src/lib.rt:38:9
 group-rows-requires : tie.Need-group-rows-requires
 group-rows-requires c κs = omega (arith, groups-fit (c .before .before .before .before .before .before .before .pre))
 
--- src/lib.rt:40:61
 slice-aggregate-function-rows : tie.Need-slice-aggregate-function-rows
 slice-aggregate-function-rows c = search needs
 
--- src/lib.rt:40:9
 function-rows-requires : tie.Need-function-rows-requires
 function-rows-requires c κs = omega (arith, functions-fit (c .before .before .before .before .before .before .before .before .before .before .pre))
 
--- src/lib.rt:41:8
 add-if1 : tie.Need-add-if1
 add-if1 c = search needs
 
--- src/lib.rt:42:9
 returns : tie.Need-returns
 returns c = none-stage (c .before .before .before .before .before .before .before .before .before .before .before .before .before .pre) (c .before .before .before .before .before .group-rows .ensures) (c .before .before .function-rows .ensures) 0 (c .if1 .taken)
 
--- src/lib.rt:55:9
 slice-aggregate-build-aggregate : tie.Need-slice-aggregate-build-aggregate
 slice-aggregate-build-aggregate c = search needs
 
--- src/lib.rt:57:9
 slice-aggregate-build-aggregate-2 : tie.Need-slice-aggregate-build-aggregate-2
 slice-aggregate-build-aggregate-2 c = search needs
 
--- src/lib.rt:51:5
 build-aggregate-requires : tie.Need-build-aggregate-requires
 build-aggregate-requires c κs = ((search needs, search needs), some-ready (c .before .before .before .before .before .before .before .before .before .before .before .before .before .before .before .before .before .pre) (c .before .before .before .before .before .before .before .before .before .group-rows .ensures) (c .before .before .before .before .before .before .function-rows .ensures) (c .before .before .before .before .if1 .left))
 
--- src/lib.rt:18:1
 same-length : tie.Need-same-length
 same-length c = search needs
 
--- src/lib.rt:18:1
 same-length-2 : tie.Need-same-length-2
 same-length-2 c = search needs
 
--- src/lib.rt:18:1
 returns-2 : tie.Need-returns-2
 returns-2 c = some-stage (c .before .before .before .before .before .before .before .before .before .before .before .before .before .before .before .before .before .before .before .before .before .before .pre) (c .before .before .before .before .before .before .before .before .before .before .before .before .before .before .group-rows .ensures) (c .before .before .before .before .before .before .before .before .before .before .before .function-rows .ensures) (c .before .before .before .before .before .before .before .before .before .if1 .left) (c .before .before .before .before .build-aggregate .ensures)
 

@@ -13,77 +13,60 @@ use Rattle.build_project.proofs.lone.is_lone.Reads as is-lone-reads
 use Rattle.build_projection.proofs.projection.put_items.Reads as put-items-reads
 use Rattle.plan.proofs.parts.begin_project.Reads as begin-project-reads
 
--- src/lib.rt:53:8
 is-lone-requires : tie.Need-is-lone-requires
 is-lone-requires c κs = search needs
 
--- src/lib.rt:54:9
 returns : tie.Need-returns
 returns c = stage-lone (c .before .before .before .before .before .before .before .before .before .pre) _ (λ a b. sym (c .if1 .taken) ∙ c .before .is-lone .ensures a b) refl refl refl refl refl
 
--- src/lib.rt:63:37
 sub-begin-project : tie.Need-sub-begin-project
 sub-begin-project c = search needs
 
--- src/lib.rt:63:9
 begin-project-requires : tie.Need-begin-project-requires
 begin-project-requires c κs = search needs
 
--- src/lib.rt:80:9
 slice-aggregate-put-items : tie.Need-slice-aggregate-put-items
 slice-aggregate-put-items c = search needs
 
--- src/lib.rt:65:9
 put-items-requires : tie.Need-put-items-requires
 put-items-requires c κs = (
   refl,
   items-fit (c .before .before .before .before .before .before .before .before .before .before .before .before .before .before .before .before .before .before .before .before .before .before .before .pre) (c .before .before .before .before .before .before .before .before .before .before .before .before .begin-project .ensures) (λ a b. sym (c .before .before .before .before .before .before .before .before .before .before .before .before .before .before .if1 .left) ∙ c .before .before .before .before .before .before .before .before .before .before .before .before .before .before .before .is-lone .ensures a b),
 )
 
--- src/lib.rt:83:25
 enum-known-pushed : tie.Need-enum-known-pushed
 enum-known-pushed c = search needs
 
--- src/lib.rt:91:22
 enum-known-pushed-2 : tie.Need-enum-known-pushed-2
 enum-known-pushed-2 c = search needs
 
--- src/lib.rt:97:13
 array-share-prefix-labels : tie.Need-array-share-prefix-labels
 array-share-prefix-labels c = omega (arith, c .before .before .before .before .before .before .before .before .before .before .before .before .before .before .before .before .before .before .before .before .before .before .before .before .before .before .before .before .before .before .before .before .pre .items-ready .few)
 
--- src/lib.rt:97:13
 slice-aggregate-end-projection : tie.Need-slice-aggregate-end-projection
 slice-aggregate-end-projection c = labels-length (c .before .before .before .before .before .before .before .before .before .before .before .before .before .before .before .before .before .before .before .before .before .before .before .before .before .before .before .before .before .before .before .before .before .args .catalog .now) (c .before .before .before .before .before .before .before .before .before .before .before .before .before .before .before .before .before .before .before .before .before .before .before .before .before .before .before .before .before .before .before .before .before .args .statement .now) (c .before .before .before .before .before .before .before .before .before .before .before .before .before .before .before .before .before .before .before .before .before .before .before .before .before .before .before .before .before .before .before .before .before .args .cells .now) (c .before .before .before .before .before .before .before .before .before .before .before .before .before .before .before .before .before .before .before .before .before .before .before .before .before .before .before .before .before .before .before .before .before .args .parts .now) (c .before .before .before .before .before .before .before .before .before .before .before .before .before .before .before .before .before .before .before .before .before .before .before .before .before .before .before .before .before .before .before .before .before .args .t6) (c .before .before .before .before .before .before .before .before .before .before .before .before .before .before .before .before .before .before .before .before .before .before .before .before .before .before .before .before .before .before .before .before .before .args .items .now) (c .before .before .before .before .before .before .before .before .before .put-items .ensures .1 .is _ _ (c .before .before .pushed2 .given .1))
 
--- src/lib.rt:91:33
 end-projection-requires : tie.Need-end-projection-requires
 end-projection-requires c κs = (
   end-ready (c .before .before .before .before .before .before .before .before .before .before .before .before .before .before .before .before .before .before .before .before .before .before .before .before .before .before .before .before .before .before .before .before .before .before .before .pre) (c .before .before .before .before .before .before .before .before .before .before .before .before .before .before .before .before .before .before .before .before .before .before .before .before .begin-project .ensures) (λ a b. sym (c .before .before .before .before .before .before .before .before .before .before .before .before .before .before .before .before .before .before .before .before .before .before .before .before .before .before .if1 .left) ∙ c .before .before .before .before .before .before .before .before .before .before .before .before .before .before .before .before .before .before .before .before .before .before .before .before .before .before .before .is-lone .ensures a b) (c .before .before .before .before .before .before .before .before .before .before .before .put-items .ensures .0) _ _ (c .before .before .before .before .pushed2 .given .1) (c .before .before .before .before .before .before .before .before .before .before .before .put-items .kept .1 .1 .1 .1 .1 .1 .1 .1 .1 .1 .0),
   c .before .before .before .before .before .before .before .before .before .before .before .put-items .ensures .1 .is _ _ (c .before .before .before .before .pushed2 .given .1),
 )
 
--- src/lib.rt:29:1
 same-length : tie.Need-same-length
 same-length c = search needs
 
--- src/lib.rt:29:1
 same-length-2 : tie.Need-same-length-2
 same-length-2 c = search needs
 
--- src/lib.rt:29:1
 returns-2 : tie.Need-returns-2
 returns-2 c = stage-refused (c .before .before .before .before .before .before .before .before .before .before .before .before .before .before .before .before .before .before .before .before .before .before .before .before .before .before .before .before .before .before .before .before .pre) (c .before .before .before .before .before .before .before .before .before .before .before .before .before .before .before .before .before .before .before .before .before .begin-project .ensures) (λ a b. sym (c .before .before .before .before .before .before .before .before .before .before .before .before .before .before .before .before .before .before .before .before .before .before .before .if1 .left) ∙ c .before .before .before .before .before .before .before .before .before .before .before .before .before .before .before .before .before .before .before .before .before .before .before .before .is-lone .ensures a b) (c .before .before .before .before .before .before .before .before .put-items .ensures .0) _ _ _ (c .before .pushed .given .1) (c .before .before .before .before .before .before .before .before .put-items .kept .1 .1 .1 .1 .1 .1 .1 .1 .1 .1 .0) (c .before .before .before .before .before .before .before .before .put-items .kept .1 .1 .1 .1 .1 .1 .1 .1 .1 .1 .1 .1 .0) refl refl
 
--- src/lib.rt:29:1
 same-length-3 : tie.Need-same-length-3
 same-length-3 c = search needs
 
--- src/lib.rt:29:1
 same-length-4 : tie.Need-same-length-4
 same-length-4 c = c .before .before .before .before .end-projection .kept .1 .1 .1 .1 .1 .1 .1 .1 .1 .0 ∙ c .before .before .before .before .before .before .before .before .before .before .before .before .before .before .before .before .put-items .kept .1 .1 .1 .1 .1 .1 .1 .1 .1 .1 .1 .1 .0 ∙ c .before .before .before .before .before .before .before .before .before .before .before .before .before .before .before .before .before .before .before .before .before .before .before .before .before .before .before .before .before .begin-project .kept .0
 
--- src/lib.rt:29:1
 returns-3 : tie.Need-returns-3
 returns-3 c = stage-ended (c .before .before .before .before .before .before .before .before .before .before .before .before .before .before .before .before .before .before .before .before .before .before .before .before .before .before .before .before .before .before .before .before .before .before .before .before .before .before .before .before .pre) (c .before .before .before .before .before .before .before .before .before .before .before .before .before .before .before .before .before .before .before .before .before .before .before .before .before .before .before .before .before .begin-project .ensures) (λ a b. sym (c .before .before .before .before .before .before .before .before .before .before .before .before .before .before .before .before .before .before .before .before .before .before .before .before .before .before .before .before .before .before .before .if1 .left) ∙ c .before .before .before .before .before .before .before .before .before .before .before .before .before .before .before .before .before .before .before .before .before .before .before .before .before .before .before .before .before .before .before .before .is-lone .ensures a b) (c .before .before .before .before .before .before .before .before .before .before .before .before .before .before .before .before .put-items .ensures .0) _ _ (c .before .before .before .before .before .before .before .before .before .pushed2 .given .1) (c .before .before .before .before .before .before .before .before .before .before .before .before .before .before .before .before .put-items .kept .1 .1 .1 .1 .1 .1 .1 .1 .1 .1 .0) _ (c .before .before .before .before .end-projection .ensures)
 

@@ -21,53 +21,41 @@ Inv-loop t a n x v₀ i₀ v i = (v < 16 ^ i) × (lines.hexDigits v (drop i x) �
 abbrev μ-loop : tie.MeasureT-loop
 μ-loop t a n x v₀ i₀ v i = length x - i
 
--- src/lib.rt:95:9
 part-requires : tie.Need-part-requires Inv-loop μ-loop
 part-requires c κs = search needs
 
--- src/lib.rt:97:9
 returns : tie.Need-returns Inv-loop μ-loop
 unfolding bitsOf
 returns c = rw (← c .before .part .ensures) (sym (float-length _ (c .if1 .taken)))
 
--- src/lib.rt:101:5
 loop-holds : tie.Need-loop-holds Inv-loop μ-loop
 loop-holds c = search needs
 
--- src/lib.rt:102:27
 shared-slice-read-hex-digit : tie.Need-shared-slice-read-hex-digit Inv-loop μ-loop
 shared-slice-read-hex-digit c = search needs
 
--- src/lib.rt:102:13
 hex-digit-requires : tie.Need-hex-digit-requires Inv-loop μ-loop
 hex-digit-requires c κs = search needs
 
--- src/lib.rt:104:13
 returns-2 : tie.Need-returns-2 Inv-loop μ-loop
 unfolding bitsOf
 returns-2 c = sym (hex-wrong _ _ _ _ (c .before .before .before .loop-test .taken) (c .before .hex-digit .ensures .0) (c .if2 .taken)) ∙ c .before .before .before .before .loop .inv .1 ∙ rw (← c .before .before .before .before .before .before .part .ensures) (sym (float-digits _ (omega arith)))
 
--- src/lib.rt:106:13
 mul-v : tie.Need-mul-v Inv-loop μ-loop
 mul-v c = omega (arith, room _ _ 0 (c .before .before .before .before .loop .inv .0) (omega arith) (omega arith))
 
--- src/lib.rt:106:13
 add-v : tie.Need-add-v Inv-loop μ-loop
 add-v c = omega (arith, room _ _ _ (c .before .before .before .before .loop .inv .0) (omega arith) (c .if2 .left))
 
--- src/lib.rt:107:9
 add-i : tie.Need-add-i Inv-loop μ-loop
 add-i c = search needs
 
--- src/lib.rt:101:5
 loop-less : tie.Need-loop-less Inv-loop μ-loop
 loop-less c = search needs
 
--- src/lib.rt:101:5
 loop-again : tie.Need-loop-again Inv-loop μ-loop
 loop-again c = (power-step _ _ _ (c .before .before .before .before .loop .inv .0) (c .if2 .left), hex-step _ _ _ _ (c .before .before .before .loop-test .taken) (c .before .hex-digit .ensures .0) (c .if2 .left) ∙ c .before .before .before .before .loop .inv .1)
 
--- src/lib.rt:92:1
 returns-3 : tie.Need-returns-3 Inv-loop μ-loop
 unfolding bitsOf
 returns-3 c = sym (hex-end _ _ _ (c .loop-test .left)) ∙ c .before .loop .inv .1 ∙ rw (← c .before .before .before .part .ensures) (sym (float-digits _ (omega arith)))

@@ -8,35 +8,27 @@ use Rattle.literal.proofs.hex_digit.Tie as tie
 use Rattle.literal.proofs.hex_digit.Reads as reads
 use Rattle.literal.proofs.hex_digit.Lts as lts
 
--- src/lib.rt:77:9
 returns : tie.Need-returns
 returns c = (hex-low _ (c .if1 .taken), omega arith)
 
--- src/lib.rt:80:16
 cast-result : tie.Need-cast-result
 cast-result c = search needs
 
--- src/lib.rt:80:9
 returns-2 : tie.Need-returns-2
 returns-2 c = (hex-digit _ _ (c .before .if1 .left) (c .if2 .taken) refl, omega arith)
 
--- src/lib.rt:83:9
 returns-3 : tie.Need-returns-3
 returns-3 c = (hex-between _ (c .before .if2 .left) (c .if3 .taken), omega arith)
 
--- src/lib.rt:86:16
 cast-result-2 : tie.Need-cast-result-2
 cast-result-2 c = search needs
 
--- src/lib.rt:86:16
 add-result : tie.Need-add-result
 add-result c = search needs
 
--- src/lib.rt:86:9
 returns-4 : tie.Need-returns-4
 returns-4 c = (hex-letter _ _ (c .before .if3 .left) (c .if4 .taken) refl, omega arith)
 
--- src/lib.rt:73:1
 returns-5 : tie.Need-returns-5
 returns-5 c = (hex-high _ (c .if4 .left), omega arith)
 

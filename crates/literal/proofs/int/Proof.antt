@@ -13,48 +13,37 @@ use Rattle.literal.proofs.positive.Reads as positive-reads
 use Rattle.text.proofs.decimal.Reads as decimal-reads
 use Rattle.text.proofs.part.Reads as part-reads
 
--- src/lib.rt:59:9
 part-requires : tie.Need-part-requires
 part-requires c κs = search needs
 
--- src/lib.rt:62:9
 returns : tie.Need-returns
 unfolding bitsOf mapOption
 returns c = rw (← c .before .part .ensures) (sym (integer-empty _ (c .if1 .taken)))
 
--- src/lib.rt:64:8
 shared-slice-read-if2 : tie.Need-shared-slice-read-if2
 shared-slice-read-if2 c = search needs
 
--- src/lib.rt:65:42
 add-decimal : tie.Need-add-decimal
 add-decimal c = search needs
 
--- src/lib.rt:65:13
 decimal-requires : tie.Need-decimal-requires
 decimal-requires c κs = search needs
 
--- src/lib.rt:66:9
 negative-requires : tie.Need-negative-requires
 negative-requires c κs = search needs
 
--- src/lib.rt:66:9
 returns-2 : tie.Need-returns-2
 returns-2 c = c .negative .ensures ∙ rw (← c .before .before .before .before .before .part .ensures) (integer-minus _ _ _ refl (c .before .before .before .before .if1 .left) (c .before .before .if2 .taken) (c .before .decimal .ensures))
 
--- src/lib.rt:68:38
 add-decimal-2 : tie.Need-add-decimal-2
 add-decimal-2 c = search needs
 
--- src/lib.rt:68:9
 decimal-requires-2 : tie.Need-decimal-requires-2
 decimal-requires-2 c κs = search needs
 
--- src/lib.rt:69:5
 positive-requires : tie.Need-positive-requires
 positive-requires c κs = search needs
 
--- src/lib.rt:56:1
 returns-3 : tie.Need-returns-3
 returns-3 c = c .positive .ensures ∙ rw (← c .before .before .before .before .before .part .ensures) (integer-plain _ _ _ refl (c .before .before .before .before .if1 .left) (c .before .before .if2 .left) (c .before .decimal2 .ensures))
 

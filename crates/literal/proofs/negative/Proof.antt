@@ -9,38 +9,30 @@ use Rattle.literal.proofs.negative.Reads as reads
 use Rattle.literal.proofs.negative.Lts as lts
 use Rattle.std.proofs.num.wrapping_sub_u64.Reads as wrapping-sub-u64-reads
 
--- src/lib.rt:42:23
 enum-known-d : tie.Need-enum-known-d
 enum-known-d c = search needs
 
--- src/lib.rt:43:16
 add-if1 : tie.Need-add-if1
 add-if1 c = search needs
 
--- src/lib.rt:44:17
 returns : tie.Need-returns
 unfolding bitsOf
 returns c = negative-large _ _ (c .before .before .d .given .1) (c .if1 .taken)
 
--- src/lib.rt:47:17
 returns-2 : tie.Need-returns-2
 unfolding bitsOf
 returns-2 c = negative-zero _ _ (c .before .before .before .d .given .1) (c .if2 .taken)
 
--- src/lib.rt:49:25
 wrapping-sub-u64-requires : tie.Need-wrapping-sub-u64-requires
 wrapping-sub-u64-requires c κs = search needs
 
--- src/lib.rt:51:26
 enum-told : tie.Need-enum-told
 enum-told c = search needs
 
--- src/lib.rt:38:1
 returns-3 : tie.Need-returns-3
 unfolding bitsOf
 returns-3 c = negative-in _ _ (c .before .before .before .before .d .given .1) _ (c .before .before .if1 .left) (c .before .if2 .left) (c .wrapping-sub-u64 .ensures) (omega arith)
 
--- src/lib.rt:38:1
 returns-4 : tie.Need-returns-4
 unfolding bitsOf
 returns-4 c = none-negative _ (c .enum-told .given .1)

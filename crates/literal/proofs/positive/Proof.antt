@@ -8,25 +8,20 @@ use Rattle.literal.proofs.positive.Tie as tie
 use Rattle.literal.proofs.positive.Reads as reads
 use Rattle.literal.proofs.positive.Lts as lts
 
--- src/lib.rt:27:23
 enum-known-d : tie.Need-enum-known-d
 enum-known-d c = search needs
 
--- src/lib.rt:29:17
 returns : tie.Need-returns
 unfolding bitsOf
 returns c = positive-large _ _ (c .before .before .d .given .1) (c .if1 .taken)
 
--- src/lib.rt:33:26
 enum-told : tie.Need-enum-told
 enum-told c = search needs
 
--- src/lib.rt:23:1
 returns-2 : tie.Need-returns-2
 unfolding bitsOf
 returns-2 c = positive-in _ _ (c .before .before .d .given .1) (c .if1 .left)
 
--- src/lib.rt:23:1
 returns-3 : tie.Need-returns-3
 unfolding bitsOf
 returns-3 c = none-positive _ (c .enum-told .given .1)

@@ -11,111 +11,84 @@ use Rattle.build_groups.proofs.aggregate.build_retained.Lts as lts
 use Rattle.build_aggregate.proofs.node.build_node.Reads as build-node-reads
 use Rattle.scope.proofs.Scope.add_aggregates.Reads as add-aggregates-reads
 
--- src/aggregate.rt:74:9
 sub-build-node : tie.Need-sub-build-node
 sub-build-node c = search needs
 
--- src/aggregate.rt:74:9
 part-build-node-start : tie.Need-part-build-node-start
 part-build-node-start c = search needs
 
--- src/aggregate.rt:74:9
 part-build-node-end : tie.Need-part-build-node-end
 part-build-node-end c = search needs
 
--- src/aggregate.rt:75:9
 mul-build-node : tie.Need-mul-build-node
 mul-build-node c = search needs
 
--- src/aggregate.rt:75:9
 sub-build-node-2 : tie.Need-sub-build-node-2
 sub-build-node-2 c = search needs
 
--- src/aggregate.rt:75:9
 part-build-node-start-2 : tie.Need-part-build-node-start-2
 part-build-node-start-2 c = search needs
 
--- src/aggregate.rt:75:9
 part-build-node-end-2 : tie.Need-part-build-node-end-2
 part-build-node-end-2 c = search needs
 
--- src/aggregate.rt:81:9
 sub-build-node-3 : tie.Need-sub-build-node-3
 sub-build-node-3 c = search needs
 
--- src/aggregate.rt:70:9
 build-node-requires : tie.Need-build-node-requires
 build-node-requires c κs = (kept-cells (c .before .before .before .before .before .before .before .before .before .before .before .before .before .before .before .before .before .pre) (front-rows (c .before .before .before .before .before .before .before .before .before .before .before .before .before .before .before .before .before .args .rows .groups) (c .before .before .before .before .before .before .before .before .before .before .before .before .before .before .before .before .before .args .kept .now)), (kept-room (c .before .before .before .before .before .before .before .before .before .before .before .before .before .before .before .before .before .pre) (front-rows (c .before .before .before .before .before .before .before .before .before .before .before .before .before .before .before .before .before .args .rows .groups) (c .before .before .before .before .before .before .before .before .before .before .before .before .before .before .before .before .before .args .kept .now)), c .before .before .before .before .before .before .before .before .before .before .before .before .before .before .before .before .before .pre .nodes-most))
 
--- src/aggregate.rt:88:26
 enum-known-built : tie.Need-enum-known-built
 enum-known-built c = search needs
 
--- src/aggregate.rt:96:23
 enum-known-built-2 : tie.Need-enum-known-built-2
 enum-known-built-2 c = search needs
 
--- src/aggregate.rt:97:73
 sub-add-aggregates : tie.Need-sub-add-aggregates
 sub-add-aggregates c = search needs
 
--- src/aggregate.rt:97:73
 part-add-aggregates-start : tie.Need-part-add-aggregates-start
 part-add-aggregates-start c = search needs
 
--- src/aggregate.rt:97:73
 part-add-aggregates-end : tie.Need-part-add-aggregates-end
 part-add-aggregates-end c = search needs
 
--- src/aggregate.rt:97:17
 add-aggregates-requires : tie.Need-add-aggregates-requires
 add-aggregates-requires c κs = kept-aggregable (c .before .before .before .before .before .before .before .before .before .before .before .before .before .before .before .before .before .before .before .before .before .before .before .before .before .before .pre) (front-rows (c .before .before .before .before .before .before .before .before .before .before .before .before .before .before .before .before .before .before .before .before .before .before .before .before .before .before .args .rows .groups) (c .before .before .before .before .before .before .before .before .before .before .before .before .before .before .before .before .before .before .before .before .before .before .before .before .before .before .args .kept .now)) (front-rows (c .before .before .before .before .before .before .before .before .before .before .before .before .before .before .before .before .before .before .before .before .before .before .before .before .before .before .args .rows .all) (c .before .before .before .before .before .before .before .before .before .before .before .before .before .before .before .before .before .before .before .before .before .before .before .before .before .before .args .kept .now)) (built-few (c .before .before .before .before .before .before .before .before .before .before .before .before .before .before .before .before .before .before .before .before .before .before .before .before .before .before .args .t6) _ (c .before .before .before .before .before .before .before .before .build-node .ensures) (c .before .before .built2 .given .1))
 
--- src/aggregate.rt:103:20
 add-t49 : tie.Need-add-t49
 add-t49 c = omega (arith, c .before .before .before .before .before .before .before .before .before .before .before .before .before .before .before .before .before .before .before .before .before .before .before .before .before .before .before .pre .in-use, c .before .before .before .before .before .before .before .before .before .before .before .before .before .before .before .before .before .before .before .before .before .before .before .before .before .before .before .pre .nodes-room, c .before .before .before .before .before .before .before .before .before .before .before .before .before .before .before .before .before .before .before .before .before .before .before .before .before .before .before .pre .nodes-most)
 
--- src/aggregate.rt:104:20
 add-t46 : tie.Need-add-t46
 add-t46 c = omega (arith, c .before .before .before .before .before .before .before .before .before .before .before .before .before .before .before .before .before .before .before .before .before .before .before .before .before .before .before .pre .nodes-room, c .before .before .before .before .before .before .before .before .before .before .before .before .before .before .before .before .before .before .before .before .before .before .before .before .before .before .before .pre .nodes-most)
 
--- src/aggregate.rt:104:20
 add-t50 : tie.Need-add-t50
 add-t50 c = omega (arith, c .before .before .before .before .before .before .before .before .before .before .before .before .before .before .before .before .before .before .before .before .before .before .before .before .before .before .before .pre .nodes-room, c .before .before .before .before .before .before .before .before .before .before .before .before .before .before .before .before .before .before .before .before .before .before .before .before .before .before .before .pre .nodes-most)
 
--- src/aggregate.rt:104:62
 sub-t51 : tie.Need-sub-t51
 sub-t51 c = omega (arith, c .before .before .before .before .before .before .before .before .before .before .before .before .before .before .before .before .before .before .before .before .before .before .before .before .before .before .before .pre .order)
 
--- src/aggregate.rt:104:45
 mul-t52 : tie.Need-mul-t52
 mul-t52 c = search needs
 
--- src/aggregate.rt:104:20
 add-t53 : tie.Need-add-t53
 add-t53 c = omega (arith, c .before .before .before .before .before .before .before .before .before .before .before .before .before .before .before .before .before .before .before .before .before .before .before .before .before .before .before .pre .nodes-room, c .before .before .before .before .before .before .before .before .before .before .before .before .before .before .before .before .before .before .before .before .before .before .before .before .before .before .before .pre .nodes-most)
 
--- src/aggregate.rt:50:1
 same-length : tie.Need-same-length
 same-length c = search needs
 
--- src/aggregate.rt:50:1
 same-length-2 : tie.Need-same-length-2
 same-length-2 c = search needs
 
--- src/aggregate.rt:50:1
 returns : tie.Need-returns
 returns c = λ gs fs h t. built-refused (c .before .before .before .before .before .before .before .before .before .before .before .before .before .before .before .before .before .before .before .before .before .before .before .before .before .args .t6) gs fs t _ _ _ (c .before .before .before .before .before .before .before .build-node .ensures) ((front-rows (c .before .before .before .before .before .before .before .before .before .before .before .before .before .before .before .before .before .before .before .before .before .before .before .before .before .args .rows .groups) (c .before .before .before .before .before .before .before .before .before .before .before .before .before .before .before .before .before .before .before .before .before .before .before .before .before .args .kept .now)) ∙ kept-groups h) (kept-functions h) _ _ (c .before .built .given .1) _ _ _
 
--- src/aggregate.rt:50:1
 same-length-3 : tie.Need-same-length-3
 same-length-3 c = search needs
 
--- src/aggregate.rt:50:1
 same-length-4 : tie.Need-same-length-4
 same-length-4 c = search needs
 
--- src/aggregate.rt:50:1
 returns-2 : tie.Need-returns-2
 returns-2 c = λ gs fs h t. built-done (c .before .before .before .before .before .before .before .before .before .before .before .before .before .before .before .before .before .before .before .before .before .before .before .before .before .before .before .args .t6) gs fs t _ _ _ (c .before .before .before .before .before .before .before .before .before .build-node .ensures) ((front-rows (c .before .before .before .before .before .before .before .before .before .before .before .before .before .before .before .before .before .before .before .before .before .before .before .before .before .before .before .args .rows .groups) (c .before .before .before .before .before .before .before .before .before .before .before .before .before .before .before .before .before .before .before .before .before .before .before .before .before .before .before .args .kept .now)) ∙ kept-groups h) (kept-functions h) _ (c .before .before .before .built2 .given .1) refl _ _ _ _ (kept-end (c .before .before .before .before .before .before .before .before .before .before .before .before .before .before .before .before .before .before .before .before .before .before .before .before .before .before .before .pre) (front-rows (c .before .before .before .before .before .before .before .before .before .before .before .before .before .before .before .before .before .before .before .before .before .before .before .before .before .before .before .args .rows .groups) (c .before .before .before .before .before .before .before .before .before .before .before .before .before .before .before .before .before .before .before .before .before .before .before .before .before .before .before .args .kept .now))) ((front-rows (c .before .before .before .before .before .before .before .before .before .before .before .before .before .before .before .before .before .before .before .before .before .before .before .before .before .before .before .args .rows .all) (c .before .before .before .before .before .before .before .before .before .before .before .before .before .before .before .before .before .before .before .before .before .before .before .before .before .before .before .args .kept .now)) ∙ h .rows) (c .add-aggregates .ensures)
 

@@ -8,31 +8,24 @@ use Rattle.build_groups.proofs.rows.collect_at.Reads as reads
 use Rattle.build_groups.proofs.rows.collect_at.Lts as lts
 use Rattle.ast.proofs.walk.collect.Reads as collect-reads
 
--- src/rows.rt:48:9
 collect-requires : tie.Need-collect-requires
 collect-requires c κs = search needs
 
--- src/rows.rt:50:25
 enum-known-collected : tie.Need-enum-known-collected
 enum-known-collected c = search needs
 
--- src/rows.rt:51:30
 enum-told : tie.Need-enum-told
 enum-told c = search needs
 
--- src/rows.rt:36:1
 same-length : tie.Need-same-length
 same-length c = search needs
 
--- src/rows.rt:36:1
 returns : tie.Need-returns
 returns c = collected-rows _ _ _ (c .before .before .before .before .before .collect .ensures .0) (c .before .before .before .before .before .collect .ensures .1) (c .before .before .before .before .before .before .before .before .before .before .before .pre) _ (c .before .collected .given .1)
 
--- src/rows.rt:36:1
 same-length-2 : tie.Need-same-length-2
 same-length-2 c = search needs
 
--- src/rows.rt:36:1
 returns-2 : tie.Need-returns-2
 returns-2 c = collected-full (collectRows (c .before .before .before .before .before .before .before .before .before .before .args .catalog .now) (c .before .before .before .before .before .before .before .before .before .before .args .statement .now) (c .before .before .before .before .before .before .before .before .before .before .args .cells .now) (c .before .before .before .before .before .before .before .before .before .before .args .r)) (c .before .before .before .before .before .before .before .before .before .before .args .rows .now) (c .before .before .before .before .before .before .before .before .before .before .args .k) (c .before .before .before .before .collect .ensures .0) (c .before .before .before .before .collect .ensures .1) (c .before .before .before .before .before .before .before .before .before .before .pre) (c .enum-told .given .1)
 

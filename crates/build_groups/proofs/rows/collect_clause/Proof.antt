@@ -11,27 +11,21 @@ use Rattle.build_groups.proofs.rows.collect_clause.Reads as reads
 use Rattle.build_groups.proofs.rows.collect_clause.Lts as lts
 use Rattle.build_groups.proofs.rows.collect_at.Reads as collect-at-reads
 
--- src/rows.rt:98:28
 enum-told : tie.Need-enum-told
 enum-told c = search needs
 
--- src/rows.rt:99:27
 enum-known-clause : tie.Need-enum-known-clause
 enum-known-clause c = search needs
 
--- src/rows.rt:99:33
 collect-at-requires : tie.Need-collect-at-requires
 collect-at-requires c κs = omega (arith, c .before .before .before .before .before .before .before .before .pre, ap length (clause-stands (c .before .before .before .before .before .before .before .before .args .catalog .now) (c .before .before .before .before .before .before .before .before .args .statement .now) (c .before .before .before .before .before .before .before .before .args .cells .now) (c .before .before .clause .given .0 .0) (c .before .before .clause .given .0 .1 .0) (c .before .before .clause .given .1)))
 
--- src/rows.rt:83:1
 returns : tie.Need-returns
 returns c = appended-as (sym (clause-missing _ _ _ (c .enum-told .given .1))) (appended-none _ _ (omega (arith, c .before .before .before .before .before .before .pre)))
 
--- src/rows.rt:83:1
 same-length : tie.Need-same-length
 same-length c = search needs
 
--- src/rows.rt:83:1
 returns-2 : tie.Need-returns-2
 returns-2 c = appended-as (sym (clause-stands _ _ _ _ _ (c .before .before .before .before .before .clause .given .1))) (c .before .before .collect-at .ensures)
 

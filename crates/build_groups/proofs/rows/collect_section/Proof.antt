@@ -25,43 +25,33 @@ Inv-loop catalog statement cells parts kind rows₀ k n x₀ i₀ rows x i =
 abbrev μ-loop : tie.MeasureT-loop
 μ-loop catalog statement cells parts kind rows₀ k n x₀ i₀ rows x i = n - i
 
--- src/rows.rt:71:9
 count-requires : tie.Need-count-requires Inv-loop μ-loop
 count-requires c κs = search needs
 
--- src/rows.rt:74:5
 loop-holds : tie.Need-loop-holds Inv-loop μ-loop
 loop-holds c = (search needs, search needs, appending-begin _ _ _ _ (ap (collectEachRows (c .before .before .before .before .before .before .args .catalog .now) (c .before .before .before .before .before .before .args .statement .now) (c .before .before .before .before .before .before .args .cells .now)) (section-entries _ _ _ (c .count .ensures))) (search needs))
 
--- src/rows.rt:75:13
 entry-at-requires : tie.Need-entry-at-requires Inv-loop μ-loop
 entry-at-requires c κs = search needs
 
--- src/rows.rt:76:51
 first-row-requires : tie.Need-first-row-requires Inv-loop μ-loop
 first-row-requires c κs = search needs
 
--- src/rows.rt:76:9
 collect-at-requires : tie.Need-collect-at-requires Inv-loop μ-loop
 collect-at-requires c κs = collect-room _ _ _ _ _ _ _ (c .before .before .before .before .loop .inv .2) _ _ (c .before .before .before .loop-test .taken) (c .before .before .entry-at .ensures) (c .before .first-row .ensures) (c .before .before .before .before .loop .inv .0)
 
--- src/rows.rt:77:9
 add-i : tie.Need-add-i Inv-loop μ-loop
 add-i c = search needs
 
--- src/rows.rt:74:5
 loop-less : tie.Need-loop-less Inv-loop μ-loop
 loop-less c = search needs
 
--- src/rows.rt:74:5
 loop-again : tie.Need-loop-again Inv-loop μ-loop
 loop-again c = (search needs, search needs, collect-put _ _ _ _ _ _ _ (c .before .before .before .before .before .before .before .loop .inv .2) _ _ (c .before .before .before .before .before .before .loop-test .taken) (c .before .before .before .before .before .entry-at .ensures) (c .before .before .before .before .first-row .ensures) (c .before .before .collect-at .ensures))
 
--- src/rows.rt:56:1
 same-length : tie.Need-same-length Inv-loop μ-loop
 same-length c = search needs
 
--- src/rows.rt:56:1
 returns : tie.Need-returns Inv-loop μ-loop
 returns c = collect-end _ _ _ _ _ _ _ (c .before .loop .inv .2) (c .loop-test .left)
 

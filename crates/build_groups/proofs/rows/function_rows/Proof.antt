@@ -11,27 +11,21 @@ use Rattle.build_groups.proofs.rows.collect_clause.Reads as collect-cla
 use Rattle.build_groups.proofs.rows.collect_section.Reads as collect-section-reads
 use Rattle.statement.proofs.access.clause_at.Reads as clause-at-reads
 
--- src/rows.rt:116:9
 collect-section-requires : tie.Need-collect-section-requires
 collect-section-requires c κs = omega (arith, functions-length (c .before .before .before .before .before .before .args .catalog .now) (c .before .before .before .before .before .before .args .statement .now) (c .before .before .before .before .before .before .args .cells .now) (c .before .before .before .before .before .before .args .parts .now) refl, c .before .before .before .before .before .before .pre)
 
--- src/rows.rt:117:9
 clause-at-requires : tie.Need-clause-at-requires
 clause-at-requires c κs = search needs
 
--- src/rows.rt:118:9
 collect-clause-requires : tie.Need-collect-clause-requires
 collect-clause-requires c κs = omega (arith, functions-length (c .before .before .before .before .before .before .before .before .before .before .before .args .catalog .now) (c .before .before .before .before .before .before .before .before .before .before .before .args .statement .now) (c .before .before .before .before .before .before .before .before .before .before .before .args .cells .now) (c .before .before .before .before .before .before .before .before .before .before .before .args .parts .now) (c .before .clause-at .ensures), c .before .before .before .before .before .before .before .before .before .before .before .pre, c .before .before .before .before .collect-section .ensures .next, c .before .before .before .before .collect-section .ensures .all)
 
--- src/rows.rt:119:5
 collect-section-requires-2 : tie.Need-collect-section-requires-2
 collect-section-requires-2 c κs = omega (arith, functions-length (c .before .before .before .before .before .before .before .before .before .before .before .before .before .before .before .args .catalog .now) (c .before .before .before .before .before .before .before .before .before .before .before .before .before .before .before .args .statement .now) (c .before .before .before .before .before .before .before .before .before .before .before .before .before .before .before .args .cells .now) (c .before .before .before .before .before .before .before .before .before .before .before .before .before .before .before .args .parts .now) (c .before .before .before .before .before .clause-at .ensures), c .before .before .before .before .before .before .before .before .before .before .before .before .before .before .before .pre, c .before .before .before .before .before .before .before .before .collect-section .ensures .next, c .before .before .before .before .before .before .before .before .collect-section .ensures .all, c .before .before .before .collect-clause .ensures .next, c .before .before .before .collect-clause .ensures .all)
 
--- src/rows.rt:104:1
 same-length : tie.Need-same-length
 same-length c = search needs
 
--- src/rows.rt:104:1
 returns : tie.Need-returns
 returns c = functions-appended _ _ _ _ (c .before .before .before .before .before .before .before .before .clause-at .ensures) (c .before .before .before .before .before .before .before .before .before .before .before .collect-section .ensures) (c .before .before .before .before .before .before .collect-clause .ensures) (c .before .before .collect-section2 .ensures)
 

@@ -24,55 +24,42 @@ Inv-loop parts rows₀ n i₀ rows i =
 abbrev μ-loop : tie.MeasureT-loop
 μ-loop parts rows₀ n i₀ rows i = n - i
 
--- src/rows.rt:25:9
 count-requires : tie.Need-count-requires Inv-loop μ-loop
 count-requires c κs = search needs
 
--- src/rows.rt:27:5
 loop-holds : tie.Need-loop-holds Inv-loop μ-loop
 loop-holds c = (search needs, search needs, appending-begin _ _ _ _ (section-entries _ _ _ (c .count .ensures)) (search needs))
 
--- src/rows.rt:28:13
 entry-at-requires : tie.Need-entry-at-requires Inv-loop μ-loop
 entry-at-requires c κs = search needs
 
--- src/rows.rt:29:28
 first-row-requires : tie.Need-first-row-requires Inv-loop μ-loop
 first-row-requires c κs = search needs
 
--- src/rows.rt:29:14
 cast-rows : tie.Need-cast-rows Inv-loop μ-loop
 cast-rows c = search needs
 
--- src/rows.rt:29:9
 mul-rows : tie.Need-mul-rows Inv-loop μ-loop
 mul-rows c = search needs
 
--- src/rows.rt:29:9
 slice-write-rows : tie.Need-slice-write-rows Inv-loop μ-loop
 slice-write-rows c = row-room _ _ _ _ (c .before .before .before .loop .inv .2) (c .before .before .loop-test .taken) (search needs)
 
--- src/rows.rt:30:9
 add-i : tie.Need-add-i Inv-loop μ-loop
 add-i c = search needs
 
--- src/rows.rt:27:5
 loop-less : tie.Need-loop-less Inv-loop μ-loop
 loop-less c = search needs
 
--- src/rows.rt:27:5
 loop-again : tie.Need-loop-again Inv-loop μ-loop
 loop-again c = (search needs, search needs, row-put _ _ _ _ (c .before .before .before .loop .inv .2) _ _ (c .before .before .loop-test .taken) (search needs) (c .before .entry-at .ensures) (c .first-row .ensures))
 
--- src/rows.rt:32:5
 cast-result : tie.Need-cast-result Inv-loop μ-loop
 cast-result c = search needs
 
--- src/rows.rt:21:1
 same-length : tie.Need-same-length Inv-loop μ-loop
 same-length c = search needs
 
--- src/rows.rt:21:1
 returns : tie.Need-returns Inv-loop μ-loop
 returns c = rows-end _ _ _ _ (c .before .loop .inv .2) (c .loop-test .left) (omega arith)
 

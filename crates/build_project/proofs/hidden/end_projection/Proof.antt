@@ -11,59 +11,45 @@ use Rattle.build_hidden.proofs.build_select_hidden.Reads as build-select-hidden
 use Rattle.build_project.proofs.projected.project_scope.Reads as project-scope-reads
 use Rattle.plan.proofs.parts.end.Reads as end-reads
 
--- src/hidden.rt:62:9
 project-scope-requires : tie.Need-project-scope-requires
 project-scope-requires c κs = (c .before .before .before .before .before .before .before .before .pre .0 .items-ready, c .before .before .before .before .before .before .before .before .pre .1)
 
--- src/hidden.rt:75:9
 slice-aggregate-build-select-hidden : tie.Need-slice-aggregate-build-select-hidden
 slice-aggregate-build-select-hidden c = search needs
 
--- src/hidden.rt:64:9
 build-select-hidden-requires : tie.Need-build-select-hidden-requires
 build-select-hidden-requires c κs = hideable (c .before .before .before .before .before .before .before .before .before .before .before .before .before .before .before .before .before .pre .0 .items-ready) (c .before .before .before .before .before .before .before .before .project-scope .ensures) (c .before .before .before .before .before .before .before .before .before .before .before .before .before .before .before .before .before .pre .0 .later) _ refl
 
--- src/hidden.rt:79:9
 returns : tie.Need-returns
 returns c = end-wide (c .before .before .before .before .before .before .before .before .before .before .before .before .before .before .before .before .before .before .before .before .before .pre .0 .items-ready) (c .before .before .before .before .before .before .before .before .before .before .before .before .project-scope .ensures) (c .before .before .before .build-select-hidden .ensures) _ _ _ _ _ _ _ (c .if1 .taken) refl refl
 
--- src/hidden.rt:89:38
 cast-positions : tie.Need-cast-positions
 cast-positions c = search needs
 
--- src/hidden.rt:89:25
 array-share-prefix-positions : tie.Need-array-share-prefix-positions
 array-share-prefix-positions c = hidden-within (c .before .before .before .before .before .before .before .before .before .before .before .before .before .before .before .before .before .before .before .before .before .pre .0 .items-ready) (c .before .before .before .before .before .before .before .before .before .before .before .before .project-scope .ensures) (c .before .before .before .build-select-hidden .ensures) (c .if1 .left) refl
 
--- src/hidden.rt:89:25
 slice-aggregate-put-columns : tie.Need-slice-aggregate-put-columns
 slice-aggregate-put-columns c = hidden-count (c .before .before .before .before .before .before .before .before .before .before .before .before .before .before .before .before .before .before .before .before .before .before .pre .0 .items-ready) (c .before .before .before .before .before .before .before .before .before .before .before .before .before .project-scope .ensures) (c .before .before .before .before .build-select-hidden .ensures) (c .before .if1 .left) refl
 
--- src/hidden.rt:89:9
 put-columns-requires : tie.Need-put-columns-requires
 put-columns-requires c κs = put-ready (c .before .before .before .before .before .before .before .before .before .before .before .before .before .before .before .before .before .before .before .before .before .before .before .before .pre .0 .items-ready) (c .before .before .before .before .before .before .before .before .before .before .before .before .before .before .before .project-scope .ensures) (c .before .before .before .before .before .before .build-select-hidden .ensures) (c .before .before .before .if1 .left) (c .before .before .before .before .before .before .before .before .before .before .before .before .before .before .before .before .before .before .before .before .before .before .before .before .pre .0) refl
 
--- src/hidden.rt:90:5
 end-requires : tie.Need-end-requires
 end-requires c κs = end-room (c .before .before .before .before .before .before .before .before .before .before .before .before .before .before .before .before .before .before .before .before .before .before .before .before .before .before .before .before .before .before .pre .0) (c .before .before .before .before .before .put-columns .ensures)
 
--- src/hidden.rt:95:12
 add-t26 : tie.Need-add-t26
 add-t26 c = record { fits = next-cell (c .before .before .before .before .before .before .before .before .before .before .before .before .before .before .before .before .before .before .before .before .before .before .before .before .before .before .before .before .before .before .before .before .before .pre .0 .items-ready) (c .before .before .before .before .before .before .before .before .before .before .before .before .before .before .before .before .before .before .before .before .before .before .before .before .project-scope .ensures) (c .before .before .before .before .before .before .before .before .before .before .before .before .before .before .before .build-select-hidden .ensures) (c .before .before .before .before .before .before .before .before .before .before .before .before .if1 .left) (c .before .before .before .before .before .before .before .before .before .before .before .before .before .before .before .before .before .before .before .before .before .before .before .before .before .before .before .before .before .before .before .before .before .pre .0) }
 
--- src/hidden.rt:96:12
 add-t29 : tie.Need-add-t29
 add-t29 c = record { fits = next-node (c .before .before .before .before .before .before .before .before .before .before .before .before .before .before .before .before .before .before .before .before .before .before .before .before .before .before .before .before .before .before .before .before .before .pre .0) }
 
--- src/hidden.rt:40:1
 same-length : tie.Need-same-length
 same-length c = search needs
 
--- src/hidden.rt:40:1
 same-length-2 : tie.Need-same-length-2
 same-length-2 c = search needs
 
--- src/hidden.rt:40:1
 returns-2 : tie.Need-returns-2
 returns-2 c = end-done (c .before .before .before .before .before .before .before .before .before .before .before .before .before .before .before .before .before .before .before .before .before .before .before .before .before .before .before .before .before .before .before .before .before .pre .0 .items-ready) (c .before .before .before .before .before .before .before .before .before .before .before .before .before .before .before .before .before .before .before .before .before .before .before .before .project-scope .ensures) (c .before .before .before .before .before .before .before .before .before .before .before .before .before .before .before .build-select-hidden .ensures) (c .before .before .before .before .before .before .before .before .before .before .before .before .if1 .left) _ refl (c .before .before .before .before .before .before .before .before .put-columns .ensures) (c .before .before .end .ensures) refl refl refl refl refl
 

@@ -20,55 +20,42 @@ Inv-loop positions area₀ n nodes₀ k j₀ i₀ area nodes j i =
 abbrev μ-loop : tie.MeasureT-loop
 μ-loop positions area₀ n nodes₀ k j₀ i₀ area nodes j i = length positions - i
 
--- src/hidden.rt:31:5
 loop-holds : tie.Need-loop-holds Inv-loop μ-loop
 loop-holds c = putting-begin _ _ _ _ _ (c .before .before .before .pre .0) (c .before .before .before .pre .1)
 
--- src/hidden.rt:32:22
 cast-at : tie.Need-cast-at Inv-loop μ-loop
 cast-at c = record { fits = omega (arith, c .before .loop .inv .room .counted, c .loop-test .taken) }
 
--- src/hidden.rt:32:18
 add-at : tie.Need-add-at Inv-loop μ-loop
 add-at c = record { fits = omega (arith, c .before .loop .inv .room .counted, c .loop-test .taken) }
 
--- src/hidden.rt:33:26
 mul-column : tie.Need-mul-column Inv-loop μ-loop
 mul-column c = search needs
 
--- src/hidden.rt:33:26
 shared-slice-read-column : tie.Need-shared-slice-read-column Inv-loop μ-loop
 shared-slice-read-column c = search needs
 
--- src/hidden.rt:33:9
 column-requires : tie.Need-column-requires Inv-loop μ-loop
 column-requires c κs = room-here (c .before .before .before .loop .inv) (c .before .before .loop-test .taken) refl
 
--- src/hidden.rt:34:9
 item-requires : tie.Need-item-requires Inv-loop μ-loop
 item-requires c κs = space-here (c .before .before .before .before .before .before .before .loop .inv) (c .before .before .before .before .before .before .loop-test .taken)
 
--- src/hidden.rt:35:9
 add-i : tie.Need-add-i Inv-loop μ-loop
 add-i c = record { fits = omega (arith, c .before .before .before .before .before .before .before .before .before .before .loop .inv .room .counted, c .before .before .before .before .before .before .before .before .before .loop-test .taken) }
 
--- src/hidden.rt:31:5
 loop-less : tie.Need-loop-less Inv-loop μ-loop
 loop-less c = search needs
 
--- src/hidden.rt:31:5
 loop-again : tie.Need-loop-again Inv-loop μ-loop
 loop-again c = putting-more (c .before .before .before .before .before .before .before .before .before .before .loop .inv) (c .before .before .before .before .before .before .before .before .before .loop-test .taken) refl (c .before .before .before .before .before .before .column .ensures) (c .before .before .item .ensures none no-alias)
 
--- src/hidden.rt:23:1
 same-length : tie.Need-same-length Inv-loop μ-loop
 same-length c = putting-kept (c .before .loop .inv)
 
--- src/hidden.rt:23:1
 same-length-2 : tie.Need-same-length-2 Inv-loop μ-loop
 same-length-2 c = putting-nodes (c .before .loop .inv)
 
--- src/hidden.rt:23:1
 returns : tie.Need-returns Inv-loop μ-loop
 returns c = putting-end (c .before .loop .inv) (c .loop-test .left)
 

@@ -7,31 +7,24 @@ use Rattle.build_project.proofs.lone.is_lone.Reads as reads
 use Rattle.build_project.proofs.lone.is_lone.Lts as lts
 use Rattle.build_projection.proofs.items.plain_item.Reads as plain-item-reads
 
--- src/lone.rt:15:9
 returns : tie.Need-returns
 returns c = lone-not (c .before .before .before .before .args .cells .now) (c .before .before .before .before .args .parts .now) (c .before .before .before .before .args .items .now) (c .if1 .taken)
 
--- src/lone.rt:17:41
 shared-slice-read-plain-item : tie.Need-shared-slice-read-plain-item
 shared-slice-read-plain-item c = search needs
 
--- src/lone.rt:17:9
 plain-item-requires : tie.Need-plain-item-requires
 plain-item-requires c κs = search needs
 
--- src/lone.rt:19:26
 enum-told : tie.Need-enum-told
 enum-told c = search needs
 
--- src/lone.rt:20:24
 enum-told-2 : tie.Need-enum-told-2
 enum-told-2 c = search needs
 
--- src/lone.rt:11:1
 returns-2 : tie.Need-returns-2
 returns-2 c = lone-missing (c .before .before .before .before .before .before .before .before .args .cells .now) (c .before .before .before .before .before .before .before .before .args .parts .now) (c .before .before .before .before .before .before .before .before .args .items .now) (c .before .before .before .before .if1 .left) (c .before .before .plain-item .ensures) (c .enum-told .given .1)
 
--- src/lone.rt:11:1
 returns-3 : tie.Need-returns-3
 returns-3 c = lone-star (c .before .before .before .before .before .before .before .before .args .cells .now) (c .before .before .before .before .before .before .before .before .args .parts .now) (c .before .before .before .before .before .before .before .before .args .items .now) _ (c .before .before .before .before .if1 .left) (c .before .before .plain-item .ensures) (c .enum-told2 .given .1)
 

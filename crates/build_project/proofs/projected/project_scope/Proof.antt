@@ -6,44 +6,35 @@ use Rattle.build_project.proofs.projected.project_scope.Statement.{stat
 use Rattle.build_project.proofs.projected.project_scope.Tie as tie
 use Rattle.build_project.proofs.projected.project_scope.Reads as reads
 use Rattle.build_project.proofs.projected.project_scope.Lts as lts
-use Rattle.build_project.proofs.projected.is_matched.Reads as is-matched-reads
+use Rattle.scope.proofs.lookup.is_matched.Reads as is-matched-reads
 use Rattle.scope.proofs.Scope.project.Reads as project-reads
 use Rattle.scope.proofs.Scope.project_items.Reads as project-items-reads
 use Rattle.build_project.proofs.rows.item_rows.Reads as item-rows-reads
 
--- src/projected.rt:48:8
 is-matched-requires : tie.Need-is-matched-requires
 is-matched-requires c κs = search needs
 
--- src/projected.rt:50:33
 slice-aggregate-item-rows : tie.Need-slice-aggregate-item-rows
 slice-aggregate-item-rows c = search needs
 
--- src/projected.rt:50:9
 item-rows-requires : tie.Need-item-rows-requires
 item-rows-requires c κs = search needs
 
--- src/projected.rt:51:71
 array-share-prefix-rows : tie.Need-array-share-prefix-rows
 array-share-prefix-rows c = search needs
 
--- src/projected.rt:51:71
 slice-aggregate-project-items : tie.Need-slice-aggregate-project-items
 slice-aggregate-project-items c = rows-length (c .before .before .before .before .before .before .before .before .before .before .before .before .before .before .before .args .parts .now) (c .before .before .before .before .before .before .before .before .before .before .before .before .before .before .before .args .items .now) (c .before .before .item-rows .ensures)
 
--- src/projected.rt:51:9
 project-items-requires : tie.Need-project-items-requires
 project-items-requires c κs = matched-fit (c .before .before .before .before .before .before .before .before .before .before .before .before .before .before .before .pre .0) (c .before .before .before .before .before .is-matched .ensures) (c .before .before .before .before .before .before .before .before .before .before .before .before .before .before .before .pre .1) (c .before .before .before .before .if1 .taken) (c .before .before .item-rows .ensures)
 
--- src/projected.rt:51:9
 returns : tie.Need-returns
 returns c = matched-projected (c .before .before .before .before .before .before .before .before .before .before .before .before .before .before .before .before .pre .0) (c .before .before .before .before .before .before .is-matched .ensures) (c .before .before .before .before .before .before .before .before .before .before .before .before .before .before .before .before .pre .1) (c .before .before .before .item-rows .ensures) (c .project-items .ensures)
 
--- src/projected.rt:53:5
 project-requires : tie.Need-project-requires
 project-requires c κs = plain-fit (c .before .before .before .before .before .before .before .before .before .before .before .pre .0) (c .before .is-matched .ensures) (c .before .before .before .before .before .before .before .before .before .before .before .pre .1) (c .if1 .left)
 
--- src/projected.rt:34:1
 returns-2 : tie.Need-returns-2
 returns-2 c = plain-projected (c .before .before .before .before .before .before .before .before .before .before .before .before .pre .0) (c .before .before .is-matched .ensures) (c .before .before .before .before .before .before .before .before .before .before .before .before .pre .1) (c .project .ensures)
 

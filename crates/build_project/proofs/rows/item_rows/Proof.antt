@@ -21,47 +21,36 @@ Inv-loop parts items rows₀ i₀ rows i =
 abbrev μ-loop : tie.MeasureT-loop
 μ-loop parts items rows₀ i₀ rows i = length items - i
 
--- src/rows.rt:94:5
 loop-holds : tie.Need-loop-holds Inv-loop μ-loop
 loop-holds c = (search needs, search needs, copying-begin _ (search needs) refl)
 
--- src/rows.rt:95:35
 mul-item-row : tie.Need-mul-item-row Inv-loop μ-loop
 mul-item-row c = search needs
 
--- src/rows.rt:95:35
 shared-slice-read-item-row : tie.Need-shared-slice-read-item-row Inv-loop μ-loop
 shared-slice-read-item-row c = search needs
 
--- src/rows.rt:95:19
 item-row-requires : tie.Need-item-row-requires Inv-loop μ-loop
 item-row-requires c κs = search needs
 
--- src/rows.rt:95:9
 mul-rows : tie.Need-mul-rows Inv-loop μ-loop
 mul-rows c = search needs
 
--- src/rows.rt:95:9
 slice-write-rows : tie.Need-slice-write-rows Inv-loop μ-loop
 slice-write-rows c = search needs
 
--- src/rows.rt:96:9
 add-i : tie.Need-add-i Inv-loop μ-loop
 add-i c = search needs
 
--- src/rows.rt:94:5
 loop-less : tie.Need-loop-less Inv-loop μ-loop
 loop-less c = search needs
 
--- src/rows.rt:94:5
 loop-again : tie.Need-loop-again Inv-loop μ-loop
 loop-again c = (search needs, search needs, copying-map (rowOf (c .before .before .before .before .before .before .before .args .parts .now)) (c .before .before .before .before .before .before .before .args .items .now) _ (c .before .before .before .loop .inv .2) (omega (arith, c .before .before .before .loop .inv .1, c .before .before .loop-test .taken)) (c .before .before .loop-test .taken) (c .item-row .ensures))
 
--- src/rows.rt:89:1
 same-length : tie.Need-same-length Inv-loop μ-loop
 same-length c = c .before .loop .inv .2 .room ∙ sym (c .before .before .before .before .before .pre .1)
 
--- src/rows.rt:89:1
 returns : tie.Need-returns Inv-loop μ-loop
 returns c = stored (c .before .loop .inv .2) refl (length-map (c .before .before .before .before .before .args .items .now) (rowOf (c .before .before .before .before .before .args .parts .now))) (c .before .loop .inv .0) (c .loop-test .left)
 

@@ -11,59 +11,45 @@ use Rattle.build_projection.proofs.items.expand_items.Reads as expand-i
 use Rattle.build_projection.proofs.items.is_single.Reads as is-single-reads
 use Rattle.build_projection.proofs.items.plain_star.Reads as plain-star-reads
 
--- src/items.rt:227:9
 plain-star-requires : tie.Need-plain-star-requires
 plain-star-requires c κs = search needs
 
--- src/items.rt:229:39
 enum-told : tie.Need-enum-told
 enum-told c = search needs
 
--- src/items.rt:229:26
 expand-items-requires : tie.Need-expand-items-requires
 expand-items-requires c κs = search needs
 
--- src/items.rt:230:18
 enum-known-star : tie.Need-enum-known-star
 enum-known-star c = search needs
 
--- src/items.rt:232:17
 same-length : tie.Need-same-length
 same-length c = search needs
 
--- src/items.rt:232:17
 returns : tie.Need-returns
 returns c = built-refused _ (λ d q. sym (ap starOf (c .before .before .star .given .1)) ∙ c .before .before .before .before .plain-star .ensures d q) (c .if1 .taken) refl
 
--- src/items.rt:234:17
 is-single-requires : tie.Need-is-single-requires
 is-single-requires c κs = search needs
 
--- src/items.rt:235:13
 expand-items-requires-2 : tie.Need-expand-items-requires-2
 expand-items-requires-2 c κs = search needs
 
--- src/items.rt:216:1
 same-length-2 : tie.Need-same-length-2
 same-length-2 c = search needs
 
--- src/items.rt:216:1
 same-length-3 : tie.Need-same-length-3
 same-length-3 c = search needs
 
--- src/items.rt:216:1
 returns-2 : tie.Need-returns-2
 returns-2 c = built-none (λ d q. sym (ap starOf (c .before .before .before .before .before .before .before .enum-told .given .1)) ∙ c .before .before .before .before .before .before .before .before .before .plain-star .ensures d q) (c .before .before .before .before .expand-items .ensures)
 
--- src/items.rt:216:1
 same-length-4 : tie.Need-same-length-4
 same-length-4 c = search needs
 
--- src/items.rt:216:1
 same-length-5 : tie.Need-same-length-5
 same-length-5 c = search needs
 
--- src/items.rt:216:1
 returns-3 : tie.Need-returns-3
 returns-3 c = built-star _ _ _ (λ d q. sym (ap starOf (c .before .before .before .before .before .before .before .before .before .before .star .given .1)) ∙ c .before .before .before .before .before .before .before .before .before .before .before .before .plain-star .ensures d q) (c .before .before .before .before .before .before .before .before .if1 .left)
     (c .before .before .before .before .before .before .before .is-single .ensures) refl (c .before .before .before .before .expand-items2 .ensures)

@@ -20,56 +20,43 @@ Inv-loop cells₀ parts tables labels items₀ expand total k₀ n₀ s₀ cells
 abbrev μ-loop : tie.MeasureT-loop
 μ-loop cells₀ parts tables labels items₀ expand total k₀ n₀ s₀ cells items k n s = total - k
 
--- src/items.rt:183:9
 count-requires : tie.Need-count-requires Inv-loop μ-loop
 count-requires c κs = search needs
 
--- src/items.rt:187:5
 loop-holds : tie.Need-loop-holds Inv-loop μ-loop
 loop-holds c = (search needs, listing-begin _ _ _ _ _ _ (c .before .before .before .before .before .before .pre .0) (c .before .before .before .before .before .before .pre .1))
 
--- src/items.rt:188:13
 item-star-requires : tie.Need-item-star-requires Inv-loop μ-loop
 item-star-requires c κs = search needs
 
--- src/items.rt:189:13
 item-line-requires : tie.Need-item-line-requires Inv-loop μ-loop
 item-line-requires c κs = search needs
 
--- src/items.rt:190:13
 list-item-requires : tie.Need-list-item-requires Inv-loop μ-loop
 list-item-requires c κs = (c .before .before .before .before .before .before .loop .inv .1 .space, c .before .before .before .before .before .before .loop .inv .1 .starred, c .before .before .before .before .before .before .loop .inv .1 .most)
 
--- src/items.rt:192:25
 enum-known-step : tie.Need-enum-known-step Inv-loop μ-loop
 enum-known-step c = search needs
 
--- src/items.rt:193:17
 same-length : tie.Need-same-length Inv-loop μ-loop
 same-length c = c .before .before .before .before .before .before .before .list-item .kept .0 ∙ c .before .before .before .before .before .before .before .before .before .before .before .before .before .before .loop .inv .1 .room ∙ sym (c .before .before .before .before .before .before .before .before .before .before .before .before .before .before .loop .inv .1 .begun)
 
--- src/items.rt:193:17
 same-length-2 : tie.Need-same-length-2 Inv-loop μ-loop
 same-length-2 c = c .before .before .before .before .before .before .before .list-item .kept .1 .1 .1 .0 ∙ c .before .before .before .before .before .before .before .before .before .before .before .before .before .before .loop .inv .1 .space ∙ sym (c .before .before .before .before .before .before .before .before .before .before .before .before .before .before .before .before .before .before .before .before .before .pre .1)
 
--- src/items.rt:193:17
 returns : tie.Need-returns Inv-loop μ-loop
 returns c = expand-refused _ (listing-limit (c .before .before .before .before .before .before .before .before .before .before .before .before .before .before .loop .inv .1) _ (c .before .before .before .before .before .before .before .before .before .before .before .before .before .loop-test .taken) (c .before .before .before .before .before .before .before .before .before .before .before .before .before .before .before .count .ensures) (c .before .before .before .before .before .before .before .before .before .before .before .item-star .ensures)
     (c .before .before .before .before .before .before .before .list-item .ensures) _ (c .before .step .given .1) (c .before .before .before .before .before .before .before .before .before .before .item-line .ensures))
 
--- src/items.rt:195:26
 enum-known-step-2 : tie.Need-enum-known-step-2 Inv-loop μ-loop
 enum-known-step-2 c = search needs
 
--- src/items.rt:198:17
 add-k : tie.Need-add-k Inv-loop μ-loop
 add-k c = search needs
 
--- src/items.rt:187:5
 loop-less : tie.Need-loop-less Inv-loop μ-loop
 loop-less c = search needs
 
--- src/items.rt:187:5
 loop-again : tie.Need-loop-again Inv-loop μ-loop
 loop-again c = (
   search needs,
@@ -77,15 +64,12 @@ loop-again c = (
       (c .before .before .before .before .before .before .before .list-item .ensures) _ _ (c .before .step2 .given .1),
 )
 
--- src/items.rt:171:1
 same-length-3 : tie.Need-same-length-3 Inv-loop μ-loop
 same-length-3 c = c .before .loop .inv .1 .room ∙ sym (c .before .loop .inv .1 .begun)
 
--- src/items.rt:171:1
 same-length-4 : tie.Need-same-length-4 Inv-loop μ-loop
 same-length-4 c = c .before .loop .inv .1 .space ∙ sym (c .before .before .before .before .before .before .before .before .pre .1)
 
--- src/items.rt:171:1
 returns-2 : tie.Need-returns-2 Inv-loop μ-loop
 returns-2 c = expand-done _ (c .before .loop .inv .1) (c .before .before .count .ensures) (c .loop-test .left)
 

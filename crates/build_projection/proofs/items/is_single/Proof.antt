@@ -7,19 +7,15 @@ use Rattle.build_projection.proofs.items.is_single.Reads as reads
 use Rattle.build_projection.proofs.items.is_single.Lts as lts
 use Rattle.sections.proofs.entry.count.Reads as count-reads
 
--- src/items.rt:209:8
 count-requires : tie.Need-count-requires
 count-requires c κs = search needs
 
--- src/items.rt:210:9
 returns : tie.Need-returns
 returns c = single-not _ _ (c .before .count .ensures) (c .if1 .taken)
 
--- src/items.rt:212:5
 count-requires-2 : tie.Need-count-requires-2
 count-requires-2 c κs = search needs
 
--- src/items.rt:206:1
 returns-2 : tie.Need-returns-2
 returns-2 c = single-is _ _ (c .before .before .count .ensures) (c .before .if1 .left) _ (c .count2 .ensures)
 

@@ -8,11 +8,9 @@ use Rattle.build_projection.proofs.items.item_line.Reads as reads
 use Rattle.build_projection.proofs.items.item_line.Lts as lts
 use Rattle.sections.proofs.entry.entry_at.Reads as entry-at-reads
 
--- src/items.rt:166:9
 entry-at-requires : tie.Need-entry-at-requires
 entry-at-requires c κs = search needs
 
--- src/items.rt:163:1
 returns : tie.Need-returns
 returns c = ap (λ (e : Entry). e .line) (c .entry-at .ensures)
 

@@ -10,83 +10,63 @@ use Rattle.build_projection.proofs.items.list_item.Lts as lts
 use Rattle.build_projection.proofs.items.put_rows.Reads as put-rows-reads
 use Rattle.build_projection.proofs.stars.put_columns.Reads as put-columns-reads
 
--- src/items.rt:132:27
 enum-told : tie.Need-enum-told
 enum-told c = search needs
 
--- src/items.rt:133:17
 returns : tie.Need-returns
 returns c = rw (c .before .enum-told .given .1) (entry-limit _ _ _ _ _ _ _ _ (c .if1 .taken))
 
--- src/items.rt:135:13
 mul-items : tie.Need-mul-items
 mul-items c = search needs
 
--- src/items.rt:135:13
 slice-write-items : tie.Need-slice-write-items
 slice-write-items c = search needs
 
--- src/items.rt:136:26
 add-t18 : tie.Need-add-t18
 add-t18 c = search needs
 
--- src/items.rt:138:18
 enum-known-star : tie.Need-enum-known-star
 enum-known-star c = search needs
 
--- src/items.rt:139:24
 sub-left : tie.Need-sub-left
 sub-left c = search needs
 
--- src/items.rt:141:17
 returns-2 : tie.Need-returns-2
 returns-2 c = rw (c .before .before .star .given .1) (star-limit _ _ _ _ _ _ _ _ _ (omega arith))
 
--- src/items.rt:144:13
 put-columns-requires : tie.Need-put-columns-requires
 put-columns-requires c κs = search needs
 
--- src/items.rt:145:41
 add-put-rows : tie.Need-add-put-rows
 add-put-rows c = search needs
 
--- src/items.rt:145:13
 put-rows-requires : tie.Need-put-rows-requires
 put-rows-requires c κs = search needs
 
--- src/items.rt:146:30
 cast-t26 : tie.Need-cast-t26
 cast-t26 c = search needs
 
--- src/items.rt:146:26
 add-t27 : tie.Need-add-t27
 add-t27 c = search needs
 
--- src/items.rt:146:44
 cast-t28 : tie.Need-cast-t28
 cast-t28 c = search needs
 
--- src/items.rt:146:40
 add-t29 : tie.Need-add-t29
 add-t29 c = search needs
 
--- src/items.rt:115:1
 same-length : tie.Need-same-length
 same-length c = search needs
 
--- src/items.rt:115:1
 returns-3 : tie.Need-returns-3
 returns-3 c = rw (c .before .enum-told .given .1) (entry-listed _ _ _ _ _ _ _ _ (omega arith))
 
--- src/items.rt:115:1
 same-length-2 : tie.Need-same-length-2
 same-length-2 c = search needs
 
--- src/items.rt:115:1
 same-length-3 : tie.Need-same-length-3
 same-length-3 c = search needs
 
--- src/items.rt:115:1
 returns-4 : tie.Need-returns-4
 returns-4 c = rw (c .before .before .before .before .before .before .before .before .before .before .star .given .1) (star-listed _ _ _ _ _ _ _ _ _ _ _ (omega arith) (c .before .before .before .before .before .before .put-columns .ensures) (c .before .before .put-rows .ensures))
 

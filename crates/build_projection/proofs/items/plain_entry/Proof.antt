@@ -10,23 +10,18 @@ use Rattle.build_projection.proofs.items.star_at.Reads as star-at-reads
 use Rattle.sections.proofs.entry.entry_at.Reads as entry-at-reads
 use Rattle.sections.proofs.entry.first_row.Reads as first-row-reads
 
--- src/items.rt:74:9
 entry-at-requires : tie.Need-entry-at-requires
 entry-at-requires c κs = search needs
 
--- src/items.rt:76:9
 returns : tie.Need-returns
 returns c = plain-aliased _ _ _ _ (c .before .before .entry-at .ensures) (c .if1 .taken)
 
--- src/items.rt:78:20
 first-row-requires : tie.Need-first-row-requires
 first-row-requires c κs = search needs
 
--- src/items.rt:78:5
 star-at-requires : tie.Need-star-at-requires
 star-at-requires c κs = search needs
 
--- src/items.rt:71:1
 returns-2 : tie.Need-returns-2
 returns-2 c = plain-free _ _ _ _ (c .before .before .before .before .entry-at .ensures) _ _ (c .before .first-row .ensures) (c .star-at .ensures) (c .before .before .if1 .left)
 

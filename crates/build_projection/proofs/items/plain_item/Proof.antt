@@ -8,19 +8,15 @@ use Rattle.build_projection.proofs.items.plain_item.Lts as lts
 use Rattle.build_projection.proofs.items.plain_entry.Reads as plain-entry-reads
 use Rattle.build_projection.proofs.items.star_at.Reads as star-at-reads
 
--- src/items.rt:86:9
 plain-entry-requires : tie.Need-plain-entry-requires
 plain-entry-requires c κs = search needs
 
--- src/items.rt:86:9
 returns : tie.Need-returns
 returns c = plain-before _ _ _ _ (c .before .if1 .taken) (c .plain-entry .ensures)
 
--- src/items.rt:88:5
 star-at-requires : tie.Need-star-at-requires
 star-at-requires c κs = search needs
 
--- src/items.rt:82:1
 returns-2 : tie.Need-returns-2
 returns-2 c = plain-behind _ _ _ _ (c .before .if1 .left) (c .star-at .ensures)
 

@@ -16,43 +16,33 @@ Inv-loop cells parts n k₀ k = (k ≤ n) × Seeking cells parts k
 abbrev μ-loop : tie.MeasureT-loop
 μ-loop cells parts n k₀ k = n - k
 
--- src/items.rt:86:9
 count-requires : tie.Need-count-requires Inv-loop μ-loop
 count-requires c κs = search needs
 
--- src/items.rt:88:5
 loop-holds : tie.Need-loop-holds Inv-loop μ-loop
 loop-holds c = (search needs, seek-begin _ _)
 
--- src/items.rt:89:13
 plain-entry-requires : tie.Need-plain-entry-requires Inv-loop μ-loop
 plain-entry-requires c κs = search needs
 
--- src/items.rt:91:22
 enum-known-star : tie.Need-enum-known-star Inv-loop μ-loop
 enum-known-star c = search needs
 
--- src/items.rt:92:17
 returns : tie.Need-returns Inv-loop μ-loop
 returns c = seek-hit (c .before .before .before .before .before .loop .inv .1) (c .before .before .before .before .before .before .before .before .before .pre) (c .before .before .before .before .before .before .count .ensures) _ (c .before .before .before .before .loop-test .taken) (c .before .before .before .plain-entry .ensures) _ (c .before .star .given .1)
 
--- src/items.rt:95:17
 enum-told : tie.Need-enum-told Inv-loop μ-loop
 enum-told c = search needs
 
--- src/items.rt:95:17
 add-k : tie.Need-add-k Inv-loop μ-loop
 add-k c = search needs
 
--- src/items.rt:88:5
 loop-less : tie.Need-loop-less Inv-loop μ-loop
 loop-less c = search needs
 
--- src/items.rt:88:5
 loop-again : tie.Need-loop-again Inv-loop μ-loop
 loop-again c = (search needs, seek-miss (c .before .before .before .before .loop .inv .1) (c .before .before .before .before .before .before .before .before .pre) (c .before .before .before .before .before .count .ensures) _ (c .before .before .before .loop-test .taken) (c .before .before .plain-entry .ensures) (c .enum-told .given .1))
 
--- src/items.rt:82:1
 returns-2 : tie.Need-returns-2 Inv-loop μ-loop
 returns-2 c = seek-end (c .before .loop .inv .1) (c .before .before .before .before .before .pre) (c .before .before .count .ensures) (c .loop-test .left)
 

@@ -20,47 +20,36 @@ Inv-loop items₀ n first w j₀ items j = (n + w ≤ length items₀) × (first
 abbrev μ-loop : tie.MeasureT-loop
 μ-loop items₀ n first w j₀ items j = w - j
 
--- src/items.rt:108:5
 loop-holds : tie.Need-loop-holds Inv-loop μ-loop
 loop-holds c = (search needs, search needs, search needs, filling-begin _ _ _ _)
 
--- src/items.rt:109:32
 cast-items : tie.Need-cast-items Inv-loop μ-loop
 cast-items c = search needs
 
--- src/items.rt:109:24
 add-items : tie.Need-add-items Inv-loop μ-loop
 add-items c = search needs
 
--- src/items.rt:109:15
 add-items-2 : tie.Need-add-items-2 Inv-loop μ-loop
 add-items-2 c = search needs
 
--- src/items.rt:109:9
 mul-items : tie.Need-mul-items Inv-loop μ-loop
 mul-items c = search needs
 
--- src/items.rt:109:9
 slice-write-items : tie.Need-slice-write-items Inv-loop μ-loop
 slice-write-items c = search needs
 
--- src/items.rt:110:9
 add-j : tie.Need-add-j Inv-loop μ-loop
 add-j c = search needs
 
--- src/items.rt:108:5
 loop-less : tie.Need-loop-less Inv-loop μ-loop
 loop-less c = search needs
 
--- src/items.rt:108:5
 loop-again : tie.Need-loop-again Inv-loop μ-loop
 loop-again c = (search needs, search needs, search needs, filling-more (c .before .loop .inv .3) refl refl (c .loop-test .taken))
 
--- src/items.rt:103:1
 same-length : tie.Need-same-length Inv-loop μ-loop
 same-length c = search needs
 
--- src/items.rt:103:1
 returns : tie.Need-returns Inv-loop μ-loop
 returns c = filling-end (c .before .loop .inv .3) (c .loop-test .left)
 

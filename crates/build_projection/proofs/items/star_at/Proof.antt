@@ -10,81 +10,63 @@ use Rattle.build_projection.proofs.items.star_at.Lts as lts
 use Rattle.ast.proofs.row.kind_of.Reads as kind-of-reads
 use Rattle.ast.proofs.row.line.Reads as line-reads
 
--- src/items.rt:57:9
 kind-of-requires : tie.Need-kind-of-requires
 kind-of-requires c κs = search needs
 
--- src/items.rt:59:32
 enum-told : tie.Need-enum-told
 enum-told c = search needs
 
--- src/items.rt:59:32
 line-requires : tie.Need-line-requires
 line-requires c κs = search needs
 
--- src/items.rt:60:25
 enum-told-2 : tie.Need-enum-told-2
 enum-told-2 c = search needs
 
--- src/items.rt:61:28
 enum-told-3 : tie.Need-enum-told-3
 enum-told-3 c = search needs
 
--- src/items.rt:62:23
 enum-told-4 : tie.Need-enum-told-4
 enum-told-4 c = search needs
 
--- src/items.rt:63:24
 enum-told-5 : tie.Need-enum-told-5
 enum-told-5 c = search needs
 
--- src/items.rt:64:25
 enum-told-6 : tie.Need-enum-told-6
 enum-told-6 c = search needs
 
--- src/items.rt:65:21
 enum-told-7 : tie.Need-enum-told-7
 enum-told-7 c = search needs
 
--- src/items.rt:66:26
 enum-told-8 : tie.Need-enum-told-8
 enum-told-8 c = search needs
 
--- src/items.rt:54:1
 returns : tie.Need-returns
 returns c = star-is _ _ _ (c .before .before .before .kind-of .ensures) _ (c .line .ensures) (c .before .enum-told .given .1)
 
--- src/items.rt:54:1
 returns-2 : tie.Need-returns-2
 unfolding starBy
 returns-2 c = star-not _ _ _ (c .before .before .kind-of .ensures) K.Column (c .enum-told2 .given .1) refl
 
--- src/items.rt:54:1
 returns-3 : tie.Need-returns-3
 unfolding starBy
 returns-3 c = star-not _ _ _ (c .before .before .kind-of .ensures) K.Qualified (c .enum-told3 .given .1) refl
 
--- src/items.rt:54:1
 returns-4 : tie.Need-returns-4
 unfolding starBy
 returns-4 c = star-not _ _ _ (c .before .before .kind-of .ensures) K.Call (c .enum-told4 .given .1) refl
 
--- src/items.rt:54:1
 returns-5 : tie.Need-returns-5
 unfolding starBy
 returns-5 c = star-not _ _ _ (c .before .before .kind-of .ensures) K.Unary (c .enum-told5 .given .1) refl
 
--- src/items.rt:54:1
 returns-6 : tie.Need-returns-6
 unfolding starBy
 returns-6 c = star-not _ _ _ (c .before .before .kind-of .ensures) K.Binary (c .enum-told6 .given .1) refl
 
--- src/items.rt:54:1
 returns-7 : tie.Need-returns-7
 unfolding starBy
 returns-7 c = star-not _ _ _ (c .before .before .kind-of .ensures) K.Is (c .enum-told7 .given .1) refl
 
--- src/items.rt:54:1
 returns-8 : tie.Need-returns-8
 unfolding starBy
 returns-8 c = star-not _ _ _ (c .before .before .kind-of .ensures) K.Literal (c .enum-told8 .given .1) refl

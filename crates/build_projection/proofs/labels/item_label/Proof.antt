@@ -13,35 +13,27 @@ use Rattle.scope.proofs.expressions.label_of.Reads as label-of-reads
 use Rattle.scope.proofs.labels.label.Reads as label-reads
 use Rattle.scope.proofs.lookup.first.Reads as first-reads
 
--- src/labels.rt:69:9
 alias-length-requires : tie.Need-alias-length-requires
 alias-length-requires c κs = search needs
 
--- src/labels.rt:71:13
 alias-address-requires : tie.Need-alias-address-requires
 alias-address-requires c κs = search needs
 
--- src/labels.rt:72:9
 label-requires : tie.Need-label-requires
 label-requires c κs = search needs
 
--- src/labels.rt:72:9
 returns : tie.Need-returns
 returns c = label-alias _ _ _ _ _ _ _ _ (c .before .before .before .alias-length .ensures) (c .before .before .if1 .taken) (c .before .alias-address .ensures) (c .label .ensures)
 
--- src/labels.rt:74:9
 item-row-requires : tie.Need-item-row-requires
 item-row-requires c κs = search needs
 
--- src/labels.rt:76:13
 first-requires : tie.Need-first-requires
 first-requires c κs = search needs
 
--- src/labels.rt:77:9
 cell-label-requires : tie.Need-cell-label-requires
 cell-label-requires c κs = search needs
 
--- src/labels.rt:77:9
 returns-2 : tie.Need-returns-2
 returns-2 c =
     label-cell (c .before .before .before .before .before .before .before .before .before .before .before .before .before .before .before .pre .1)
@@ -49,11 +41,9 @@ returns-2 c =
     (c .before .before .before .before .before .alias-length .ensures) (c .before .before .before .before .if1 .left)
     (c .before .before .before .item-row .ensures) (c .before .first .ensures) (c .cell-label .ensures _ _)
 
--- src/labels.rt:79:5
 label-of-requires : tie.Need-label-of-requires
 label-of-requires c κs = search needs
 
--- src/labels.rt:48:1
 returns-3 : tie.Need-returns-3
 returns-3 c = label-passed _ _ _ _ _ _ _ _ (c .before .before .before .before .alias-length .ensures) (c .before .before .before .if1 .left) (c .before .before .item-row .ensures) (c .label-of .ensures)
 

@@ -8,19 +8,15 @@ use Rattle.build_projection.proofs.projection.alias_address.Lts as lts
 use Rattle.sections.proofs.entry.entry_at.Reads as entry-at-reads
 use Rattle.statement.proofs.access.name_start.Reads as name-start-reads
 
--- src/projection.rt:44:13
 entry-at-requires : tie.Need-entry-at-requires
 entry-at-requires c κs = search needs
 
--- src/projection.rt:45:9
 name-start-requires : tie.Need-name-start-requires
 name-start-requires c κs = search needs
 
--- src/projection.rt:45:9
 returns : tie.Need-returns
 returns c = address-entry _ _ (c .before .before .if1 .taken) _ (c .before .entry-at .ensures) _ (c .name-start .ensures)
 
--- src/projection.rt:40:1
 returns-2 : tie.Need-returns-2
 returns-2 c = address-starred _ _ (c .if1 .left)
 

@@ -9,23 +9,18 @@ use Rattle.sections.proofs.entry.entry_at.Reads as entry-at-reads
 use Rattle.statement.proofs.access.name_start.Reads as name-start-reads
 use Rattle.text.proofs.lengths.length_at.Reads as length-at-reads
 
--- src/projection.rt:53:13
 entry-at-requires : tie.Need-entry-at-requires
 entry-at-requires c κs = search needs
 
--- src/projection.rt:54:13
 name-start-requires : tie.Need-name-start-requires
 name-start-requires c κs = search needs
 
--- src/projection.rt:55:9
 length-at-requires : tie.Need-length-at-requires
 length-at-requires c κs = search needs
 
--- src/projection.rt:55:9
 returns : tie.Need-returns
 returns c = length-entry _ _ (c .before .before .before .if1 .taken) _ (c .before .before .entry-at .ensures) _ _ _ _ (c .before .name-start .ensures) (c .length-at .ensures)
 
--- src/projection.rt:49:1
 returns-2 : tie.Need-returns-2
 returns-2 c = length-starred _ _ _ _ (c .if1 .left)
 

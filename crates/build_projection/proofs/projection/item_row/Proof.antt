@@ -8,19 +8,15 @@ use Rattle.build_projection.proofs.projection.item_row.Lts as lts
 use Rattle.sections.proofs.entry.entry_at.Reads as entry-at-reads
 use Rattle.sections.proofs.entry.first_row.Reads as first-row-reads
 
--- src/projection.rt:33:13
 entry-at-requires : tie.Need-entry-at-requires
 entry-at-requires c κs = search needs
 
--- src/projection.rt:34:9
 first-row-requires : tie.Need-first-row-requires
 first-row-requires c κs = search needs
 
--- src/projection.rt:34:9
 returns : tie.Need-returns
 returns c = row-entry _ _ (c .before .before .if1 .taken) _ (c .before .entry-at .ensures) _ (c .first-row .ensures)
 
--- src/projection.rt:29:1
 returns-2 : tie.Need-returns-2
 returns-2 c = row-starred _ _ (c .if1 .left)
 

@@ -15,56 +15,43 @@ use Rattle.build_projection.proofs.projection.alias_length.Reads as ali
 use Rattle.build_projection.proofs.projection.item_row.Reads as item-row-reads
 use Rattle.plan.proofs.parts.item.Reads as item-reads
 
--- src/projection.rt:85:9
 item-row-requires : tie.Need-item-row-requires
 item-row-requires c κs = search needs
 
--- src/projection.rt:86:9
 build-expression-requires : tie.Need-build-expression-requires
 build-expression-requires c κs = rw (c .before .item-row .ensures, ← item-tree (c .before .before .before .before .before .before .before .before .before .before .before .args .catalog .now) (c .before .before .before .before .before .before .before .before .before .before .before .args .statement .now) (c .before .before .before .before .before .before .before .before .before .before .before .args .cells .now) (c .before .before .before .before .before .before .before .before .before .before .before .args .parts .now) (c .before .before .before .before .before .before .before .before .before .before .before .args .x)) (c .before .before .before .before .before .before .before .before .before .before .before .pre .0)
 
--- src/projection.rt:100:26
 enum-known-built : tie.Need-enum-known-built
 enum-known-built c = search needs
 
--- src/projection.rt:101:23
 enum-known-built-2 : tie.Need-enum-known-built-2
 enum-known-built-2 c = search needs
 
--- src/projection.rt:102:17
 alias-address-requires : tie.Need-alias-address-requires
 alias-address-requires c κs = search needs
 
--- src/projection.rt:103:17
 alias-length-requires : tie.Need-alias-length-requires
 alias-length-requires c κs = search needs
 
--- src/projection.rt:104:36
 sub-item : tie.Need-sub-item
 sub-item c = let l = put-some (c .before .before .before .before .before .before .before .before .build-expression .ensures) (c .before .before .before .before .before .before .before .before .before .before .before .before .before .before .before .before .before .before .before .before .args .parts .now) (c .before .before .before .before .before .before .before .before .before .before .before .before .before .before .before .before .before .before .before .before .args .x) (c .before .before .before .before .before .before .before .before .before .before .item-row .ensures) _ (c .before .before .before .before .built2 .given .1) in
     omega arith
 
--- src/projection.rt:104:17
 item-requires : tie.Need-item-requires
 item-requires c κs = search needs
 
--- src/projection.rt:61:1
 same-length : tie.Need-same-length
 same-length c = search needs
 
--- src/projection.rt:61:1
 returns : tie.Need-returns
 returns c = put-refused (c .before .before .before .before .before .build-expression .ensures) _ _ (c .before .before .before .before .before .before .before .item-row .ensures) _ _ _ _ _ (c .before .built .given .1)
 
--- src/projection.rt:61:1
 same-length-2 : tie.Need-same-length-2
 same-length-2 c = search needs
 
--- src/projection.rt:61:1
 same-length-3 : tie.Need-same-length-3
 same-length-3 c = search needs
 
--- src/projection.rt:61:1
 returns-2 : tie.Need-returns-2
 returns-2 c = put-done (c .before .before .before .before .before .before .before .before .before .before .before .build-expression .ensures) _ _ (c .before .before .before .before .before .before .before .before .before .before .before .before .before .item-row .ensures) _ (c .before .before .before .before .before .before .before .built2 .given .1)
     (c .before .before .item .ensures (itemOf (c .before .before .before .before .before .before .before .before .before .before .before .before .before .before .before .before .before .before .before .before .before .before .before .args .catalog .now) (c .before .before .before .before .before .before .before .before .before .before .before .before .before .before .before .before .before .before .before .before .before .before .before .args .statement .now) (c .before .before .before .before .before .before .before .before .before .before .before .before .before .before .before .before .before .before .before .before .before .before .before .args .cells .now) (c .before .before .before .before .before .before .before .before .before .before .before .before .before .before .before .before .before .before .before .before .before .before .before .args .parts .now) (c .before .before .before .before .before .before .before .before .before .before .before .before .before .before .before .before .before .before .before .before .before .before .before .args .x) .alias)

@@ -30,88 +30,69 @@ abbrev μ-loop : tie.MeasureT-loop
 μ-loop catalog statement cells parts items labels matches width tables count area₀ n nodes₀ k projected₀ used m₀ j₀ i₀ area nodes projected m j i =
     length items - i
 
--- src/projection.rt:139:9
 used-matches-requires : tie.Need-used-matches-requires Inv-loop μ-loop
 used-matches-requires c κs = search needs
 
--- src/projection.rt:143:5
 loop-holds : tie.Need-loop-holds Inv-loop μ-loop
 loop-holds c = (pushing-begin _ _ _ (c .before .before .before .before .before .before .before .before .before .before .before .before .pre .1), copying-begin _ (c .before .before .before .before .before .before .before .before .before .before .before .before .pre .0) refl, kept-all _ _ _)
 
--- src/projection.rt:149:13
 mul-put-item : tie.Need-mul-put-item Inv-loop μ-loop
 mul-put-item c = search needs
 
--- src/projection.rt:149:13
 shared-slice-read-put-item : tie.Need-shared-slice-read-put-item Inv-loop μ-loop
 shared-slice-read-put-item c = search needs
 
--- src/projection.rt:144:13
 put-item-requires : tie.Need-put-item-requires Inv-loop μ-loop
 put-item-requires c κs = (
   room-here (c .before .before .before .before .loop .inv .0) (c .before .before .before .loop-test .taken),
   space-here (c .before .before .before .before .loop .inv .0) (c .before .before .before .loop-test .taken),
 )
 
--- src/projection.rt:161:29
 enum-known-step : tie.Need-enum-known-step Inv-loop μ-loop
 enum-known-step c = search needs
 
--- src/projection.rt:162:17
 same-length : tie.Need-same-length Inv-loop μ-loop
 same-length c = c .before .before .before .before .before .before .before .put-item .kept .1 .1 .1 .1 .1 .1 .1 .1 .1 .1 .0 ∙ c .before .before .before .before .before .before .before .before .before .before .before .before .loop .inv .0 .area-kept
 
--- src/projection.rt:162:17
 same-length-2 : tie.Need-same-length-2 Inv-loop μ-loop
 same-length-2 c = c .before .before .before .before .before .before .before .put-item .kept .1 .1 .1 .1 .1 .1 .1 .1 .1 .1 .1 .1 .0 ∙ c .before .before .before .before .before .before .before .before .before .before .before .before .loop .inv .0 .nodes-kept
 
--- src/projection.rt:162:17
 same-length-3 : tie.Need-same-length-3 Inv-loop μ-loop
 same-length-3 c = c .before .before .before .before .before .before .before .before .before .before .before .before .loop .inv .1 .room ∙ sym (c .before .before .before .before .before .before .before .before .before .before .before .before .before .before .before .before .before .before .before .before .before .before .before .before .before .pre .0)
 
--- src/projection.rt:162:17
 returns : tie.Need-returns Inv-loop μ-loop
 returns c = (
   pushing-refused (c .before .before .before .before .before .before .before .before .before .before .before .before .loop .inv .0) (c .before .before .before .before .before .before .before .before .before .before .before .loop-test .taken) (c .before .before .before .before .before .before .before .put-item .ensures) _ _ (c .before .step .given .1),
   labelled-refused _ _ _ (kept-part _ _ (c .before .before .before .before .before .before .before .before .before .before .before .before .loop .inv .2) (c .before .before .before .before .before .before .before .before .before .before .before .before .loop .inv .0 .within) (omega arith)),
 )
 
--- src/projection.rt:164:26
 enum-known-step-2 : tie.Need-enum-known-step-2 Inv-loop μ-loop
 enum-known-step-2 c = search needs
 
--- src/projection.rt:170:21
 mul-item-label : tie.Need-mul-item-label Inv-loop μ-loop
 mul-item-label c = record { fits = omega (arith, c .before .before .before .before .before .before .before .before .before .before .before .before .before .before .before .before .before .before .before .before .before .before .before .before .before .pre .1 .few, c .before .before .before .before .before .before .before .before .before .before .before .loop-test .taken) }
 
--- src/projection.rt:170:21
 shared-slice-read-item-label : tie.Need-shared-slice-read-item-label Inv-loop μ-loop
 shared-slice-read-item-label c = search needs
 
--- src/projection.rt:165:32
 item-label-requires : tie.Need-item-label-requires Inv-loop μ-loop
 item-label-requires c κs = (
   c .before .before .before .before .before .before .before .before .before .before .before .before .before .before .before .used-matches .ensures,
   stands-put (cells-before (c .before .before .before .before .before .before .before .before .before .before .before .before .before .before .loop .inv .0)) (c .before .before .before .before .before .before .before .before .before .put-item .ensures) (c .before .before .before .step2 .given .1),
 )
 
--- src/projection.rt:165:17
 mul-projected : tie.Need-mul-projected Inv-loop μ-loop
 mul-projected c = record { fits = omega (arith, c .before .before .before .before .before .before .before .before .before .before .before .before .before .before .before .before .before .before .before .before .before .before .before .before .before .before .before .before .pre .1 .few, c .before .before .before .before .before .before .before .before .before .before .before .before .before .before .loop-test .taken) }
 
--- src/projection.rt:165:17
 slice-write-projected : tie.Need-slice-write-projected Inv-loop μ-loop
 slice-write-projected c = omega (arith, c .before .before .before .before .before .before .before .before .before .before .before .before .before .before .before .before .before .before .before .before .before .before .before .before .before .before .before .before .pre .1 .few, c .before .before .before .before .before .before .before .before .before .before .before .before .before .before .loop-test .taken, c .before .before .before .before .before .before .before .before .before .before .before .before .before .before .before .loop .inv .1 .room)
 
--- src/projection.rt:182:17
 add-i : tie.Need-add-i Inv-loop μ-loop
 add-i c = record { fits = omega (arith, c .before .before .before .before .before .before .before .before .before .before .before .before .before .before .before .before .before .before .before .before .before .before .before .before .before .before .before .before .pre .1 .few, c .before .before .before .before .before .before .before .before .before .before .before .before .before .before .loop-test .taken) }
 
--- src/projection.rt:143:5
 loop-less : tie.Need-loop-less Inv-loop μ-loop
 loop-less c = search needs
 
--- src/projection.rt:143:5
 loop-again : tie.Need-loop-again Inv-loop μ-loop
 loop-again c = (
   pushing-more (c .before .before .before .before .before .before .before .before .before .before .before .before .before .before .before .loop .inv .0) (c .before .before .before .before .before .before .before .before .before .before .before .before .before .before .loop-test .taken) (c .before .before .before .before .before .before .before .before .before .before .put-item .ensures) _ _ (c .before .before .before .before .step2 .given .1)
@@ -123,19 +104,15 @@ loop-again c = (
   kept-next _ (c .before .before .before .before .before .before .before .before .before .before .before .before .before .before .before .loop .inv .2),
 )
 
--- src/projection.rt:113:1
 same-length-4 : tie.Need-same-length-4 Inv-loop μ-loop
 same-length-4 c = c .before .loop .inv .0 .area-kept
 
--- src/projection.rt:113:1
 same-length-5 : tie.Need-same-length-5 Inv-loop μ-loop
 same-length-5 c = c .before .loop .inv .0 .nodes-kept
 
--- src/projection.rt:113:1
 same-length-6 : tie.Need-same-length-6 Inv-loop μ-loop
 same-length-6 c = c .before .loop .inv .1 .room ∙ sym (c .before .before .before .before .before .before .before .before .before .before .before .before .before .before .pre .0)
 
--- src/projection.rt:113:1
 returns-2 : tie.Need-returns-2 Inv-loop μ-loop
 returns-2 c = (
   pushing-end (c .before .loop .inv .0) (c .loop-test .left),

@@ -10,35 +10,27 @@ use Rattle.build_projection.proofs.stars.table_of.Reads as table-of-rea
 use Rattle.scope.proofs.labels.address.Reads as address-reads
 use Rattle.scope.proofs.labels.size.Reads as size-reads
 
--- src/stars.rt:28:9
 table-of-requires : tie.Need-table-of-requires
 table-of-requires c κs = search needs
 
--- src/stars.rt:29:33
 address-requires : tie.Need-address-requires
 address-requires c κs = search needs
 
--- src/stars.rt:29:45
 size-requires : tie.Need-size-requires
 size-requires c κs = search needs
 
--- src/stars.rt:29:54
 address-requires-2 : tie.Need-address-requires-2
 address-requires-2 c κs = search needs
 
--- src/stars.rt:29:66
 size-requires-2 : tie.Need-size-requires-2
 size-requires-2 c κs = search needs
 
--- src/stars.rt:29:5
 put-starred-requires : tie.Need-put-starred-requires
 put-starred-requires c κs = search needs
 
--- src/stars.rt:25:1
 same-length : tie.Need-same-length
 same-length c = search needs
 
--- src/stars.rt:25:1
 returns : tie.Need-returns
 returns c = c .before .before .put-starred .ensures
     ∙ rw (c .before .before .before .before .before .before .address .ensures, c .before .before .before .before .before .size .ensures, c .before .before .before .before .address2 .ensures, c .before .before .before .size2 .ensures, c .before .before .before .before .before .before .before .before .table-of .ensures)

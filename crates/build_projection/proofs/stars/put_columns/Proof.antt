@@ -20,47 +20,36 @@ Inv-loop cells₀ tables labels k line i₀ cells i = (k + length labels ≤ sta
 abbrev μ-loop : tie.MeasureT-loop
 μ-loop cells₀ tables labels k line i₀ cells i = length labels - i
 
--- src/stars.rt:38:5
 loop-holds : tie.Need-loop-holds Inv-loop μ-loop
 loop-holds c = (search needs, search needs, search needs, putting-begin _ _ _ _ _)
 
--- src/stars.rt:39:39
 cast-put-column : tie.Need-cast-put-column Inv-loop μ-loop
 cast-put-column c = search needs
 
--- src/stars.rt:39:35
 add-put-column : tie.Need-add-put-column Inv-loop μ-loop
 add-put-column c = search needs
 
--- src/stars.rt:39:55
 mul-put-column : tie.Need-mul-put-column Inv-loop μ-loop
 mul-put-column c = search needs
 
--- src/stars.rt:39:55
 shared-slice-read-put-column : tie.Need-shared-slice-read-put-column Inv-loop μ-loop
 shared-slice-read-put-column c = search needs
 
--- src/stars.rt:39:9
 put-column-requires : tie.Need-put-column-requires Inv-loop μ-loop
 put-column-requires c κs = search needs
 
--- src/stars.rt:40:9
 add-i : tie.Need-add-i Inv-loop μ-loop
 add-i c = search needs
 
--- src/stars.rt:38:5
 loop-less : tie.Need-loop-less Inv-loop μ-loop
 loop-less c = search needs
 
--- src/stars.rt:38:5
 loop-again : tie.Need-loop-again Inv-loop μ-loop
 loop-again c = (search needs, search needs, c .before .before .put-column .kept .0 ∙ c .before .before .before .before .before .before .loop .inv .2, putting-more (c .before .before .before .before .before .before .loop .inv .3) (c .before .before .before .before .before .loop-test .taken) (c .before .before .put-column .ensures))
 
--- src/stars.rt:33:1
 same-length : tie.Need-same-length Inv-loop μ-loop
 same-length c = c .before .loop .inv .2
 
--- src/stars.rt:33:1
 returns : tie.Need-returns Inv-loop μ-loop
 returns c = putting-end (c .before .loop .inv .3) (c .loop-test .left)
 

@@ -9,27 +9,21 @@ use Rattle.build_projection.proofs.stars.table_of.Lts as lts
 use Rattle.numbers.proofs.number.Reads as number-reads
 use Rattle.scope.proofs.labels.slot.Reads as slot-reads
 
--- src/stars.rt:17:9
 slot-requires : tie.Need-slot-requires
 slot-requires c κs = search needs
 
--- src/stars.rt:19:9
 returns : tie.Need-returns
 returns c = table-none _ _ (sym (c .before .slot .ensures) ∙ c .if1 .taken)
 
--- src/stars.rt:21:20
 cast-number : tie.Need-cast-number
 cast-number c = search needs
 
--- src/stars.rt:21:20
 sub-number : tie.Need-sub-number
 sub-number c = search needs
 
--- src/stars.rt:21:5
 number-requires : tie.Need-number-requires
 number-requires c κs = search needs
 
--- src/stars.rt:14:1
 returns-2 : tie.Need-returns-2
 returns-2 c = c .number .ensures ∙ table-some _ _ (c .before .if1 .left) ∙ ap (tableIn _) (c .before .before .slot .ensures)
 

@@ -14,51 +14,39 @@ use Rattle.read_expression.proofs.heads.wrong.Reads as wrong-reads
 use Rattle.text.proofs.count.Reads as count-reads
 use Rattle.text.proofs.is_name.Reads as is-name-reads
 
--- src/heads.rt:146:9
 is-name-requires : tie.Need-is-name-requires
 is-name-requires c κs = search needs
 
--- src/heads.rt:147:9
 wrong-requires : tie.Need-wrong-requires
 wrong-requires c κs = search needs
 
--- src/heads.rt:147:9
 returns : tie.Need-returns
 returns c = row-of-as _ _ _ _ (call-unnamed _ _ _ (c .before .before .before .before .pre) _ _ (sym (c .before .before .is-name .ensures) ∙ not-true _ (c .before .if1 .taken))) (c .wrong .ensures _)
 
--- src/heads.rt:149:9
 count-requires : tie.Need-count-requires
 count-requires c κs = search needs
 
--- src/heads.rt:151:26
 enum-told : tie.Need-enum-told
 enum-told c = search needs
 
--- src/heads.rt:151:26
 wrong-requires-2 : tie.Need-wrong-requires-2
 wrong-requires-2 c κs = search needs
 
--- src/heads.rt:152:23
 enum-known-count : tie.Need-enum-known-count
 enum-known-count c = search needs
 
--- src/heads.rt:153:21
 cast-k : tie.Need-cast-k
 cast-k c = omega (arith, count-small _ _ _ (c .before .before .before .before .before .before .before .pre) (c .before .before .before .before .before .before .before .args .b) (c .before .before .before .before .before .before .before .args .m) _ _ (c .before .before .before .count .ensures) (c .before .count2 .given .1))
 
--- src/heads.rt:157:20
 address-requires : tie.Need-address-requires
 address-requires c κs = search needs
 
--- src/heads.rt:158:20
 cast-t13 : tie.Need-cast-t13
 cast-t13 c = search needs
 
--- src/heads.rt:142:1
 returns-2 : tie.Need-returns-2
 returns-2 c = row-of-as _ _ _ _ (call-uncounted _ _ _ (c .before .before .before .before .before .before .before .pre) _ _ _ (sym (c .before .before .before .before .before .is-name .ensures) ∙ not-false _ (c .before .before .before .before .if1 .left)) (c .before .before .before .count .ensures) (c .before .enum-told .given .1)) (c .wrong2 .ensures _)
 
--- src/heads.rt:142:1
 returns-3 : tie.Need-returns-3
 returns-3 c = call-some _ _ _ (c .before .before .before .before .before .before .before .before .pre) _ _ _ _ _ (sym (c .before .before .before .before .before .before .is-name .ensures) ∙ not-false _ (c .before .before .before .before .before .if1 .left)) (c .before .before .before .before .count .ensures) (c .before .before .count2 .given .1) (rw (c .address .ensures) refl) refl
 

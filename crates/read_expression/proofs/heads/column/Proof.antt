@@ -11,27 +11,21 @@ use Rattle.read_expression.proofs.heads.column.Lts as lts
 use Rattle.read_expression.proofs.heads.wrong.Reads as wrong-reads
 use Rattle.text.proofs.is_name.Reads as is-name-reads
 
--- src/heads.rt:105:9
 is-name-requires : tie.Need-is-name-requires
 is-name-requires c κs = search needs
 
--- src/heads.rt:106:9
 wrong-requires : tie.Need-wrong-requires
 wrong-requires c κs = search needs
 
--- src/heads.rt:106:9
 returns : tie.Need-returns
 returns c = row-of-as _ _ _ _ (column-none _ _ _ (c .before .before .before .before .pre) (sym (c .before .before .is-name .ensures) ∙ not-true _ (c .before .if1 .taken))) (c .wrong .ensures _)
 
--- src/heads.rt:111:12
 address-requires : tie.Need-address-requires
 address-requires c κs = search needs
 
--- src/heads.rt:112:12
 cast-t7 : tie.Need-cast-t7
 cast-t7 c = search needs
 
--- src/heads.rt:101:1
 returns-2 : tie.Need-returns-2
 returns-2 c = column-some _ _ _ (c .before .before .before .before .pre) _ (sym (c .before .before .is-name .ensures) ∙ not-false _ (c .before .if1 .left)) (rw (c .address .ensures) refl) refl
 

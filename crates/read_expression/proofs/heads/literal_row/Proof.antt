@@ -9,15 +9,12 @@ use Rattle.read_expression.proofs.heads.literal_row.Reads as reads
 use Rattle.read_expression.proofs.heads.literal_row.Lts as lts
 use Rattle.read_expression.proofs.heads.wrong.Reads as wrong-reads
 
--- src/heads.rt:264:9
 wrong-requires : tie.Need-wrong-requires
 wrong-requires c κs = search needs
 
--- src/heads.rt:264:9
 returns : tie.Need-returns
 returns c = λ t o s. row-of-as _ _ _ _ (row-none t o _ s (c .before .if1 .taken)) (c .wrong .ensures _)
 
--- src/heads.rt:260:1
 returns-2 : tie.Need-returns-2
 returns-2 c = λ t o s. row-some t o _ _ s (c .if1 .left) refl refl
 

@@ -10,11 +10,9 @@ use Rattle.read_expression.proofs.heads.wrong.Reads as reads
 use Rattle.read_expression.proofs.heads.wrong.Lts as lts
 use Rattle.read_expression.proofs.heads.plain_row.Reads as plain-row-reads
 
--- src/heads.rt:70:5
 plain-row-requires : tie.Need-plain-row-requires
 plain-row-requires c κs = search needs
 
--- src/heads.rt:67:1
 returns : tie.Need-returns
 unfolding headNumbers arity HeadFits
 returns c = λ t. record { is = sym (c .plain-row .ensures .0); many = c .plain-row .ensures .1; small = omega arith; fits = λ d. tt }

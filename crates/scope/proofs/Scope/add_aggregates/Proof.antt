@@ -22,55 +22,43 @@ Inv-loop catalog statement table rows self labels₀ matches₀ j₀ labels matc
 abbrev μ-loop : tie.MeasureT-loop
 μ-loop catalog statement table rows self labels₀ matches₀ j₀ labels matches j = length rows - j
 
--- src/lib.rt:93:9
 loop-holds : tie.Need-loop-holds Inv-loop μ-loop
 loop-holds c = (search needs, copying-begin _ refl refl, copying-begin _ refl refl)
 
--- src/lib.rt:94:21
 mul-r : tie.Need-mul-r Inv-loop μ-loop
 mul-r c = search needs
 
--- src/lib.rt:94:21
 shared-slice-read-r : tie.Need-shared-slice-read-r Inv-loop μ-loop
 shared-slice-read-r c = search needs
 
--- src/lib.rt:95:17
 label-of-requires : tie.Need-label-of-requires Inv-loop μ-loop
 label-of-requires c κs = search needs
 
--- src/lib.rt:106:13
 mul-labels : tie.Need-mul-labels Inv-loop μ-loop
 mul-labels c = search needs
 
--- src/lib.rt:106:13
 array-write-labels : tie.Need-array-write-labels Inv-loop μ-loop
 array-write-labels c =
     let b = c .before .before .before .before .before .before .before .before .before in
     omega (arith, b .loop-test .taken, b .before .before .before .before .before .before .pre .few)
 
--- src/lib.rt:107:26
 match-number-requires : tie.Need-match-number-requires Inv-loop μ-loop
 match-number-requires c κs = search needs
 
--- src/lib.rt:107:13
 mul-matches : tie.Need-mul-matches Inv-loop μ-loop
 mul-matches c = search needs
 
--- src/lib.rt:107:13
 array-write-matches : tie.Need-array-write-matches Inv-loop μ-loop
 array-write-matches c =
     let b = c .before .before .before .before .before .before .before .before .before .before in
     omega (arith, b .loop-test .taken, b .before .before .before .before .before .before .pre .few)
 
--- src/lib.rt:108:13
 add-j : tie.Need-add-j Inv-loop μ-loop
 add-j c = search needs
 
--- src/lib.rt:93:9
 loop-less : tie.Need-loop-less Inv-loop μ-loop
 loop-less c = search needs
 
--- src/lib.rt:93:9
 loop-again : tie.Need-loop-again Inv-loop μ-loop
 loop-again c =
     let b = c .before .before .before .before .before .before .before .before .before .before in
@@ -84,12 +72,10 @@ loop-again c =
       copying-map matchNumber (s .args .rows .now) _ (l .inv .2) few (b .loop-test .taken) (c .match-number .ensures),
     )
 
--- src/lib.rt:114:20
 cast-t33 : tie.Need-cast-t33 Inv-loop μ-loop
 cast-t33 c =
     record { fits = omega (arith, c .before .before .before .before .before .before .before .pre .few) }
 
--- src/lib.rt:79:5
 returns : tie.Need-returns Inv-loop μ-loop
 returns c =
     let l = c .before .before .loop in

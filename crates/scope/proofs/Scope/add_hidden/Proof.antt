@@ -8,39 +8,30 @@ use Rattle.scope.proofs.Scope.add_hidden.Tie as tie
 use Rattle.scope.proofs.Scope.add_hidden.Reads as reads
 use Rattle.scope.proofs.Scope.add_hidden.Lts as lts
 
--- src/lib.rt:247:17
 cast-w : tie.Need-cast-w
 cast-w c = search needs
 
--- src/lib.rt:248:13
 pass-match-requires : tie.Need-pass-match-requires
 pass-match-requires c κs = search needs
 
--- src/lib.rt:249:9
 mul-self : tie.Need-mul-self
 mul-self c = search needs
 
--- src/lib.rt:249:9
 element-write-self : tie.Need-element-write-self
 element-write-self c = search needs
 
--- src/lib.rt:250:9
 mul-self-2 : tie.Need-mul-self-2
 mul-self-2 c = search needs
 
--- src/lib.rt:250:9
 element-write-self-2 : tie.Need-element-write-self-2
 element-write-self-2 c = search needs
 
--- src/lib.rt:251:22
 add-self : tie.Need-add-self
 add-self c = search needs
 
--- src/lib.rt:252:23
 add-self-2 : tie.Need-add-self-2
 add-self-2 c = search needs
 
--- src/lib.rt:236:5
 returns : tie.Need-returns
 returns c =
     let s = c .before .before .before .before .before .before .before in

@@ -5,7 +5,6 @@ use Rattle.scope.proofs.Scope.new.Tie as tie
 use Rattle.scope.proofs.Scope.new.Reads as reads
 use Rattle.scope.proofs.Scope.new.Lts as lts
 
--- src/lib.rt:58:5
 returns : tie.Need-returns
 returns c = new
 

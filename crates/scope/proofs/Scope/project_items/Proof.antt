@@ -23,7 +23,6 @@ Inv-loop catalog statement table labels rows self₀ j₀ self j = (j ≤ length
 abbrev μ-loop : tie.MeasureT-loop
 μ-loop catalog statement table labels rows self₀ j₀ self j = length rows - j
 
--- src/lib.rt:224:9
 loop-holds : tie.Need-loop-holds Inv-loop μ-loop
 loop-holds c =
     let s = c .before .before .before .before .before in (
@@ -34,55 +33,42 @@ loop-holds c =
       storing-begin _ _ (s .pre .valid .matches-room),
     )
 
--- src/lib.rt:225:73
 cast-new-match : tie.Need-cast-new-match Inv-loop μ-loop
 cast-new-match c = search needs
 
--- src/lib.rt:225:83
 mul-new-match : tie.Need-mul-new-match Inv-loop μ-loop
 mul-new-match c = search needs
 
--- src/lib.rt:225:83
 shared-slice-read-new-match : tie.Need-shared-slice-read-new-match Inv-loop μ-loop
 shared-slice-read-new-match c = search needs
 
--- src/lib.rt:225:17
 new-match-requires : tie.Need-new-match-requires Inv-loop μ-loop
 new-match-requires c κs = search needs
 
--- src/lib.rt:226:30
 mul-self : tie.Need-mul-self Inv-loop μ-loop
 mul-self c = search needs
 
--- src/lib.rt:226:30
 shared-slice-read-self : tie.Need-shared-slice-read-self Inv-loop μ-loop
 shared-slice-read-self c = search needs
 
--- src/lib.rt:226:13
 mul-self-2 : tie.Need-mul-self-2 Inv-loop μ-loop
 mul-self-2 c = search needs
 
--- src/lib.rt:226:13
 element-write-self : tie.Need-element-write-self Inv-loop μ-loop
 element-write-self c = search needs
 
--- src/lib.rt:227:13
 mul-self-3 : tie.Need-mul-self-3 Inv-loop μ-loop
 mul-self-3 c = search needs
 
--- src/lib.rt:227:13
 element-write-self-2 : tie.Need-element-write-self-2 Inv-loop μ-loop
 element-write-self-2 c = search needs
 
--- src/lib.rt:228:13
 add-j : tie.Need-add-j Inv-loop μ-loop
 add-j c = search needs
 
--- src/lib.rt:224:9
 loop-less : tie.Need-loop-less Inv-loop μ-loop
 loop-less c = search needs
 
--- src/lib.rt:224:9
 loop-again : tie.Need-loop-again Inv-loop μ-loop
 loop-again c =
     let b = c .before .before .before .before .before .before in
@@ -96,11 +82,9 @@ loop-again c =
       storing-more _ (l .inv .4) few (b .loop-test .taken) (c .before .new-match .ensures),
     )
 
--- src/lib.rt:230:22
 cast-self : tie.Need-cast-self Inv-loop μ-loop
 cast-self c = search needs
 
--- src/lib.rt:211:5
 returns : tie.Need-returns Inv-loop μ-loop
 returns c =
     let l = c .before .loop in

@@ -29,39 +29,30 @@ Inv-loop2 a b self₀ from first second j i₀ self i =
 abbrev μ-loop2 : tie.MeasureT-loop2
 μ-loop2 a b self₀ from first second j i₀ self i = first - i
 
--- src/lib.rt:104:9
 loop-holds : tie.Need-loop-holds Inv-loop μ-loop Inv-loop2 μ-loop2
 loop-holds c = search needs
 
--- src/lib.rt:105:35
 add-self : tie.Need-add-self Inv-loop μ-loop Inv-loop2 μ-loop2
 add-self c = search needs
 
--- src/lib.rt:105:30
 mul-self : tie.Need-mul-self Inv-loop μ-loop Inv-loop2 μ-loop2
 mul-self c = search needs
 
--- src/lib.rt:105:30
 array-read-self : tie.Need-array-read-self Inv-loop μ-loop Inv-loop2 μ-loop2
 array-read-self c = search needs
 
--- src/lib.rt:105:13
 mul-self-2 : tie.Need-mul-self-2 Inv-loop μ-loop Inv-loop2 μ-loop2
 mul-self-2 c = search needs
 
--- src/lib.rt:105:13
 element-write-self : tie.Need-element-write-self Inv-loop μ-loop Inv-loop2 μ-loop2
 element-write-self c = search needs
 
--- src/lib.rt:106:13
 add-j : tie.Need-add-j Inv-loop μ-loop Inv-loop2 μ-loop2
 add-j c = search needs
 
--- src/lib.rt:104:9
 loop-less : tie.Need-loop-less Inv-loop μ-loop Inv-loop2 μ-loop2
 loop-less c = search needs
 
--- src/lib.rt:104:9
 loop-again : tie.Need-loop-again Inv-loop μ-loop Inv-loop2 μ-loop2
 loop-again c = (
   search needs,
@@ -74,39 +65,30 @@ loop-again c = (
       (c .loop-test .taken),
 )
 
--- src/lib.rt:109:9
 loop2-holds : tie.Need-loop2-holds Inv-loop μ-loop Inv-loop2 μ-loop2
 loop2-holds c = (search needs, refl, refl, refl, refl, refl, copying-begin _ (c .before .loop .inv .6 .room) refl)
 
--- src/lib.rt:110:39
 mul-self-3 : tie.Need-mul-self-3 Inv-loop μ-loop Inv-loop2 μ-loop2
 mul-self-3 c = search needs
 
--- src/lib.rt:110:39
 array-read-self-2 : tie.Need-array-read-self-2 Inv-loop μ-loop Inv-loop2 μ-loop2
 array-read-self-2 c = search needs
 
--- src/lib.rt:110:25
 add-self-2 : tie.Need-add-self-2 Inv-loop μ-loop Inv-loop2 μ-loop2
 add-self-2 c = search needs
 
--- src/lib.rt:110:13
 mul-self-4 : tie.Need-mul-self-4 Inv-loop μ-loop Inv-loop2 μ-loop2
 mul-self-4 c = search needs
 
--- src/lib.rt:110:13
 element-write-self-2 : tie.Need-element-write-self-2 Inv-loop μ-loop Inv-loop2 μ-loop2
 element-write-self-2 c = search needs
 
--- src/lib.rt:111:13
 add-i : tie.Need-add-i Inv-loop μ-loop Inv-loop2 μ-loop2
 add-i c = search needs
 
--- src/lib.rt:109:9
 loop2-less : tie.Need-loop2-less Inv-loop μ-loop Inv-loop2 μ-loop2
 loop2-less c = search needs
 
--- src/lib.rt:109:9
 loop2-again : tie.Need-loop2-again Inv-loop μ-loop Inv-loop2 μ-loop2
 loop2-again c = (
   search needs,
@@ -129,7 +111,6 @@ loop2-again c = (
       )) refl,
 )
 
--- src/lib.rt:96:5
 returns : tie.Need-returns Inv-loop μ-loop Inv-loop2 μ-loop2
 returns c =
     swapped-end _ (c .before .before .before .before .before .pre) (c .before .before .before .loop .inv .6)

@@ -9,50 +9,39 @@ use Rattle.scope.proofs.expressions.label_found.Tie as tie
 use Rattle.scope.proofs.expressions.label_found.Reads as reads
 use Rattle.scope.proofs.expressions.label_found.Lts as lts
 
--- src/expressions.rt:36:9
 lookup-requires : tie.Need-lookup-requires
 lookup-requires c κs = search needs
 
--- src/expressions.rt:40:19
 enum-known-found : tie.Need-enum-known-found
 enum-known-found c = search needs
 
--- src/expressions.rt:40:40
 cast-number : tie.Need-cast-number
 cast-number c = search needs
 
--- src/expressions.rt:40:25
 number-requires : tie.Need-number-requires
 number-requires c κs = search needs
 
--- src/expressions.rt:41:36
 enum-told : tie.Need-enum-told
 enum-told c = search needs
 
--- src/expressions.rt:42:33
 enum-told-2 : tie.Need-enum-told-2
 enum-told-2 c = search needs
 
--- src/expressions.rt:43:29
 enum-told-3 : tie.Need-enum-told-3
 enum-told-3 c = search needs
 
--- src/expressions.rt:44:32
 enum-told-4 : tie.Need-enum-told-4
 enum-told-4 c = search needs
 
--- src/expressions.rt:45:33
 enum-told-5 : tie.Need-enum-told-5
 enum-told-5 c = search needs
 
--- src/expressions.rt:19:1
 returns : tie.Need-returns
 returns c =
     let s = c .before .before .before .before .before .before .before .before .before .before in
     found-at (s .args .width) (s .args .labels .now) (c .before .before .before .before .lookup .ensures)
     (c .before .before .found .given .1) (c .number .ensures)
 
--- src/expressions.rt:19:1
 returns-2 : tie.Need-returns-2
 unfolding foundOf
 returns-2 c =
@@ -60,7 +49,6 @@ returns-2 c =
     found-none (s .args .width) (s .args .labels .now) (c .before .before .lookup .ensures) unknownQualifier
     (ap foundOf (c .enum-told .given .1))
 
--- src/expressions.rt:19:1
 returns-3 : tie.Need-returns-3
 unfolding foundOf
 returns-3 c =
@@ -68,7 +56,6 @@ returns-3 c =
     found-none (s .args .width) (s .args .labels .now) (c .before .before .lookup .ensures) unknownColumn
     (ap foundOf (c .enum-told2 .given .1))
 
--- src/expressions.rt:19:1
 returns-4 : tie.Need-returns-4
 unfolding foundOf
 returns-4 c =
@@ -76,7 +63,6 @@ returns-4 c =
     found-none (s .args .width) (s .args .labels .now) (c .before .before .lookup .ensures) ambiguousColumn
     (ap foundOf (c .enum-told3 .given .1))
 
--- src/expressions.rt:19:1
 returns-5 : tie.Need-returns-5
 unfolding foundOf
 returns-5 c =
@@ -84,7 +70,6 @@ returns-5 c =
     found-none (s .args .width) (s .args .labels .now) (c .before .before .lookup .ensures) constantOnly
     (ap foundOf (c .enum-told4 .given .1))
 
--- src/expressions.rt:19:1
 returns-6 : tie.Need-returns-6
 unfolding foundOf
 returns-6 c =

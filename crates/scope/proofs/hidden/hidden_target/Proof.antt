@@ -6,19 +6,15 @@ use Rattle.scope.proofs.hidden.hidden_target.Tie as tie
 use Rattle.scope.proofs.hidden.hidden_target.Reads as reads
 use Rattle.scope.proofs.hidden.hidden_target.Lts as lts
 
--- src/hidden.rt:12:12
 sub-if1 : tie.Need-sub-if1
 sub-if1 c = search needs
 
--- src/hidden.rt:13:16
 add-result : tie.Need-add-result
 add-result c = search needs
 
--- src/hidden.rt:13:9
 returns : tie.Need-returns
 returns c = target-shown _ _ _ (c .if1 .taken)
 
--- src/hidden.rt:8:1
 returns-2 : tie.Need-returns-2
 returns-2 c = target-hidden _ _ _ (c .if1 .left)
 

@@ -7,19 +7,15 @@ use Rattle.scope.proofs.labels.behind.Tie as tie
 use Rattle.scope.proofs.labels.behind.Reads as reads
 use Rattle.scope.proofs.labels.behind.Lts as lts
 
--- src/lib.rt:27:9
 returns : tie.Need-returns
 returns c = sym (shifted-free _ _ (c .if1 .taken))
 
--- src/lib.rt:29:9
 mul-result : tie.Need-mul-result
 mul-result c = search needs
 
--- src/lib.rt:29:5
 add-result : tie.Need-add-result
 add-result c = search needs
 
--- src/lib.rt:22:1
 returns-2 : tie.Need-returns-2
 returns-2 c = sym (shifted-slot _ _ (c .if1 .left))
 

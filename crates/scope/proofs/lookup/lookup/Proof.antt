@@ -1,9 +1,8 @@
--- `lookup`: the name's bytes, in the text by its address, among the first labels, matches and tables.
-use mathlib.Core.Path.{sym, ap, _∙_}
+-- `lookup`: the name's bytes, among the first labels, matches and tables.
+use mathlib.Core.Path.{sym, ap}
 use native.Mathlib.Omega.{arith}
 use lib.ListN.{length, length-take}
 use Rattle.rules.specs.Places.{wordAt}
-use Rattle.text.specs.Places.{bytes-catalog, bytes-statement}
 use Rattle.scope.specs.Search.{look-empty, look-as}
 use borrow.Author.Needs.{needs}
 use Rattle.scope.proofs.lookup.lookup.Statement.{statement}
@@ -21,38 +20,20 @@ first-matches-requires c κs = search needs
 first-requires-2 : tie.Need-first-requires-2
 first-requires-2 c κs = search needs
 
-part-requires : tie.Need-part-requires
-part-requires c κs = search needs
+bytes-at-requires : tie.Need-bytes-at-requires
+bytes-at-requires c κs = search needs
 
 lookup-named-requires : tie.Need-lookup-named-requires
 lookup-named-requires c κs = (
-  omega (arith, c .before .before .before .before .if1 .left),
-  omega (arith, simp length-take at (ap length (c .before .before .before .before .before .first .ensures)), c .before .before .before .before .before .before .before .before .before .before .before .fits .width .fits),
+  omega (arith, c .before .before .before .if1 .left),
+  omega (arith, simp length-take at (ap length (c .before .before .before .before .first .ensures)), c .before .before .before .before .before .before .before .before .before .before .fits .width .fits),
 )
 
 returns-2 : tie.Need-returns-2
 unfolding wordAt
 returns-2 c =
-    look-as _ _ _ _ _ _ (c .before .before .before .before .before .before .first .ensures) (c .before .before .before .before .first-matches .ensures) (c .before .before .before .first2 .ensures)
-    (c .lookup-named .ensures _ (bytes-catalog _ _ _ _ (c .before .before .if2 .taken) ∙ sym (c .before .part .ensures)))
-
-cast-part : tie.Need-cast-part
-cast-part c = search needs
-
-part-requires-2 : tie.Need-part-requires-2
-part-requires-2 c κs = search needs
-
-lookup-named-requires-2 : tie.Need-lookup-named-requires-2
-lookup-named-requires-2 c κs = (
-  omega (arith, c .before .before .before .before .if1 .left),
-  omega (arith, simp length-take at (ap length (c .before .before .before .before .before .first .ensures)), c .before .before .before .before .before .before .before .before .before .before .before .fits .width .fits),
-)
-
-returns-3 : tie.Need-returns-3
-unfolding wordAt
-returns-3 c =
-    look-as _ _ _ _ _ _ (c .before .before .before .before .before .before .first .ensures) (c .before .before .before .before .first-matches .ensures) (c .before .before .before .first2 .ensures)
-    (c .lookup-named2 .ensures _ (bytes-statement _ _ _ _ (c .before .before .if2 .left) ∙ sym (c .before .part2 .ensures)))
+    look-as _ _ _ _ _ _ (c .before .before .before .before .before .first .ensures) (c .before .before .before .first-matches .ensures) (c .before .before .first2 .ensures)
+    (c .lookup-named .ensures _ (sym (c .before .bytes-at .ensures)))
 
 pub lookup-spec : {M : Type 1} → statement M
 lookup-spec =
@@ -62,10 +43,6 @@ lookup-spec =
     returns
     first-matches-requires
     first-requires-2
-    part-requires
+    bytes-at-requires
     lookup-named-requires
-    returns-2
-    cast-part
-    part-requires-2
-    lookup-named-requires-2
-    returns-3)
+    returns-2)

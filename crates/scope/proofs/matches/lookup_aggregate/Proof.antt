@@ -19,35 +19,27 @@ Inv-loop catalog statement table matches width r ms i₀ i = Matching (treeAt ca
 abbrev μ-loop : tie.MeasureT-loop
 μ-loop catalog statement table matches width r ms i₀ i = length ms - i
 
--- src/matches.rt:32:9
 first-matches-requires : tie.Need-first-matches-requires Inv-loop μ-loop
 first-matches-requires c κs = search needs
 
--- src/matches.rt:34:5
 loop-holds : tie.Need-loop-holds Inv-loop μ-loop
 loop-holds c = search needs
 
--- src/matches.rt:35:17
 mul-m : tie.Need-mul-m Inv-loop μ-loop
 mul-m c = search needs
 
--- src/matches.rt:35:17
 shared-slice-read-m : tie.Need-shared-slice-read-m Inv-loop μ-loop
 shared-slice-read-m c = search needs
 
--- src/matches.rt:35:17
 cast-m : tie.Need-cast-m Inv-loop μ-loop
 cast-m c = omega (arith, c .shared-slice-known5 .given (c .before .before .loop .i))
 
--- src/matches.rt:37:49
 sub-equal : tie.Need-sub-equal Inv-loop μ-loop
 sub-equal c = search needs
 
--- src/matches.rt:37:16
 equal-requires : tie.Need-equal-requires Inv-loop μ-loop
 equal-requires c κs = search needs
 
--- src/matches.rt:38:36
 cast-t17 : tie.Need-cast-t17 Inv-loop μ-loop
 cast-t17 c =
     let b = c .before .before .before .before in
@@ -62,7 +54,6 @@ cast-t17 c =
       );
     }
 
--- src/matches.rt:38:17
 returns : tie.Need-returns Inv-loop μ-loop
 returns c =
     let b = c .before .before .before .before in
@@ -70,15 +61,12 @@ returns c =
     (match-hit (b .before .loop .inv) (b .loop-test .taken) (c .before .before .if1 .taken) (c .before .equal .ensures)
     (c .if2 .taken))
 
--- src/matches.rt:41:9
 add-i : tie.Need-add-i Inv-loop μ-loop
 add-i c = search needs
 
--- src/matches.rt:34:5
 loop-less : tie.Need-loop-less Inv-loop μ-loop
 loop-less c = search needs
 
--- src/matches.rt:34:5
 loop-again : tie.Need-loop-again Inv-loop μ-loop
 loop-again c =
     let b = c .before .before in
@@ -87,7 +75,6 @@ loop-again c =
     (λ w. match-skip (b .before .loop .inv) (b .loop-test .taken) (w .left))
     (c .if1 .came)
 
--- src/matches.rt:19:1
 returns-2 : tie.Need-returns-2 Inv-loop μ-loop
 returns-2 c =
     rw (← c .before .before .first-matches .ensures) (match-end (c .before .loop .inv) (c .loop-test .left))

@@ -7,28 +7,22 @@ use Rattle.scope.proofs.matches.match_number.Tie as tie
 use Rattle.scope.proofs.matches.match_number.Reads as reads
 use Rattle.scope.proofs.matches.match_number.Lts as lts
 
--- src/matches.rt:55:16
 cast-result : tie.Need-cast-result
 cast-result c = search needs
 
--- src/matches.rt:55:16
 add-result : tie.Need-add-result
 add-result c = search needs
 
--- src/matches.rt:55:9
 returns : tie.Need-returns
 unfolding matchNumber
 returns c = omega (arith, c .if1 .taken)
 
--- src/matches.rt:57:5
 cast-result-2 : tie.Need-cast-result-2
 cast-result-2 c = search needs
 
--- src/matches.rt:57:5
 add-result-2 : tie.Need-add-result-2
 add-result-2 c = search needs
 
--- src/matches.rt:51:1
 returns-2 : tie.Need-returns-2
 unfolding matchNumber
 returns-2 c = omega (arith, c .if1 .left)

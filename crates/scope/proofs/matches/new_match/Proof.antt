@@ -7,27 +7,21 @@ use Rattle.scope.proofs.matches.new_match.Tie as tie
 use Rattle.scope.proofs.matches.new_match.Reads as reads
 use Rattle.scope.proofs.matches.new_match.Lts as lts
 
--- src/matches.rt:72:9
 lookup-aggregate-requires : tie.Need-lookup-aggregate-requires
 lookup-aggregate-requires c κs = search needs
 
--- src/matches.rt:74:27
 enum-told : tie.Need-enum-told
 enum-told c = search needs
 
--- src/matches.rt:75:29
 enum-told-2 : tie.Need-enum-told-2
 enum-told-2 c = search needs
 
--- src/matches.rt:75:29
 match-number-requires : tie.Need-match-number-requires
 match-number-requires c κs = search needs
 
--- src/matches.rt:61:1
 returns : tie.Need-returns
 returns c = new-none _ _ _ (c .before .before .lookup-aggregate .ensures) (c .enum-told .given .1)
 
--- src/matches.rt:61:1
 returns-2 : tie.Need-returns-2
 returns-2 c =
     c .match-number .ensures

@@ -6,19 +6,15 @@ use Rattle.scope.proofs.matches.pass_match.Tie as tie
 use Rattle.scope.proofs.matches.pass_match.Reads as reads
 use Rattle.scope.proofs.matches.pass_match.Lts as lts
 
--- src/matches.rt:93:9
 returns : tie.Need-returns
 returns c = pass-none _ _ _ (c .if1 .taken)
 
--- src/matches.rt:95:54
 sub-new-match : tie.Need-sub-new-match
 sub-new-match c = search needs
 
--- src/matches.rt:95:5
 new-match-requires : tie.Need-new-match-requires
 new-match-requires c κs = search needs
 
--- src/matches.rt:81:1
 returns-2 : tie.Need-returns-2
 returns-2 c = pass-some _ _ _ _ (c .before .if1 .left) (c .new-match .ensures)
 

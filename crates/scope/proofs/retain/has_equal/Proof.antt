@@ -16,23 +16,18 @@ Inv-loop catalog statement table rows n r i₀ i = Seeking (treeAt catalog state
 abbrev μ-loop : tie.MeasureT-loop
 μ-loop catalog statement table rows n r i₀ i = n - i
 
--- src/retain.rt:18:5
 loop-holds : tie.Need-loop-holds Inv-loop μ-loop
 loop-holds c = seek-begin _ _ _
 
--- src/retain.rt:19:45
 mul-equal : tie.Need-mul-equal Inv-loop μ-loop
 mul-equal c = search needs
 
--- src/retain.rt:19:45
 shared-slice-read-equal : tie.Need-shared-slice-read-equal Inv-loop μ-loop
 shared-slice-read-equal c = search needs
 
--- src/retain.rt:19:12
 equal-requires : tie.Need-equal-requires Inv-loop μ-loop
 equal-requires c κs = search needs
 
--- src/retain.rt:20:13
 returns : tie.Need-returns Inv-loop μ-loop
 returns c =
     let b = c .before .before .before in
@@ -40,15 +35,12 @@ returns c =
     seek-hit (s .args .n) (s .args .rows .now) (b .before .loop .inv) (s .pre) (b .loop-test .taken)
     (c .before .equal .ensures) (c .if1 .taken)
 
--- src/retain.rt:22:9
 add-i : tie.Need-add-i Inv-loop μ-loop
 add-i c = search needs
 
--- src/retain.rt:18:5
 loop-less : tie.Need-loop-less Inv-loop μ-loop
 loop-less c = search needs
 
--- src/retain.rt:18:5
 loop-again : tie.Need-loop-again Inv-loop μ-loop
 loop-again c =
     let b = c .before .before .before in
@@ -56,7 +48,6 @@ loop-again c =
     seek-miss (s .args .n) (s .args .rows .now) (b .before .loop .inv) (s .pre) (b .loop-test .taken)
     (c .before .equal .ensures) (c .if1 .left)
 
--- src/retain.rt:11:1
 returns-2 : tie.Need-returns-2 Inv-loop μ-loop
 returns-2 c =
     let s = c .before .before .before .before .before .before in

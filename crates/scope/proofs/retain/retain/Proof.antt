@@ -19,47 +19,37 @@ Inv-loop catalog statement table rows kept₀ n k₀ i₀ kept k i = (n + length
 abbrev μ-loop : tie.MeasureT-loop
 μ-loop catalog statement table rows kept₀ n k₀ i₀ kept k i = length rows - i
 
--- src/retain.rt:46:5
 loop-holds : tie.Need-loop-holds Inv-loop μ-loop
 loop-holds c = (search needs, retain-begin _ _ _ _)
 
--- src/retain.rt:47:17
 mul-r : tie.Need-mul-r Inv-loop μ-loop
 mul-r c = search needs
 
--- src/retain.rt:47:17
 shared-slice-read-r : tie.Need-shared-slice-read-r Inv-loop μ-loop
 shared-slice-read-r c = search needs
 
--- src/retain.rt:48:13
 has-equal-requires : tie.Need-has-equal-requires Inv-loop μ-loop
 has-equal-requires c κs =
     let l = c .before .before .before .loop in
     omega (arith, l .inv .0, l .inv .1 .room, l .inv .1 .few, c .before .before .loop-test .taken)
 
--- src/retain.rt:49:13
 mul-kept : tie.Need-mul-kept Inv-loop μ-loop
 mul-kept c = search needs
 
--- src/retain.rt:49:13
 slice-write-kept : tie.Need-slice-write-kept Inv-loop μ-loop
 slice-write-kept c =
     let l = c .before .before .before .before .before .loop in
     omega (arith, l .inv .0, l .inv .1 .room, l .inv .1 .few, c .before .before .before .before .loop-test .taken)
 
--- src/retain.rt:50:13
 add-k : tie.Need-add-k Inv-loop μ-loop
 add-k c = search needs
 
--- src/retain.rt:52:9
 add-i : tie.Need-add-i Inv-loop μ-loop
 add-i c = search needs
 
--- src/retain.rt:46:5
 loop-less : tie.Need-loop-less Inv-loop μ-loop
 loop-less c = search needs
 
--- src/retain.rt:46:5
 loop-again : tie.Need-loop-again Inv-loop μ-loop
 loop-again c =
     let b = c .before .before .before .before in
@@ -73,11 +63,9 @@ loop-again c =
           (c .if1 .came),
     )
 
--- src/retain.rt:28:1
 same-length : tie.Need-same-length Inv-loop μ-loop
 same-length c = c .before .loop .inv .1 .room
 
--- src/retain.rt:28:1
 returns : tie.Need-returns Inv-loop μ-loop
 returns c =
     let s = c .before .loop .inv .1 in

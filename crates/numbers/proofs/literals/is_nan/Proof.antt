@@ -1,8 +1,8 @@
--- `value::bits::is_nan` meets its contract.
+-- `literals::is_nan`: the test of the rules.
 use mathlib.Core.Path.{refl}
 use Rattle.rules.specs.BuildExpression.{isNullOrNan}
-use Rattle.value.proofs.bits.is_nan.Statement.{statement}
-use Rattle.value.proofs.bits.is_nan.Tie as tie
+use Rattle.numbers.proofs.literals.is_nan.Statement.{statement}
+use Rattle.numbers.proofs.literals.is_nan.Tie as tie
 
 returns : tie.Need-returns
 unfolding isNullOrNan

@@ -1,9 +1,9 @@
--- `constants::is_null_or_nan`: by the kind of the literal.
+-- `literals::is_null_or_nan`: by the kind of the literal.
 use borrow.Author.Needs.{needs}
 use Rattle.rules.specs.BuildExpression.{isNullOrNan}
 use Rattle.numbers.specs.Values.{value-arm, value-rest}
-use Rattle.expression.proofs.constants.is_null_or_nan.Statement.{statement}
-use Rattle.expression.proofs.constants.is_null_or_nan.Tie as tie
+use Rattle.numbers.proofs.literals.is_null_or_nan.Statement.{statement}
+use Rattle.numbers.proofs.literals.is_null_or_nan.Tie as tie
 
 joined-requires : tie.Need-joined-requires
 joined-requires c κs = search needs
