@@ -1,4 +1,6 @@
 // The fixed list of answers (host/answers/README.md): records of a catalog, a statement and the text that is printed of them.
+#![tactic(auto)]
+
 ghost use Rattle.std.specs.Prelude.{◌≡◌, ◌-◌, length};
 ghost use Rattle.std.proofs.Math.Option.{some};
 ghost use Rattle.answer_list.specs.Records.{sized, record_at};

@@ -1,4 +1,6 @@
 // Expressions resolved over a scope and appended to the plan as cells (planner.rs, build_expression).
+#![tactic(auto)]
+
 mod leaves; // leaves.rt: what is built of a record before its operands
 mod operators; // operators.rt: what is appended behind them
 pub mod position; // position.rt: a column that was looked up

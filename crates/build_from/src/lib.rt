@@ -1,4 +1,6 @@
 // FROM planned (planner.rs, build_from_clause and build_from): the scope of each item, its cells and its node records.
+#![tactic(auto)]
+
 pub mod clause; // clause.rt: FROM as a whole
 pub mod joins; // joins.rt: a join from its sides
 pub mod merges; // merges.rt: the scopes of a join's sides, merged

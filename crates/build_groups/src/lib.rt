@@ -1,4 +1,6 @@
 // The groups and the aggregates of a SELECT (planner.rs, build_select and build_aggregate).
+#![tactic(auto)]
+
 mod aggregate; // aggregate.rt: the aggregate stage over rows
 mod rows; // rows.rt: the rows of groups and functions
 

@@ -1,4 +1,6 @@
 // The hidden columns of a SELECT (planner.rs, build_select_hidden): what HAVING and ORDER BY call for and the items lack.
+#![tactic(auto)]
+
 mod walk; // walk.rt: the rows that a walk visits
 mod later; // later.rt: those of HAVING and ORDER BY
 mod lacking; // lacking.rt: the column that a row calls for

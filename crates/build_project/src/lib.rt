@@ -1,5 +1,7 @@
 // The projection of a SELECT (planner.rs, build_select): its items, and the columns that HAVING and ORDER BY call for and
 // the items lack.
+#![tactic(auto)]
+
 mod hidden; // hidden.rt: the hidden columns' cells and parts, and the record's end
 mod lone; // lone.rt: a star that stands alone
 mod projected; // projected.rt: the projected scope

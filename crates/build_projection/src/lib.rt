@@ -1,4 +1,6 @@
 // SELECT's items over FROM's scope and the projection of them (planner.rs, build_select).
+#![tactic(auto)]
+
 pub mod items; // items.rt: the items, each star replaced by FROM's columns
 mod labels; // labels.rt: the label of each
 pub mod projection; // projection.rt: their cells and their parts of the record

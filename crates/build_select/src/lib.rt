@@ -1,5 +1,7 @@
 // SELECT planned whole (planner.rs, build_select): each function builds a clause or two behind those before it, and goes
 // on to the next.
+#![tactic(auto)]
+
 mod ends; // ends.rt: OFFSET, LIMIT, the last remap and the end of the plan
 mod groups; // groups.rt: groups, aggregates and the projection
 mod items; // items.rt: the items and WHERE

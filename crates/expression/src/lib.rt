@@ -1,4 +1,6 @@
 // Constant expressions worked out over the statement's table (expression.rs, evaluate).
+#![tactic(auto)]
+
 pub mod constants;
 pub mod operators;
 pub mod planned;

@@ -1,4 +1,6 @@
 // FROM: the trees of tables and joins, read by a loop over an explicit stack of the joins that are open.
+#![tactic(auto)]
+
 mod record;
 pub mod roots;
 pub mod row;

@@ -1,4 +1,6 @@
 // What an open file holds, and a text from one, read as far as it takes to see that it is too long.
+#![tactic(auto)]
+
 ghost use Rattle.input.specs.Input.{Within, Whole};
 
 pub const SIZE: usize = 65537;

@@ -1,4 +1,6 @@
 // Checked arithmetic on 64-bit integers (value.rs, checked_add .. checked_sub): the exact result, or why there is none.
+#![tactic(auto)]
+
 pub mod bits;
 pub mod parts;
 

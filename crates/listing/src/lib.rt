@@ -1,4 +1,6 @@
 // The plan as text (docs/PLAN.md), from the numbers of an area and the two texts.
+#![tactic(auto)]
+
 mod cells; // cells.rt: the lines of cells
 mod nodes; // nodes.rt: the lines of nodes
 mod own; // own.rt: the statement's own lines

@@ -1,4 +1,6 @@
 // Numbers of 32 bits in a lent slice.
+#![tactic(auto)]
+
 pub mod halves;
 pub mod literals; // literals.rt: literals by their kinds and two numbers
 pub mod refusals; // refusals.rt: the numbers of refusals

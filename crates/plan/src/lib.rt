@@ -1,5 +1,7 @@
 // The plan in the lent area: its cells from the header on, its nodes and the statement's own numbers kept apart until
 // the number of cells is known.
+#![tactic(auto)]
+
 pub mod cells;
 pub mod finish;
 pub mod nodes;

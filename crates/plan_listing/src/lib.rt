@@ -1,4 +1,6 @@
 // What the planning program prints: the listing of the plan that the planner made of two texts, or of its refusal.
+#![tactic(auto)]
+
 ghost use Rattle.std.specs.Prelude.{drop};
 ghost use Rattle.listing.specs.Listed.{Holds};
 ghost use Rattle.plan_listing.specs.Shown.{shown, Lists};

@@ -1,4 +1,6 @@
 // The planner: both texts to the plan in the lent area (document 01, "Entry"; planner.rs, Planner::build).
+#![tactic(auto)]
+
 mod building; // building.rt: a statement that was read, by its kind
 
 ghost use Rattle.std.specs.Prelude.{◌≡◌, ◌≤◌, length};

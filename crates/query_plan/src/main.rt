@@ -1,5 +1,7 @@
 // The planning program: reads `catalog.txt` where it runs and a statement on standard input, and prints the listing of the
 // plan, or the refusal. The record that a refusal points at is shown on standard error.
+#![tactic(auto)]
+
 ghost use Rattle.std.specs.Prelude.{◌≡◌, drop};
 ghost use Rattle.rules.specs.Listing.{listing};
 ghost use Rattle.listing.specs.Listed.{Holds};

@@ -1,4 +1,6 @@
 // Reads `catalog.txt` where it runs and a statement on standard input, and prints what was read or why it is refused.
+#![tactic(auto)]
+
 ghost use Rattle.std.specs.Prelude.{◌≤◌, length, take, ◌≡◌};
 ghost use Rattle.io.specs.Counts.{IsPrefixLen};
 ghost use Rattle.schema.specs.Room.{numbers_for};

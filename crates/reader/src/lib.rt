@@ -1,4 +1,6 @@
 // Both texts read: the catalog and the statement as numbers, or document 01's 2, 3 or 4.
+#![tactic(auto)]
+
 ghost use Rattle.std.specs.Prelude.{◌≡◌, ◌≤◌, length};
 ghost use Rattle.schema.specs.Room.{numbers_for};
 ghost use Rattle.reader.specs.Reading.{texts_by, TextsRead};

@@ -1,4 +1,6 @@
 // The reading of both texts for a host in Rust: a refusal, or what was read, in numbers.
+#![tactic(auto)]
+
 ghost use Rattle.std.specs.Prelude.{◌≡◌};
 ghost use Rattle.rules.specs.Refusals as rules;
 ghost use Rattle.rules.specs.Schema.{Catalog};

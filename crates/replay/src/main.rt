@@ -1,5 +1,7 @@
 // Replays the fixed list (host/answers/README.md): plans each case of `list.txt` where it runs and compares the listing with
 // the answer on the list, byte for byte.
+#![tactic(auto)]
+
 ghost use Rattle.std.specs.Prelude.{◌≡◌, List, ℕ, ◌<◌, length};
 ghost use Rattle.rules.specs.Lists.{same};
 ghost use Rattle.rules.specs.Listing.{listing};

@@ -1,4 +1,6 @@
 // The catalog (schema.rs; engine.rs, Catalog): its text into numbers, and lookups in them.
+#![tactic(auto)]
+
 pub mod read;
 mod record;
 

@@ -1,4 +1,6 @@
 // The scope (planner.rs, Scope): which columns are visible, under which names.
+#![tactic(auto)]
+
 mod endings;
 pub mod expressions;
 pub mod hidden;

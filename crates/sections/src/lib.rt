@@ -1,4 +1,6 @@
 // Sections of a statement: the records of one kind that stand in a row, each with its expressions.
+#![tactic(auto)]
+
 pub mod entry;
 
 ghost use Rattle.std.specs.Prelude.{◌≡◌, [], ◌∷◌, ℕ, ◌+◌, ◌≤◌, ◌<◌, length};

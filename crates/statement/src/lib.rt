@@ -1,4 +1,6 @@
 // The statement from its text: its expressions in a table of rows (crate ast), its FROM items and its other parts in two more slices.
+#![tactic(auto)]
+
 pub mod access;
 mod bodies;
 mod first;

@@ -120,7 +120,7 @@ fields-run o (x ∷ xs) = go (eqb x 10) (eqb x 9) refl refl (fields-run (suc o) 
     go : (a b : Bool) → eqb x 10 ≡ a → eqb x 9 ≡ b → fields (suc o) xs ≡ record { bytes = take (run 10 9 xs) xs; start = suc o } ∷ more (suc o + run 10 9 xs) (drop (run 10 9 xs) xs)
         → fields o (x ∷ xs) ≡ record { bytes = take (run 10 9 (x ∷ xs)) (x ∷ xs); start = o } ∷ more (o + run 10 9 (x ∷ xs)) (drop (run 10 9 (x ∷ xs)) (x ∷ xs))
     go true b e f ih = rw (fields, run, e, more, e)
-    go false true e f ih = rw (fields, run, e, f, more, e, add-zero o)
+    go false true e f ih = rw (fields, run, e, f, more, e, run, e, f, add-zero o)
     go false false e f ih = rw (fields, run, e, f, ih) (ap (λ n. record { bytes = x ∷ take (run 10 9 xs) xs; start = o } ∷ more n (drop (run 10 9 xs) xs)) (omega arith))
 
 -- the fields of the line at p, and those behind the field that ends at e
@@ -161,7 +161,14 @@ module _ (base : ℕ) (t : Bytes) where
   fields-more st ln i (suc k) a b h g =
       let ne : i ≡ i + suc k → ⊥ = λ e. omega (arith, e) in
       let s : i + suc k ≡ suc i + k = omega arith in
-      rw (get_or-set_other st (i + suc k) i a 0 ne, get_or-set_other ln (i + suc k) i b 0 ne, s, fields-more st ln (suc i) k a b (omega arith) (omega arith))
+      let ih = fields-more st ln (suc i) k a b (omega arith) (omega arith) in
+      let x = get_or-set_other st (i + suc k) i a 0 ne in
+      let y = get_or-set_other ln (i + suc k) i b 0 ne in
+      let whole : fields_from base t (set st (i + suc k) a) (set ln (i + suc k) b) i (suc (suc k))
+          ≡ field base t (get_or (set st (i + suc k) a) i 0) (get_or (set ln (i + suc k) b) i 0) ∷ fields_from base t (set st (i + suc k) a) (set ln (i + suc k) b) (suc i) (suc k) = refl in
+      let parts : fields_from base t st ln i (suc k) ++ (field base t a b ∷ [])
+          ≡ field base t (get_or st i 0) (get_or ln i 0) ∷ (fields_from base t st ln (suc i) k ++ (field base t a b ∷ [])) = refl in
+      cc (whole, parts, ih, s, x, y)
 
   field-more : (st ln : List ℕ) (n a b : ℕ) → n < length st → n < length ln → fields_from base t (set st n a) (set ln n b) 0 (n + 1) ≡ fields_from base t st ln 0 n ++ (field base t a b ∷ [])
   field-more st ln n a b h g = rw (add-one n) (rw zero-add at (fields-more st ln 0 n a b (omega arith) (omega arith)))

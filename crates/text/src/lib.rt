@@ -1,4 +1,6 @@
 // The line texts: bytes, lines and their fields, keywords, names and decimals.
+#![tactic(auto)]
+
 ghost use Rattle.std.specs.Prelude.{◌≡◌, ℕ, ◌+◌, ◌*◌, min, take, drop};
 ghost use Rattle.rules.specs.Lists.{same, map_option};
 ghost use Rattle.rules.specs.Lines as rules;

@@ -1,4 +1,6 @@
 // Values (value.rs, Value) and what working out an operator gives.
+#![tactic(auto)]
+
 pub mod arithmetic;
 pub mod bits;
 pub mod comparison;

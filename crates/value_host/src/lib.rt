@@ -1,4 +1,6 @@
 // The operators on values for a host in Rust, by numbers: an operator's code, and of each value its kind and 64 bits.
+#![tactic(auto)]
+
 ghost use Rattle.std.specs.Prelude.{◌≡◌, ℕ};
 ghost use Rattle.rules.specs.Lists.{Bytes};
 ghost use Rattle.rules.specs.Schema as rule;

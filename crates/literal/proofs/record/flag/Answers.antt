@@ -1,0 +1,13 @@
+-- `flag`: `t` or `f`.
+use Rattle.std.proofs.Common.{refl, arith, rules}
+use Rattle.rules.specs.Lines.{bytes}
+use Rattle.literal.specs.Records.{literal-as, flag-words, flag-none, flag-some}
+use Rattle.literal.proofs.record.flag.Goals as goal
+
+pub returns-then-k-ge2 : goal.returns-then-k-ge2
+unfolding bytes
+returns-then-k-ge2 c = λ base. literal-as (flag-none base _ _ _ _ _ flag-words c.which-k.ensures c.if-k-ge2.true) (c.no_literal.ensures _ _)
+
+pub returns : goal.returns
+unfolding bytes
+returns c = λ base. flag-some base _ _ _ _ _ flag-words c.which-k.ensures _ (omega arith) (refl, refl, refl)

@@ -1,0 +1,11 @@
+-- `bytes_at`: the text by the address.
+use mathlib.Core.Path.{sym, ◌∙◌}
+use borrow.Author.Rules.{rules}
+use Rattle.text.specs.Places.{bytes-catalog, bytes-statement}
+use Rattle.text.proofs.places.bytes_at.Goals as goal
+
+pub returns-then-a-lt-MOST_BYTES : goal.returns-then-a-lt-MOST_BYTES
+returns-then-a-lt-MOST_BYTES c = c.part.ensures ∙ sym (bytes-catalog _ _ _ _ c.if-a-lt-MOST_BYTES.true)
+
+pub returns : goal.returns
+returns c = c.part-2.ensures ∙ sym (bytes-statement _ _ _ _ c.if-a-lt-MOST_BYTES.false)

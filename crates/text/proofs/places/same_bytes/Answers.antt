@@ -1,0 +1,13 @@
+-- `places::same_bytes`: the second place's text by its address.
+use mathlib.Core.Path.{sym, ap, ◌∙◌}
+use borrow.Author.Rules.{rules}
+use Rattle.rules.specs.Lists.{same}
+use Rattle.rules.specs.Places.{bytes_at}
+use Rattle.text.specs.Places.{bytes-catalog, bytes-statement}
+use Rattle.text.proofs.places.same_bytes.Goals as goal
+
+pub returns-then-b-lt-MOST_BYTES : goal.returns-then-b-lt-MOST_BYTES
+returns-then-b-lt-MOST_BYTES c = c.holds_at.ensures ∙ ap (same (bytes_at c.args.catalog.now c.args.statement.now c.args.a c.args.n)) (c.part.ensures ∙ sym (bytes-catalog _ _ _ _ c.if-b-lt-MOST_BYTES.true))
+
+pub returns : goal.returns
+returns c = c.holds_at-2.ensures ∙ ap (same (bytes_at c.args.catalog.now c.args.statement.now c.args.a c.args.n)) (c.part-2.ensures ∙ sym (bytes-statement _ _ _ _ c.if-b-lt-MOST_BYTES.false))

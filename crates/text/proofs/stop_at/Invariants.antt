@@ -1,0 +1,13 @@
+-- `stop_at`: from here on the first such byte is the one that is looked for.
+use borrow.Author.Rules.{rules}
+use Prim.Native.Nat.{◌-◌}
+use mathlib.Core.Path.{◌≡◌, refl, sym, ◌∙◌}
+use lib.ListN.{length}
+use Rattle.text.specs.Bytes.{stop_at, stop-none, stop-first, stop-second, stop_step}
+use Rattle.text.proofs.stop_at.Given as goal
+
+abbrev pub invariant-loop-i : goal.invariant-loop-i
+invariant-loop-i l = stop_at l.x l.y l.t l.i ≡ stop_at l.x l.y l.t l.at
+
+abbrev pub decreases-loop-i : goal.decreases-loop-i
+decreases-loop-i l = length l.t - l.i
