@@ -93,7 +93,7 @@ last-walk false a as' = pick (walk_free a)
 module _ (f : ℕ → Expr) (t : List ℕ) (any : Bool) (n p : ℕ) where
   pub walk_end : n ≤ 0 → walked any (arguments_at f t n p) ≡ not any
   unfolding walked any_free
-  walk_end h = rw (arguments-none f t n p h) (elim any [ true ↦ refl | false ↦ refl ])
+  walk_end h = rw (arguments-none f t n p h) (elim any as (λ k. walked k nil ≡ not k) [ true ↦ refl | false ↦ refl ])
 
   pub walk_more : (w : Bool) → 0 < n → w ≡ walk_free (f p) → beq w any ≡ false → walked any (arguments_at f t (n - 1) (p + rows_at t p)) ≡ walked any (arguments_at f t n p)
   walk_more w h e b = rw (arguments-more f t n p h) (next-walk any (f p) _ (rw (← e) b))

@@ -55,7 +55,7 @@ walk_at c q t r s h =
 module _ (f : ℕ → Expr) (t : List ℕ) (s : Scope) (n p : ℕ) (h : Hidden) where
   pub visit-end : (any : Bool) → n ≤ 0 → visited s any (arguments_at f t n p) h ≡ record { answer = not any; hidden = h }
   unfolding visited walk
-  visit-end any l = rw (arguments-none f t n p l) (elim any [ true ↦ refl | false ↦ refl ])
+  visit-end any l = rw (arguments-none f t n p l) (elim any as (λ k. visited s k nil h ≡ record { answer = not k; hidden = h }) [ true ↦ refl | false ↦ refl ])
 
   pub visit-argument : (w : Walk) → 0 < n → w ≡ walk s (f p) h → visited s true (arguments_at f t n p) h ≡ where_false w (visited s true (arguments_at f t (n - 1) (p + rows_at t p)))
   unfolding visited walk

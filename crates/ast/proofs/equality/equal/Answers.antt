@@ -12,8 +12,7 @@ use Rattle.ast.specs.Table.{tree_at}
 use Rattle.ast.proofs.Roots.{roots-apart}
 use Rattle.ast.proofs.EqualWalk.{roots-differ}
 use Rattle.ast.proofs.Same.{equal-self}
-use Rattle.ast.proofs.equality.equal.Statement.{statement}
-use Rattle.ast.proofs.equality.equal.Tie as tie
+use Rattle.ast.proofs.equality.equal.Goals as goal
 
 second-not : (a b : Bool) → (a && not b) ≡ true → b ≡ false
 second-not true false e = refl
@@ -26,21 +25,11 @@ apart-kinds x y e h = eqb-false x y (second-not (not (eqb y 1)) (eqb x y) (sym e
 one-row : (c q : Bytes) (t : List ℕ) (i j : ℕ) → i ≡ j → true ≡ equal (tree_at c q t i) (tree_at c q t j)
 one-row c q t i j h = rw h (sym (equal-self (tree_at c q t j)))
 
-are-apart-requires : tie.Need-are-apart-requires
-are-apart-requires c κs = search rules
+pub returns-then-are_apart : goal.returns-then-are_apart
+returns-then-are_apart c = sym (roots-differ _ _ _ _ _ (roots-apart _ _ _ _ _ (apart-kinds _ _ c.are_apart.ensures c.if-are_apart.true)))
 
-returns : tie.Need-returns
-returns c = sym (roots-differ _ _ _ _ _ (roots-apart _ _ _ _ _ (apart-kinds _ _ c.before.are-apart.ensures c.if1.true)))
+pub returns-then-i-j : goal.returns-then-i-j
+returns-then-i-j c = one-row _ _ _ _ _ c.if-i-j.true
 
-returns-2 : tie.Need-returns-2
-returns-2 c = one-row _ _ _ _ _ c.if2.true
-
-same-trees-requires : tie.Need-same-trees-requires
-same-trees-requires c κs = search rules
-
-returns-3 : tie.Need-returns-3
-returns-3 c = c.same-trees.ensures
-
-pub equal-spec : {M : Type 1} → statement M
-equal-spec =
-    tie.close (tie.spec are-apart-requires returns returns-2 same-trees-requires returns-3)
+pub returns : goal.returns
+returns c = c.same_trees.ensures

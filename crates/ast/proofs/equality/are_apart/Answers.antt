@@ -9,8 +9,7 @@ use borrow.Author.Rules.{rules}
 use Rattle.numbers.specs.Codes.{or_least, least_kept}
 use Rattle.ast.specs.Table.{at}
 use Rattle.ast.specs.Operands.{kind_at}
-use Rattle.ast.proofs.equality.are_apart.Statement.{statement}
-use Rattle.ast.proofs.equality.are_apart.Tie as tie
+use Rattle.ast.proofs.equality.are_apart.Goals as goal
 
 -- the kind k at row j is not the star's, and a stands at row i
 module _ (t : List ℕ) (i j k a : ℕ) (e : k ≡ kind_at t j) (ne : k ≡ 1 → ⊥) (g : a ≡ at t i 0) where
@@ -28,20 +27,11 @@ module _ (t : List ℕ) (i j k a : ℕ) (e : k ≡ kind_at t j) (ne : k ≡ 1 �
   apart-yes : (a ≡ k → ⊥) → true ≡ (not (eqb (kind_at t j) 1) && not (eqb (kind_at t i) (kind_at t j)))
   apart-yes h = rw (ne_eqb (kind_at t j) 1 (λ z. ne (e ∙ z)), ne_eqb (kind_at t i) (kind_at t j) (two-kinds h))
 
-kind-requires : tie.Need-kind-requires
-kind-requires c κs = search rules
+pub returns-then-k-eq-STAR : goal.returns-then-k-eq-STAR
+returns-then-k-eq-STAR c = rw (eq-eqb _ _ (sym c.kind-k.ensures ∙ c.if-k-eq-STAR.true))
 
-returns : tie.Need-returns
-returns c = rw (eq-eqb _ _ (sym c.before.kind.ensures ∙ c.if1.true))
+pub returns-then-at-k : goal.returns-then-at-k
+returns-then-at-k c = apart-no _ _ _ _ _ c.kind-k.ensures c.if-k-eq-STAR.false c.at.ensures c.if-at-k.true
 
-at-requires : tie.Need-at-requires
-at-requires c κs = search rules
-
-returns-2 : tie.Need-returns-2
-returns-2 c = apart-no _ _ _ _ _ c.before.before.before.kind.ensures c.before.before.if1.false c.before.at.ensures c.if2.true
-
-returns-3 : tie.Need-returns-3
-returns-3 c = apart-yes _ _ _ _ _ c.before.before.before.kind.ensures c.before.before.if1.false c.before.at.ensures c.if2.false
-
-pub are-apart-spec : {M : Type 1} → statement M
-are-apart-spec = tie.close (tie.spec kind-requires returns at-requires returns-2 returns-3)
+pub returns : goal.returns
+returns c = apart-yes _ _ _ _ _ c.kind-k.ensures c.if-k-eq-STAR.false c.at.ensures c.if-at-k.false

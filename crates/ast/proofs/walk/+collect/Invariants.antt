@@ -1,0 +1,21 @@
+-- `walk::collect`: what is left of the table falls with each call; what the operands left give, written from here on, is what the whole gives.
+use Prim.Native.Nat.{ℕ, ◌*◌, ◌-◌, ◌<◌}
+use native.Mathlib.Omega.{arith}
+use mathlib.Core.Path.{◌≡◌, refl, sym, ap, ◌∙◌}
+use lib.Seq.{set_out, sets}
+use lib.ListN.{length}
+use borrow.Author.Rules.{rules}
+use Rattle.ast.specs.Operands.{operands-inside}
+use Rattle.ast.specs.Collect.{rows_of, collect_rows, collected}
+use Rattle.ast.proofs.Collects.{one-row, no_place, rows_none, rows-match, rows_on, loop-answer, loop-rows, full-answer, full-rows}
+use Rattle.ast.specs.Table.{row_size}
+use Rattle.ast.proofs.walk.+collect.Given as goal
+
+abbrev pub decreases-collect : goal.decreases-collect
+decreases-collect l = length l.table.now - l.r
+
+abbrev pub invariant-loop-left : goal.invariant-loop-left
+invariant-loop-left l = (l.r < l.p) × (row_size * l.r < length l.table) × (length l.rows ≡ length l.initial.rows) × (collected (length l.initial.rows) l.n (rows_of (collect_rows l.catalog l.statement l.table) l.table l.left l.p) ≡ collected (length l.initial.rows) l.count (collect_rows l.catalog l.statement l.table l.r)) × (sets l.rows l.n (rows_of (collect_rows l.catalog l.statement l.table) l.table l.left l.p) ≡ sets l.initial.rows l.count (collect_rows l.catalog l.statement l.table l.r))
+
+abbrev pub decreases-loop-left : goal.decreases-loop-left
+decreases-loop-left l = l.left

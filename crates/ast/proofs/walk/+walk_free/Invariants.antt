@@ -1,0 +1,20 @@
+-- `walk::walk_free`: what is left of the table falls with each call; the operands left say what the whole tree says.
+use Prim.Native.Nat.{ℕ, ◌*◌, ◌-◌, ◌<◌}
+use native.Mathlib.Omega.{arith}
+use mathlib.Core.Path.{◌≡◌, sym, ◌∙◌}
+use lib.ListN.{length}
+use borrow.Author.Rules.{rules}
+use Rattle.rules.specs.BuildAggregate.{walk_free}
+use Rattle.ast.specs.Table.{row_size, arguments_at, tree_at}
+use Rattle.ast.specs.Operands.{operands-inside}
+use Rattle.ast.proofs.Walks.{walked, walk-stops, walk-on, walk_end, walk_more, walk-stop}
+use Rattle.ast.proofs.walk.+walk_free.Given as goal
+
+abbrev pub decreases-walk_free : goal.decreases-walk_free
+decreases-walk_free l = length l.table.now - l.r
+
+abbrev pub invariant-loop-left : goal.invariant-loop-left
+invariant-loop-left l = (l.r < l.p) × (row_size * l.r < length l.table) × (walked l.any (arguments_at (tree_at l.catalog l.statement l.table) l.table l.left l.p) ≡ walk_free (tree_at l.catalog l.statement l.table l.r))
+
+abbrev pub decreases-loop-left : goal.decreases-loop-left
+decreases-loop-left l = l.left
