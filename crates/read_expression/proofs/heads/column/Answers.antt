@@ -1,0 +1,13 @@
+-- `column`: a name, or none.
+use mathlib.Core.Path.{◌≡◌, refl, sym, ◌∙◌}
+use borrow.Author.Tests.{not-true, not-false}
+use Rattle.read_expression.specs.RowOf.{row-of-as}
+use Rattle.read_expression.specs.Heads.{column-none, column-some}
+use borrow.Author.Rules.{rules}
+use Rattle.read_expression.proofs.heads.column.Goals as goal
+
+pub returns-then-not-is_name : goal.returns-then-not-is_name
+returns-then-not-is_name c = row-of-as _ _ _ _ (column-none _ _ _ c.requires (sym c.is_name.ensures ∙ c.if-not-is_name.true)) (c.wrong.ensures _)
+
+pub returns : goal.returns
+returns c = column-some _ _ _ c.requires _ (sym c.is_name.ensures ∙ c.if-not-is_name.false) (rw c.address.ensures refl) refl

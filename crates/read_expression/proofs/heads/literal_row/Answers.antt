@@ -1,0 +1,12 @@
+-- `literal_row`: the literal's numbers behind the kind.
+use mathlib.Core.Path.{refl}
+use Rattle.read_expression.specs.RowOf.{row-of-as}
+use Rattle.read_expression.specs.Literals.{row-none, row-some}
+use borrow.Author.Rules.{rules}
+use Rattle.read_expression.proofs.heads.literal_row.Goals as goal
+
+pub returns-then-v-eq0 : goal.returns-then-v-eq0
+returns-then-v-eq0 c = λ t o s. row-of-as _ _ _ _ (row-none t o _ s c.if-v-eq0.true) (c.wrong.ensures _)
+
+pub returns : goal.returns
+returns c = λ t o s. row-some t o _ _ s c.if-v-eq0.false refl refl

@@ -1,0 +1,16 @@
+-- `qualified`: two names, or none.
+use mathlib.Core.Path.{◌≡◌, refl, sym, ◌∙◌}
+use borrow.Author.Tests.{not-true, not-false}
+use Rattle.read_expression.specs.RowOf.{row-of-as}
+use Rattle.read_expression.specs.Heads.{qualified-first, qualified-second, qualified-some}
+use borrow.Author.Rules.{rules}
+use Rattle.read_expression.proofs.heads.qualified.Goals as goal
+
+pub returns-then-not-is_name : goal.returns-then-not-is_name
+returns-then-not-is_name c = row-of-as _ _ _ _ (qualified-first _ _ _ _ _ c.requires.fact_1 c.requires.fact_2 (sym c.is_name.ensures ∙ c.if-not-is_name.true)) (c.wrong.ensures _)
+
+pub returns-then-not-is_name-2 : goal.returns-then-not-is_name-2
+returns-then-not-is_name-2 c = row-of-as _ _ _ _ (qualified-second _ _ _ _ _ c.requires.fact_1 c.requires.fact_2 (sym c.is_name.ensures ∙ c.if-not-is_name.false) (sym c.is_name-2.ensures ∙ c.if-not-is_name-2.true)) (c.wrong-then-not-is_name-2.ensures _)
+
+pub returns : goal.returns
+returns c = qualified-some _ _ _ _ _ c.requires.fact_1 c.requires.fact_2 _ (sym c.is_name.ensures ∙ c.if-not-is_name.false) (sym c.is_name-2.ensures ∙ c.if-not-is_name-2.false) (rw (c.address.ensures, c.address-2.ensures) refl) refl
