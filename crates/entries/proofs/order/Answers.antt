@@ -1,0 +1,17 @@
+-- `order`: `asc` or `desc`.
+use native.Mathlib.Omega.{arith}
+use Rattle.rules.specs.Lines.{bytes}
+use Rattle.entries.specs.HeadRecords.{order-no, order-word, order-yes}
+use borrow.Author.Rules.{rules}
+use Rattle.entries.proofs.order.Goals as goal
+
+pub returns-then-f-ne2 : goal.returns-then-f-ne2
+returns-then-f-ne2 c = order-no _ _ _ c.requires _ c.if-f-ne2.true c.wrong.ensures
+
+pub returns-then-k-ge2 : goal.returns-then-k-ge2
+unfolding bytes
+returns-then-k-ge2 c = order-word _ _ _ c.requires _ c.if-f-ne2.false c.which-k.ensures c.if-k-ge2.true c.wrong-then-k-ge2.ensures
+
+pub returns : goal.returns
+unfolding bytes
+returns c = order-yes _ _ _ c.requires _ c.if-f-ne2.false c.which-k.ensures (omega (arith, c.if-k-ge2.false)) c.plain.ensures
