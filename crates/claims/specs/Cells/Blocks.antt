@@ -13,7 +13,7 @@ use Rattle.rules.specs.Schema.{null}
 use Rattle.rules.specs.Ast.{Plain, or, eq, gt, lt, Binary, plain, ge, le, ne}
 use Rattle.rules.specs.Plan.{Built, Plan}
 use Rattle.rules.specs.Plan as P
-use Rattle.rules.specs.Cells.{Cell, constant, unary, binary, added, built_count, root, operator, cells, count_all}
+use Rattle.rules.specs.Cells.{Cell, constant, binary, added, built_count, root, operator, cells, count_all}
 use Rattle.rules.specs.Cells.{cells_all, roots, plan_expressions, plan_cells, number_plan}
 use Rattle.claims.specs.Answers.{All, all_append}
 use Rattle.claims.specs.Cells.Length.{count-positive, cells-length, cells_all-length}

@@ -1,7 +1,7 @@
 -- A plan's cells, unfolded at the numbers in the plan, give the plan that the Rust builds.
 use Rattle.std.specs.Prelude.{ℕ, ◌+◌, ◌≡◌, refl}
 use Rattle.std.proofs.Common.{arith, add_assoc, add-zero, zero-add, length-append}
-use Rattle.std.proofs.Math.Path.{sym}
+use Rattle.std.proofs.Math.Path.{sym, subst}
 use mathlib.Core.List.{List, [], ◌∷◌, ◌++◌, append_assoc, append-nil, map}
 use Rattle.std.proofs.Math.Option.{Option, none, some}
 use Rattle.std.proofs.Math.ListN.{length}
@@ -51,8 +51,9 @@ unfolding Covers trees_all
 covers-all [] n ts us e = tt
 covers-all (a ∷ as') n ts us e = (
   rw append_assoc (at-root a n ts (trees_all as' ++ us) e),
-  rw (append_assoc (trees a), ← append_assoc ts (trees a))
-      (covers-all as' (n + built_count a) (ts ++ trees a) us (behind a n ts e)),
+  subst (λ (x : List Expression). Covers (ts ++ x) (n + built_count a) as') (sym (append_assoc (trees a) (trees_all as') us))
+      (subst (λ (x : List Expression). Covers x (n + built_count a) as') (append_assoc ts (trees a) (trees_all as' ++ us))
+      (covers-all as' (n + built_count a) (ts ++ trees a) us (behind a n ts e))),
 )
 
 -- a node's parts, a node and a plan

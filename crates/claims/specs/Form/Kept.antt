@@ -9,7 +9,7 @@ use Rattle.rules.specs.Schema.{Value, Catalog}
 use Rattle.rules.specs.Ast.{Plain}
 use Rattle.rules.specs.Plan.{Built, Node, Plan, map_plan}
 use Rattle.rules.specs.Plan as P
-use Rattle.rules.specs.Cells.{Cell, binary, plan_expressions, cell_count, plan_cells, number_first, number_node}
+use Rattle.rules.specs.Cells.{Cell, built_count, binary, plan_expressions, cell_count, plan_cells, number_first, number_node}
 use Rattle.rules.specs.Cells.{number_plan}
 use Rattle.rules.specs.Nodes.{NodeRecord, nodes, node_of, records, node_records, plan_records}
 use Rattle.rules.specs.Entry.{plan_of}
@@ -136,7 +136,7 @@ aliases-numbered : (i : ℕ) (xs : List (Built × Option Word))
     → words_of (λ x. given x.1) (number_first i xs) ≡ words_of (λ x. given x.1) xs
 unfolding number_first words_of
 aliases-numbered i [] = refl
-aliases-numbered i (x ∷ xs) = ap (λ ws. given x.1 ++ ws) (aliases-numbered _ xs)
+aliases-numbered i (x ∷ xs) = ap (λ ws. given x.1 ++ ws) (aliases-numbered (i + built_count x.0) xs)
 
 node-names : (n : Node Built) (i : ℕ) → node_names (number_node i n) ≡ node_names n
 unfolding node_names number_node

@@ -10,9 +10,7 @@ use Rattle.rules.specs.Lists.{or_else, given, concat}
 use Rattle.rules.specs.Lines.{Word}
 use Rattle.rules.specs.Schema.{Table, Catalog, get_table, named_by, must_get_table}
 use Rattle.rules.specs.Ast.{Expr, Join, From}
-use Rattle.rules.specs.Ast as Ast
 use Rattle.rules.specs.Plan.{Built, Node}
-use Rattle.rules.specs.Plan as P
 use Rattle.rules.specs.Scope.{Scope, empty, width, from_table, remap}
 use Rattle.rules.specs.BuildExpression.{build_option}
 use Rattle.rules.specs.Stage.{Stage}

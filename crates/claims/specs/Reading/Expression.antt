@@ -6,7 +6,7 @@ use Rattle.rules.specs.Lines.{Word}
 use Rattle.rules.specs.Schema.{Value}
 use Rattle.rules.specs.Ast.{Expr, Exprs, nil, cons, list_of}
 use Rattle.rules.specs.Reader.{Place, Read, stop, line_here, line_number, one_of, literals, literal_here}
-use Rattle.rules.specs.ReadExpression.{Head, star_head, is_head, column_head, value_head, call_head, unary_head, binary_head, heads, counted, head_here, times, operands, too_deep, deep, expression}
+use Rattle.rules.specs.ReadExpression.{Head, star_head, is_head, column_head, value_head, call_head, unary_head, binary_head, heads, head_here, times, operands, too_deep, deep, expression}
 use Rattle.claims.specs.Answers.{All}
 use Rattle.claims.specs.Reading.Rules.{reads-test, reads-option, reads_fit}
 use Rattle.claims.specs.Reading.Has.{ExprHas, ExprsHave}

@@ -1,8 +1,8 @@
 -- A statement that is read keeps to the limits.
-use Rattle.std.specs.Prelude.{ℕ, zero, suc, ◌+◌, ◌≤◌, ◌≡◌, refl, Bool, List, [], ◌∷◌, ltb, length}
+use Rattle.std.specs.Prelude.{ℕ, zero, suc, ◌+◌, ◌≤◌, ◌≡◌, refl, Bool, true, false, List, [], ◌∷◌, ltb, length}
 use Rattle.std.proofs.Common.{arith, ap, ltb-true}
 use Rattle.std.proofs.Math.Option.{Option, none, some}
-use Rattle.rules.specs.Refusals.{statement, Answer, ok, refused, ◌>>=◌}
+use Rattle.rules.specs.Refusals.{statement, limit_passed, Answer, ok, refused, ◌>>=◌}
 use Rattle.rules.specs.Limits.{most_cells, most_from_tables, most_entries, most_rows, most_table_columns}
 use Rattle.rules.specs.Lists.{Bytes, same, any}
 use Rattle.rules.specs.Lines.{Word, bytes}
@@ -52,7 +52,10 @@ Joins f = Reads Anywhere f (λ p a q. Grown (from_size a) (from_tables a) p q)
 
 from-head : Reads Anywhere from_here (λ p h q. Grown 0 (head_tables h) p q)
 unfolding from_here head_tables next tabled stop
-from-head p u = reads-option (one_of from_heads (line_here p)) _ _ _ tt λ h e. elim h [
+from-head p u = reads-option (one_of from_heads (line_here p)) _ _ _ tt λ h e. elim h as (λ k. Reaches (elim k as (λ x. Answer (FromHead × Place)) [
+  | table_head n a ↦ elim (ltb p.tables most_from_tables) [ true ↦ ok (table_head n a, next (tabled p)) | false ↦ stop limit_passed p ]
+  | join_head j o ↦ ok (join_head j o, next p)
+]) (λ a q. Grown 0 (head_tables a) p q)) [
   | table_head n a ↦ reads-test (ltb p.tables most_from_tables) _ _ _ (λ t. omega (arith, ltb-true p.tables most_from_tables t)) (λ t. tt)
   | join_head j o ↦ passes p
 ]

@@ -10,7 +10,7 @@ use Rattle.rules.specs.Plan.{Built, Aggregate, Node, TablePosition, cindex, Valu
 use Rattle.rules.specs.Plan as P
 use Rattle.rules.specs.Cells.{Cell, constant, column, unary, binary, is, roots, number_rows, number_first, number_second}
 use Rattle.rules.specs.Cells.{number_node, number_plan, plan_cells, count_all, built_count, cell_count}
-use Rattle.rules.specs.Nodes.{NodeRecord, scan, values, join, filter, aggregate, project, order, offset, limit, remap}
+use Rattle.rules.specs.Nodes.{NodeRecord, join}
 use Rattle.rules.specs.Nodes.{records, nodes, last, node_of, node_records, plan_records}
 use Rattle.rules.specs.Area.{halves, span, option_span, value_numbers, is_numbers, cell_numbers, row_numbers}
 use Rattle.rules.specs.Area.{function_numbers, item_numbers, key_numbers}

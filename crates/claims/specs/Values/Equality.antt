@@ -90,7 +90,11 @@ value-from (text w) = refl
 
 contents-bare : (v : Value) → contents (bare_value v) ≡ contents v
 unfolding contents bare_value bare_word
-contents-bare v = elim v [ null ↦ refl | bool b ↦ refl | int n ↦ refl | float b ↦ refl | text w ↦ refl ]
+contents-bare null = refl
+contents-bare (bool b) = refl
+contents-bare (int n) = refl
+contents-bare (float b) = refl
+contents-bare (text w) = refl
 
 same-value : (v w : Value) → (same_value v w ≡ true) ↔ (bare_value v ≡ bare_value w)
 unfolding same_value
@@ -109,14 +113,14 @@ same-unary : (o p : Unary) → (eqb (unary_code o) (unary_code p) ≡ true) ↔ 
 unfolding unary_code
 same-unary = same_code unary_code
     (λ k. get_or (not ∷ fact ∷ ident ∷ neg ∷ sqrt ∷ []) (k - 8) not)
-    (λ o. elim o [ not ↦ refl | fact ↦ refl | ident ↦ refl | neg ↦ refl | sqrt ↦ refl ])
+    (λ o. elim o as (λ a. get_or (not ∷ fact ∷ ident ∷ neg ∷ sqrt ∷ []) (unary_code a - 8) not ≡ a) [ not ↦ refl | fact ↦ refl | ident ↦ refl | neg ↦ refl | sqrt ↦ refl ])
 
 binaries : List Binary
 binaries = map plain (and ∷ or ∷ eq ∷ gt ∷ lt ∷ add ∷ div ∷ pow ∷ mul ∷ rem ∷ sub ∷ like ∷ []) ++ (ge ∷ le ∷ ne ∷ [])
 
 same-binary : (o p : Binary) → (eqb (binary_code o) (binary_code p) ≡ true) ↔ (o ≡ p)
 unfolding binary_code plain_code binaries
-same-binary = same_code binary_code (λ k. get_or binaries (k - 16) ge) λ o. elim o [
+same-binary = same_code binary_code (λ k. get_or binaries (k - 16) ge) λ o. elim o as (λ a. get_or binaries (binary_code a - 16) ge ≡ a) [
   | plain and ↦ refl
   | plain or ↦ refl
   | plain eq ↦ refl

@@ -4,7 +4,7 @@ use Rattle.std.proofs.Common.{arith}
 use Rattle.std.proofs.Math.Option.{Option, none, some}
 use Rattle.rules.specs.Lists.{any, positions, is_empty}
 use Rattle.rules.specs.Lines.{Word}
-use Rattle.rules.specs.Ast.{Expr, column, unary, binary, is}
+use Rattle.rules.specs.Ast.{Expr}
 use Rattle.rules.specs.Equality.{same_name, equal}
 use Rattle.rules.specs.Plan.{Tree}
 use Rattle.rules.specs.Plan as P

@@ -1,5 +1,5 @@
 -- A word, a name and a value inside the text that they were read from; the readers of both texts give such.
-use Rattle.std.specs.Prelude.{ℕ, ◌+◌, ◌-◌, ◌≤◌, ◌<◌, ◌≡◌}
+use Rattle.std.specs.Prelude.{ℕ, ◌+◌, ◌≤◌, ◌<◌, ◌≡◌}
 use Rattle.std.proofs.Common.{arith}
 use Rattle.std.proofs.Math.ListN.{length}
 use Rattle.rules.specs.Limits.{most_bytes, most_name_bytes}
