@@ -6,7 +6,7 @@ use Rattle.rules.specs.Refusals.{Refusal, Answer, ok, refused, ◌>>=◌}
 use Rattle.rules.specs.Lists.{given}
 use Rattle.rules.specs.Ast.{Expr}
 use Rattle.rules.specs.Plan.{Built}
-use Rattle.rules.specs.Cells.{Cell, number_given, root}
+use Rattle.rules.specs.Cells.{Cell, number_given}
 use Rattle.rules.specs.Scope.{Scope}
 use Rattle.rules.specs.BuildExpression.{build, build_option}
 use Rattle.appends.specs.Answers.{ok-not-refused, bind_ok, bind-refused}

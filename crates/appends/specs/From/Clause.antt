@@ -4,7 +4,7 @@ use Rattle.std.proofs.Common.{◌∙◌}
 use Rattle.std.proofs.Math.Bool.{false}
 use mathlib.Core.List.{List, [], ◌∷◌, ◌++◌, append-nil}
 use Rattle.std.proofs.Math.Option.{none}
-use Rattle.rules.specs.Refusals.{Refusal, ok, refused, ◌>>=◌}
+use Rattle.rules.specs.Refusals.{Refusal, ok, refused}
 use Rattle.rules.specs.Lists.{given}
 use Rattle.rules.specs.Schema.{Catalog}
 use Rattle.rules.specs.Ast.{From}

@@ -2,7 +2,7 @@
 use Rattle.std.specs.Prelude.{ℕ, ◌+◌, ◌≡◌, refl, false, [], ◌∷◌, ltb}
 use Rattle.std.proofs.Common.{◌∙◌}
 use Rattle.std.proofs.Math.Option.{Option, none, some}
-use Rattle.rules.specs.Refusals.{Refusal, Answer, ok, refused, ◌>>=◌, ◌>>◌, refuse, refuse_if, limit_passed}
+use Rattle.rules.specs.Refusals.{Refusal, Answer, ok, refused, ◌>>◌, refuse, refuse_if, limit_passed}
 use Rattle.rules.specs.Refusals.{duplicate_table, unknown_table}
 use Rattle.rules.specs.Limits.{most_columns}
 use Rattle.rules.specs.Lists.{or_else}

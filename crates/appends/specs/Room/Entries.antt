@@ -1,7 +1,7 @@
 -- The cells of a list's entries: each appends at most what k says of it.
 use Rattle.std.specs.Prelude.{ℕ, ◌≤◌, List, [], ◌∷◌, map}
 use Rattle.std.proofs.Common.{arith}
-use Rattle.rules.specs.Refusals.{Answer, ◌>>=◌}
+use Rattle.rules.specs.Refusals.{Answer}
 use Rattle.rules.specs.Plan.{Built}
 use Rattle.rules.specs.Cells.{built_count, count_all}
 use Rattle.rules.specs.BuildExpression.{each}

@@ -2,7 +2,7 @@
 use Rattle.std.specs.Prelude.{ℕ, ◌+◌, ◌-◌, ◌≤◌, ◌≡◌, refl, List, [], ◌∷◌, ◌++◌, map, length}
 use Rattle.std.proofs.Common.{arith}
 use Rattle.std.proofs.Math.Option.{Option, none, some}
-use Rattle.rules.specs.Refusals.{◌>>=◌, ◌>>◌, refuse_if, at_most, having_without_aggregate}
+use Rattle.rules.specs.Refusals.{refuse_if, at_most, having_without_aggregate}
 use Rattle.rules.specs.Limits.{most_columns}
 use Rattle.rules.specs.Lists.{given, is_empty, map_option}
 use Rattle.rules.specs.Ast.{Expr, line_of, Item, Key, Clause}

@@ -3,7 +3,7 @@
 use Rattle.std.specs.Prelude.{ℕ, ◌+◌, ◌*◌, ◌≤◌, ◌≡◌, List, [], ◌∷◌, map, length}
 use Rattle.std.proofs.Common.{arith}
 use Rattle.std.proofs.Math.Option.{Option, none, some}
-use Rattle.rules.specs.Refusals.{ok, ◌>>=◌, refuse}
+use Rattle.rules.specs.Refusals.{ok, refuse}
 use Rattle.rules.specs.Limits.{most_cells}
 use Rattle.rules.specs.Schema.{Value, Column, default_at}
 use Rattle.rules.specs.Ast.{Expr, Insert}

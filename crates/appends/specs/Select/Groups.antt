@@ -1,7 +1,7 @@
 -- Groups and aggregate functions, appended behind the node before them.
 use Rattle.std.specs.Prelude.{ℕ, ◌+◌, pred, ◌≤◌, ◌≡◌, true, false, List, [], ◌∷◌, ◌++◌, length}
 use Rattle.std.proofs.Common.{◌∙◌}
-use Rattle.rules.specs.Refusals.{Refusal, ok, refused, ◌>>=◌, refuse, limit_passed}
+use Rattle.rules.specs.Refusals.{Refusal, ok, refused, refuse, limit_passed}
 use Rattle.rules.specs.Limits.{most_columns}
 use Rattle.rules.specs.Ast.{Expr, line_of}
 use Rattle.rules.specs.Plan.{Built, Aggregate, Node}

@@ -1,7 +1,7 @@
 -- SELECT's items over FROM's node: a plain star needs columns.
 use Rattle.std.specs.Prelude.{ℕ, ◌≡◌, refl, true, false, eqb}
 use Rattle.std.proofs.Math.Option.{none, some}
-use Rattle.rules.specs.Refusals.{ok, ◌>>=◌, refuse, refuse_if, star_without_from}
+use Rattle.rules.specs.Refusals.{ok, refuse, refuse_if, star_without_from}
 use Rattle.rules.specs.Ast.{Select}
 use Rattle.rules.specs.Plan.{Built, Node, column_count}
 use Rattle.rules.specs.Items.{plain_star, stars_have_columns, build_items}

@@ -4,7 +4,7 @@ use Rattle.std.proofs.Common.{sym, ◌∙◌}
 use mathlib.Core.List.{List, [], ◌∷◌, ◌++◌, map}
 use Rattle.std.proofs.Math.Option.{Option}
 use Rattle.std.proofs.Math.ListN.{length}
-use Rattle.rules.specs.Refusals.{Refusal, ok, refused, ◌>>=◌, refuse, limit_passed}
+use Rattle.rules.specs.Refusals.{Refusal, ok, refused, refuse, limit_passed}
 use Rattle.rules.specs.Limits.{most_columns}
 use Rattle.rules.specs.Lines.{Word}
 use Rattle.rules.specs.Ast.{Expr, Item}

@@ -1,7 +1,6 @@
 -- The last remap, appended: it adds a record and no cell.
 use Rattle.std.specs.Prelude.{ℕ, ◌+◌, pred, ◌≡◌, List, [], ◌∷◌, ◌++◌}
 use Rattle.std.proofs.Math.Option.{Option, some}
-use Rattle.rules.specs.Refusals.{◌>>=◌}
 use Rattle.rules.specs.Plan.{Built, Node}
 use Rattle.rules.specs.Plan as P
 use Rattle.rules.specs.Cells.{Cell}

@@ -2,7 +2,7 @@
 use Rattle.std.specs.Prelude.{ℕ, ◌≡◌, List, [], ◌∷◌, ◌++◌}
 use Rattle.std.proofs.Common.{◌∙◌}
 use Rattle.std.proofs.Math.Option.{Option, none}
-use Rattle.rules.specs.Refusals.{Refusal, ok, refused, ◌>>=◌}
+use Rattle.rules.specs.Refusals.{Refusal, ok, refused}
 use Rattle.rules.specs.Schema.{Catalog, Table, must_get_table}
 use Rattle.rules.specs.Ast.{Delete}
 use Rattle.rules.specs.Plan.{Built, Node}

@@ -3,7 +3,7 @@ use Rattle.std.specs.Prelude.{ℕ, suc, ◌+◌, true, false, List, [], ◌∷�
 use Rattle.std.proofs.Common.{arith, ◌∙◌}
 use Rattle.std.proofs.Math.Path.{◌≡◌, refl, ap}
 use Rattle.std.proofs.Math.Option.{Option, none, some}
-use Rattle.rules.specs.Refusals.{Refusal, Answer, ok, refused, ◌>>=◌, ◌>>◌, refuse, refuse_if, unknown_insert_column}
+use Rattle.rules.specs.Refusals.{Refusal, Answer, ok, refused, ◌>>=◌, refuse, refuse_if, unknown_insert_column}
 use Rattle.rules.specs.Refusals.{repeated_insert_column}
 use Rattle.rules.specs.Lists.{concat}
 use Rattle.rules.specs.Schema.{Column, Catalog, Table, must_get_table}
