@@ -134,8 +134,8 @@ like-gives (text s) (text t) = tt
 
 plain-gives : (o : Plain) (v w : Value) → Held (plain_of o v w)
 unfolding plain_of sum_of difference_of product_of quotient_of remainder_of power_of and_unknown or_unknown held
-plain-gives and v w = logic-gives (λ a b. a && b) and_unknown (λ a. elim a [ true ↦ refl | false ↦ refl ]) v w
-plain-gives or v w = logic-gives (λ a b. a || b) or_unknown (λ a. elim a [ true ↦ refl | false ↦ refl ]) v w
+plain-gives and v w = logic-gives (λ a b. a && b) and_unknown (λ a. elim a as (λ k. held (and_unknown k) ≡ and_unknown k) [ true ↦ refl | false ↦ refl ]) v w
+plain-gives or v w = logic-gives (λ a b. a || b) or_unknown (λ a. elim a as (λ k. held (or_unknown k) ≡ or_unknown k) [ true ↦ refl | false ↦ refl ]) v w
 plain-gives eq v w = compared-held is_same (compare v w)
 plain-gives gt v w = compared-held is_greater (compare v w)
 plain-gives lt v w = compared-held is_less (compare v w)
