@@ -1,6 +1,6 @@
 -- The stack of open joins: one number a join, the innermost last.
 use Rattle.std.specs.Prelude.{ℕ, ◌+◌, ◌*◌, ◌/◌, ◌%◌, ◌≤◌, ◌<◌, ◌≡◌, Bool, true, false, List, [], ◌∷◌, length, get_or, set}
-use Rattle.std.proofs.Common.{arith, ◌∙◌, get_or-set_same, get_or-set_other}
+use Rattle.std.proofs.Common.{arith, sym, ◌∙◌, get_or-set_same, get_or-set_other}
 use Rattle.std.proofs.Math.Path.{ap}
 use Rattle.rules.specs.Ast.{Join, cross, inner, left, right, From}
 use Rattle.rules.specs.Area.{flag}
@@ -62,4 +62,5 @@ holds-set s i v (f ∷ fs) h g = (get_or-set_other s i (length fs) v 0 (λ e. om
 
 pub holds-push : (s : List ℕ) (d v : ℕ) (f : Frame) (fs : List Frame) → d ≡ length fs → d < length s → v ≡ code_of f → Holds s fs → Holds (set s d v) (f ∷ fs)
 unfolding Holds
-holds-push s d v f fs z h e g = rw z (get_or-set_same s (length fs) v 0 (omega arith) ∙ e, holds-set s (length fs) v fs (omega arith) g)
+holds-push s d v f fs z h e g =
+    (ap (λ k. get_or (set s d v) k 0) (sym z) ∙ get_or-set_same s d v 0 h ∙ e, holds-set s d v fs (omega arith) g)

@@ -50,7 +50,7 @@ enum Tree {
 
 // Where reading a tree stands: the position, its line, the expression rows, the tables and the FROM rows so far, how many joins are open, and
 // whether a side was read.
-#[derive(Drop)]
+#[derive(Clone, Copy)]
 struct Stand {
     p: usize,
     l: u32,

@@ -1,0 +1,14 @@
+-- `read_joins`: what the rules read from here on, behind the sides that are read, is what they read in all.
+use mathlib.Core.Path.{◌≡◌, refl, ◌∙◌}
+use lib.ListN.{length}
+use borrow.Author.Rules.{rules}
+use Rattle.from.specs.Turns.{Reads, turn_on, turn_end, turn-wrong, turn-limit}
+use Rattle.from.specs.Loop.{turns_left, loop-begin}
+use Rattle.from.proofs.read_joins.Given as goal
+
+abbrev pub invariant-loop-x : goal.invariant-loop-x
+invariant-loop-x l =
+    (length l.stack ≡ length l.initial.stack) × Reads l.t (record { p = l.p; l = l.l; c = l.c; k = l.k; n = l.n; cells = l.initial.cells; rows = l.initial.rows }) l.s l.stack l.cells l.rows
+
+abbrev pub decreases-loop-x : goal.decreases-loop-x
+decreases-loop-x l = turns_left l.t l.s.p l.s.d l.s.done

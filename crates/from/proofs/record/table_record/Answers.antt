@@ -1,0 +1,12 @@
+-- `table_record`: a name, or none.
+use mathlib.Core.Path.{refl, sym, ◌∙◌}
+use borrow.Author.Tests.{not-true, not-false}
+use borrow.Author.Rules.{rules}
+use Rattle.from.specs.Fields.{row_as, table_none, table-some}
+use Rattle.from.proofs.record.table_record.Goals as goal
+
+pub returns-then-not-is_name : goal.returns-then-not-is_name
+returns-then-not-is_name c = row_as _ (table_none _ _ _ c.requires (sym c.is_name.ensures ∙ c.if-not-is_name.true)) (c.wrong_record.ensures _)
+
+pub returns : goal.returns
+returns c = table-some _ _ _ c.requires _ _ (sym c.is_name.ensures ∙ c.if-not-is_name.false) refl refl

@@ -1,0 +1,11 @@
+-- `roots::items`: one more for each root, from the last one on.
+use native.Mathlib.Omega.{arith}
+use borrow.Author.Rules.{rules}
+use Rattle.from.specs.Roots.{first-falls, Counts, counts-begin, counts-on, counts_end}
+use Rattle.from.proofs.roots.items.Given as goal
+
+abbrev pub invariant-loop-end : goal.invariant-loop-end
+invariant-loop-end l = Counts l.rows l.n l.end l.c
+
+abbrev pub decreases-loop-end : goal.decreases-loop-end
+decreases-loop-end l = l.end
