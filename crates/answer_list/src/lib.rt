@@ -9,7 +9,7 @@ use text::{Number, decimal, fields, holds};
 
 // A record: where its catalog starts, and how many bytes its catalog, its statement and its answer have, which stand there
 // one behind the other. Or there is none.
-#[derive(Drop)]
+#[derive(Clone, Copy)]
 pub enum Record {
     Whole(usize, usize, usize, usize),
     Damaged,

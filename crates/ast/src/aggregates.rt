@@ -5,7 +5,7 @@ ghost use Rattle.rules.specs.Places.{bytes_at};
 ghost use Rattle.rules.specs.BuildAggregate.{aggregates};
 ghost use Rattle.ast.specs.Aggregates.{named_of};
 
-#[derive(Drop)]
+#[derive(Clone, Copy)]
 pub enum Aggregate {
     Avg,
     Count,
@@ -15,7 +15,7 @@ pub enum Aggregate {
 }
 
 // What a function's name says: an aggregate, or another function.
-#[derive(Drop)]
+#[derive(Clone, Copy)]
 pub enum Named {
     Aggregate(Aggregate),
     Other,

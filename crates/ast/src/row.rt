@@ -8,7 +8,7 @@ ghost use Rattle.ast.specs.Row as row;
 
 use crate::rows::{BINARY, CALL, COLUMN, IS, LITERAL, QUALIFIED, UNARY, at, kind, or_least};
 
-#[derive(Drop)]
+#[derive(Clone, Copy)]
 pub enum Kind {
     Star,
     Column,
@@ -20,7 +20,7 @@ pub enum Kind {
     Literal,
 }
 
-#[derive(Drop)]
+#[derive(Clone, Copy)]
 pub enum LiteralKind {
     Null,
     Bool,

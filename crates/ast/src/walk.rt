@@ -57,7 +57,7 @@ pub fn contains(catalog: &[u8], statement: &[u8], table: &[u32], r: usize) -> bo
 }
 
 // Rows collected: how many there are now, or no room for the next.
-#[derive(Drop)]
+#[derive(Clone, Copy)]
 pub enum Collected {
     Rows(usize),
     NoRoom,

@@ -16,7 +16,7 @@ use plan::cells::Written;
 use scope::lookup::used_matches;
 
 // A record whose operands are to be built: a unary operator by its code, `is`, or a binary operator.
-#[derive(Drop)]
+#[derive(Clone, Copy)]
 pub enum Operator {
     Unary(u32),
     Is,
@@ -24,7 +24,7 @@ pub enum Operator {
 }
 
 // What is built of a record before its operands: the whole, or nothing yet.
-#[derive(Drop)]
+#[derive(Clone, Copy)]
 pub enum Begun {
     Whole(Written),
     Operands(Operator),

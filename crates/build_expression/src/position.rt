@@ -10,7 +10,7 @@ use numbers::refusals::{
 use scope::lookup::Found;
 
 // A column's position; or document 01's number of a refusal, and its line.
-#[derive(Drop)]
+#[derive(Clone, Copy)]
 pub enum Position {
     At(u32),
     Refused(u32, u32),

@@ -17,7 +17,7 @@ use scope::Scope;
 
 // A FROM item, or the clause: its scope, and with it the next cell, the next node and how many numbers of the nodes are in
 // use; `number` is 0, and `line` the item's. Where it is refused, document 01's number and line.
-#[derive(Drop)]
+#[derive(Clone, Copy)]
 pub struct Source {
     pub scope: Scope,
     pub number: u32,

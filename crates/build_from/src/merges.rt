@@ -6,7 +6,7 @@ use scope::Scope;
 use scope::merging::{Merging, may_merge};
 
 // The scope of both, or document 01's number, which is 0 where they are merged.
-#[derive(Drop)]
+#[derive(Clone, Copy)]
 pub struct Both {
     pub scope: Scope,
     pub number: u32,

@@ -12,7 +12,7 @@ use plan::cells::Written;
 
 // The next cell, and one more than the predicate's root, 0 where there is none; `number` is 0. Where it is refused,
 // document 01's number and line.
-#[derive(Drop)]
+#[derive(Clone, Copy)]
 pub struct Root {
     pub number: u32,
     pub line: u32,

@@ -7,13 +7,13 @@ use from::roots::left;
 use from::row::{Kind, kind_of};
 
 // A table, or the side of a join that is built first and the other.
-#[derive(Drop)]
+#[derive(Clone, Copy)]
 pub enum Rows {
     Table,
     Sides(u32, u32),
 }
 
-#[derive(Drop)]
+#[derive(Clone, Copy)]
 pub struct Joining {
     pub outer: bool,
     pub right: bool,

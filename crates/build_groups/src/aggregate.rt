@@ -22,7 +22,7 @@ pub const FUNCTIONS: usize = STATEMENT_ROWS as usize;
 const AGGREGATE_HEAD: usize = 4;
 
 // How many groups are retained, and how many groups and functions.
-#[derive(Drop)]
+#[derive(Clone, Copy)]
 struct Kept {
     groups: usize,
     all: usize,

@@ -15,7 +15,7 @@ use later::later_rows;
 use scope::Scope;
 
 // The projected scope with its hidden columns; or it is full, and the record of a line calls for one more.
-#[derive(Drop)]
+#[derive(Clone, Copy)]
 pub struct Hiding {
     pub scope: Scope,
     pub full: bool,

@@ -5,7 +5,7 @@ ghost use Rattle.build_hidden.specs.Rows.{RowsFit, RowsVisited};
 use ast::rows::{CALL, kind, next, operands};
 
 // How many rows there are now, and the walk's answer.
-#[derive(Drop)]
+#[derive(Clone, Copy)]
 pub struct Walked {
     pub count: usize,
     pub answer: bool,

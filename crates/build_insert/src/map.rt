@@ -15,22 +15,22 @@ use sections::entry;
 use statement::access::name_start;
 
 // A column's position in its table (the Rust's cindex).
-#[derive(Drop)]
+#[derive(Clone, Copy)]
 pub struct TablePosition(pub u32);
 
 // A value's position in its row (the Rust's vindex).
-#[derive(Drop)]
+#[derive(Clone, Copy)]
 pub struct ValuePosition(pub u32);
 
 // No map, or that of so many values.
-#[derive(Drop)]
+#[derive(Clone, Copy)]
 pub enum ColumnMap {
     Missing,
     Of(u32),
 }
 
 // The map; or document 01's number of a refusal, and its line.
-#[derive(Drop)]
+#[derive(Clone, Copy)]
 pub enum Mapped {
     Done(ColumnMap),
     Refused(u32, u32),

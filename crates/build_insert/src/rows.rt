@@ -22,7 +22,7 @@ use plan::pushes::push;
 use sections::entry::{Entry, ROW, count, entry_at};
 
 // The next cell and how many numbers of the nodes are in use; or document 01's number of a refusal, and its line.
-#[derive(Drop)]
+#[derive(Clone, Copy)]
 pub enum Listed {
     Done(u32, usize),
     Refused(u32, u32),

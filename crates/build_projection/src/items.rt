@@ -22,21 +22,21 @@ use sections::entry::{GROUP, ITEM, count, entry_at, first_row};
 
 // Refusals, by document 01's numbers.
 // How many items there are; or a refusal's number and line.
-#[derive(Drop)]
+#[derive(Clone, Copy)]
 pub enum Outcome {
     Done(u32),
     Refused(u32, u32),
 }
 
 // A star by its line, or none.
-#[derive(Drop)]
+#[derive(Clone, Copy)]
 pub enum Star {
     Missing,
     At(u32),
 }
 
 // An item listed, with the numbers of items and of starred columns so far; or 3 at a line.
-#[derive(Drop)]
+#[derive(Clone, Copy)]
 enum Step {
     Listed(u32, u32),
     Limit(u32),

@@ -20,7 +20,7 @@ use statement::access::name_start;
 use text::lengths::length_at;
 
 // The next cell and how many numbers of the nodes are in use; or a refusal's number and line.
-#[derive(Drop)]
+#[derive(Clone, Copy)]
 pub enum Pushed {
     Done(u32, usize),
     Refused(u32, u32),

@@ -33,14 +33,14 @@ use text::lengths::length_at;
 use value;
 
 // The position of a column that is a primary key, or there is none.
-#[derive(Drop)]
+#[derive(Clone, Copy)]
 pub enum KeyPosition {
     At(u32),
     Missing,
 }
 
 // A column's default by its numbers, or the refusal of its expression.
-#[derive(Drop)]
+#[derive(Clone, Copy)]
 pub enum Default {
     Given(Numbers),
     Refused(Reason, u32),

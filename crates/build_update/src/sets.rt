@@ -23,7 +23,7 @@ use statement::access::name_start;
 
 // What sets append: the next cell and how many numbers of the nodes are in use; or document 01's number of a refusal, and
 // its line.
-#[derive(Drop)]
+#[derive(Clone, Copy)]
 pub enum SetsWritten {
     Done(u32, usize),
     Refused(u32, u32),

@@ -26,7 +26,7 @@ const WRONG: u32 = 1;
 const FITS: u32 = 2;
 
 // What a record says, by its state: a and b are the address and the length of its name, c and d those of its reference.
-#[derive(Drop)]
+#[derive(Clone, Copy)]
 pub struct Head {
     pub state: u32,
     pub expressions: u32,

@@ -16,7 +16,7 @@ use ast::rows;
 use numbers::literals::is_null_or_nan;
 
 // Whether an expression can be built over the empty scope: it can, or the first refusal and its line.
-#[derive(Drop)]
+#[derive(Clone, Copy)]
 pub enum Checked {
     Passed,
     Refused(Reason, u32),

@@ -24,7 +24,7 @@ use numbers::refusals::{
 use value::{Value, arithmetic, literals};
 
 // Why an expression has no value.
-#[derive(Drop)]
+#[derive(Clone, Copy)]
 pub enum Reason {
     ConstantOnly,
     UnsupportedStar,
@@ -37,14 +37,14 @@ pub enum Reason {
 }
 
 // What working out an expression gives: its value, or a reason and the line of the record where it arose.
-#[derive(Drop)]
+#[derive(Clone, Copy)]
 pub enum Evaluated {
     Value(Value),
     Refused(Reason, u32),
 }
 
 // The value of a constant: a bare literal by its kind and two numbers, its bits kept; or a value worked out.
-#[derive(Drop)]
+#[derive(Clone, Copy)]
 pub enum Constant {
     Literal(u32, u32, u32),
     Value(Value),

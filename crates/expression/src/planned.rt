@@ -16,7 +16,7 @@ use text::lengths::length_at;
 use value::Value;
 
 // What OFFSET and LIMIT take of a constant: a number of 0 or more; no such number; or the constant's own refusal.
-#[derive(Drop)]
+#[derive(Clone, Copy)]
 pub enum Natural {
     Number(u64),
     Invalid,
@@ -52,7 +52,7 @@ pub fn to_natural(constant: Constant) -> Natural
 }
 
 // A value in the area: its kind and two numbers; the fourth is 0.
-#[derive(Drop)]
+#[derive(Clone, Copy)]
 pub struct Numbers {
     pub kind: u32,
     pub first: u32,

@@ -33,7 +33,7 @@ const FEW_OPEN: usize = 64;
 const SHORT_REST: usize = 845;
 
 // What was read: the position behind it, its line, the expression rows and the FROM rows so far; or 2 or 3 at a line.
-#[derive(Drop)]
+#[derive(Clone, Copy)]
 pub enum Froms {
     Done(usize, u32, u32, u32),
     Wrong(u32),
@@ -41,7 +41,7 @@ pub enum Froms {
 }
 
 // One tree that was read: the position behind it, its line, the expression rows, the tables and the FROM rows so far; or 2 or 3 at a line.
-#[derive(Drop)]
+#[derive(Clone, Copy)]
 enum Tree {
     Done(usize, u32, u32, u32, u32),
     Wrong(u32),
@@ -62,7 +62,7 @@ struct Stand {
 }
 
 // A turn: where reading stands behind it, or the tree has ended; or 2 or 3 at a line.
-#[derive(Drop)]
+#[derive(Clone, Copy)]
 enum Turn {
     On(Stand),
     End,

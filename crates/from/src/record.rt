@@ -16,7 +16,7 @@ pub const TABLE: u32 = 1;
 
 // A FROM record: its kind, whether a predicate follows a join (1), the table's address and length in a and b, the alias's in c and d
 // (0 0 where there is none), and the position behind it.
-#[derive(Drop)]
+#[derive(Clone, Copy)]
 pub struct FromRecord {
     pub kind: u32,
     pub on: u32,

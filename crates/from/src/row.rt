@@ -5,7 +5,7 @@ ghost use Rattle.from.specs.Access as access;
 
 use ast::rows::at;
 
-#[derive(Drop)]
+#[derive(Clone, Copy)]
 pub enum Kind {
     Table,
     Cross,
@@ -15,7 +15,7 @@ pub enum Kind {
 }
 
 // The predicate of a join: none, or its row among the expressions.
-#[derive(Drop)]
+#[derive(Clone, Copy)]
 pub enum Predicate {
     Missing,
     Row(u32),

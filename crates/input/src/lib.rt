@@ -9,7 +9,7 @@ pub const SIZE: usize = 65537;
 pub type Buffer = [u8; SIZE];
 
 // How many bytes were read, or that a read failed.
-#[derive(Drop)]
+#[derive(Clone, Copy)]
 pub enum Input {
     Bytes(usize),
     Failed,

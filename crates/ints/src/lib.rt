@@ -11,7 +11,7 @@ ghost use Rattle.ints.specs.Checked.{checked};
 
 use parts::{capped_mul, from_parts, is_negative, power, product, sum, unsigned_abs};
 
-#[derive(Drop)]
+#[derive(Clone, Copy)]
 pub enum Checked {
     Int(i64),
     Overflow,

@@ -25,7 +25,7 @@ pub const WINDOW: usize = 65536;
 pub type Window = [u8; WINDOW];
 
 // How many bytes are listed in the window, with none behind them; or that the window is full and there may be more.
-#[derive(Drop)]
+#[derive(Clone, Copy)]
 pub enum Listed {
     Bytes(usize),
     Full,

@@ -14,7 +14,7 @@ ghost use Rattle.literal.specs.Bits.{bits_of};
 use text::Number;
 
 // The 64 bits of a literal, an integer's in two's complement; or none.
-#[derive(Drop)]
+#[derive(Clone, Copy)]
 pub enum Bits {
     Value(u64),
     Wrong,

@@ -25,7 +25,7 @@ const FLOAT: u32 = 4;
 const TEXT: u32 = 5;
 
 // A literal's kind, or 0, and its two numbers.
-#[derive(Drop)]
+#[derive(Clone, Copy)]
 pub struct Literal {
     pub kind: u32,
     pub a: u32,

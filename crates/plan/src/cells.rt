@@ -14,7 +14,7 @@ use numbers::put_four;
 use text::lengths::length_at;
 
 // What a step that appends cells gives: the next cell; or document 01's number of a refusal, and its line.
-#[derive(Drop)]
+#[derive(Clone, Copy)]
 pub enum Written {
     Done(u32),
     Refused(u32, u32),

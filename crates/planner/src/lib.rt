@@ -28,7 +28,7 @@ pub const LEAST_AREA: usize = 16384;
 
 // Document 01's number of a refusal, its text (1 catalog, 2 statement) and line; or 0 and how many cells the plan has.
 #[repr(C)]
-#[derive(Drop)]
+#[derive(Clone, Copy)]
 pub struct Outcome {
     pub number: u32,
     pub text: u32,

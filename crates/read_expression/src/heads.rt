@@ -22,7 +22,7 @@ use text::{Line, MOST_BYTES, Number};
 pub const WRONG: u32 = 0;
 
 // A row but its line and its size, and how many operands follow its record.
-#[derive(Drop)]
+#[derive(Clone, Copy)]
 pub struct Row {
     pub kind: u32,
     pub code: u32,

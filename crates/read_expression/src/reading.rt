@@ -17,7 +17,7 @@ use text::MOST_BYTES;
 const DEPTH: u32 = 32;
 
 // What was read: the position behind it, its line, and the rows so far; or 2 or 3 at a line.
-#[derive(Drop)]
+#[derive(Clone, Copy)]
 pub enum Read {
     Done(usize, u32, u32),
     Wrong(u32),

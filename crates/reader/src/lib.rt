@@ -18,7 +18,7 @@ pub const STATEMENT: u32 = 2;
 const LAST_KIND: u32 = 6;
 
 // Two texts: the statement's kind, how many expression cells it has and how many tables the catalog has; or a refusal's number, text and line.
-#[derive(Drop)]
+#[derive(Clone, Copy)]
 pub enum Texts {
     Read(u32, u32, u32),
     Refused(u32, u32, u32),

@@ -17,7 +17,7 @@ use statement::{CELL_NUMBERS, FROM_NUMBERS, PART_NUMBERS};
 // Document 01's number of a refusal, its text (1 catalog, 2 statement) and line; or 0, and the statement's kind, how many
 // expression cells it has and how many tables the catalog has.
 #[repr(C)]
-#[derive(Drop)]
+#[derive(Clone, Copy)]
 pub struct Answer {
     pub number: u32,
     pub text: u32,

@@ -45,7 +45,7 @@ fn agrees<'t>(catalog: &'t [u8], statement: &'t [u8], expected: &[u8]) -> bool
 }
 
 // What comes of a case: it agrees or differs, with the position behind it; or the list is damaged there.
-#[derive(Drop)]
+#[derive(Clone, Copy)]
 enum Case {
     Agrees(usize),
     Differs(usize),
@@ -84,7 +84,7 @@ fn print(words: &[u8], n: usize) {
 }
 
 // How far the list is replayed: the position of the next case, how many cases there were, and how many agree.
-#[derive(Drop)]
+#[derive(Clone, Copy)]
 struct Progress {
     at: usize,
     cases: usize,

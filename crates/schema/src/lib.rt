@@ -28,21 +28,21 @@ const COLUMNS: usize = 161;
 const COLUMN_SIZE: usize = 8;
 
 // The position of what was looked for.
-#[derive(Drop)]
+#[derive(Clone, Copy)]
 pub enum Found {
     At(u32),
     Nothing,
 }
 
 // A name: its address and length.
-#[derive(Drop)]
+#[derive(Clone, Copy)]
 pub struct Name {
     pub address: u32,
     pub length: u32,
 }
 
 // A column's default: its kind and two numbers.
-#[derive(Drop)]
+#[derive(Clone, Copy)]
 pub struct Default {
     pub kind: u32,
     pub first: u32,

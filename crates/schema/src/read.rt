@@ -25,7 +25,7 @@ const MOST_TABLE_COLUMNS: u32 = 64;
 const LEAST_COLUMN: usize = 23;
 
 // A catalog: read, or 2 or 3 at a line.
-#[derive(Drop)]
+#[derive(Clone, Copy)]
 pub enum Read {
     Done,
     Wrong(u32),
@@ -33,7 +33,7 @@ pub enum Read {
 }
 
 // One column: read, and the position behind it; or 2 or 3 at a line; or none stands there.
-#[derive(Drop)]
+#[derive(Clone, Copy)]
 enum ColumnStep {
     Column(usize),
     Wrong(u32),
@@ -42,7 +42,7 @@ enum ColumnStep {
 }
 
 // Columns or a table: read, with the position behind them, its line and how many columns there are; or 2 or 3 at a line.
-#[derive(Drop)]
+#[derive(Clone, Copy)]
 enum Run {
     Done(usize, u32, u32),
     Wrong(u32),

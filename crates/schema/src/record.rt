@@ -14,7 +14,7 @@ use numbers::number;
 use text::{Line, Number};
 
 // A column's record: the name's address and length, the type, 1 if it is nullable, and the position behind the line.
-#[derive(Drop)]
+#[derive(Clone, Copy)]
 pub enum ColumnRecord {
     Column(u32, u32, u32, u32, usize),
     Wrong,
@@ -22,14 +22,14 @@ pub enum ColumnRecord {
 }
 
 // A table's record: the name's address and length, the key position, and the position behind the line.
-#[derive(Drop)]
+#[derive(Clone, Copy)]
 pub enum TableRecord {
     Table(u32, u32, u32, usize),
     Wrong,
 }
 
 // A default's record: its kind and two numbers.
-#[derive(Drop)]
+#[derive(Clone, Copy)]
 pub enum DefaultRecord {
     Default(u32, u32, u32),
     Wrong,

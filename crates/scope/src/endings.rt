@@ -7,7 +7,7 @@ use super::labels::{address, size};
 use text::MOST_BYTES;
 
 // The last byte of a name that is sought. Only labels whose names end at `limit` or before, in the catalog, are held to it.
-#[derive(Drop)]
+#[derive(Clone, Copy)]
 pub struct Ending {
     pub limit: u32,
     pub last: u8,

@@ -33,7 +33,7 @@ pub const TABLES: usize = 16;
 
 // The columns: their labels, what is matched to each (0 nothing, or 1 + the row of an expression), and the tables they
 // come from. The last `hidden` of them are not shown.
-#[derive(Drop)]
+#[derive(Clone, Copy)]
 pub struct Scope {
     pub labels: [u32; COLUMNS],
     pub matches: [u16; COLUMNS],

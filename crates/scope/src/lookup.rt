@@ -19,7 +19,7 @@ use numbers::number;
 use text::places::bytes_at;
 
 // What was looked for: its position, or why there is none.
-#[derive(Drop)]
+#[derive(Clone, Copy)]
 pub enum Found {
     At(u32),
     UnknownQualifier,
@@ -30,7 +30,7 @@ pub enum Found {
 }
 
 // A column name's qualifier: none, or the place of a table's name.
-#[derive(Drop)]
+#[derive(Clone, Copy)]
 pub enum Qualifier {
     Nothing,
     Table(u32, u32),

@@ -10,7 +10,7 @@ use super::lookup::first_matches;
 use ast::equality::equal;
 
 // The column that an expression is matched to, or none.
-#[derive(Drop)]
+#[derive(Clone, Copy)]
 pub enum Matched {
     At(u32),
     Nothing,

@@ -13,7 +13,7 @@ use super::lookup::{first, has_table};
 use text::{MOST_BYTES, part};
 
 // They may, or a table name is held by both, or there are too many columns.
-#[derive(Drop)]
+#[derive(Clone, Copy)]
 pub enum Merging {
     Allowed,
     DuplicateTable,

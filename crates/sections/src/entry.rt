@@ -38,7 +38,7 @@ pub const OUTSIDE: usize = 9223372036854775808;
 
 // An entry's line, how many expressions it has and the row of the first, its name's address and length (0 0 where there is
 // none), what else its record says, and the address and the length (extent) of its reference.
-#[derive(Drop)]
+#[derive(Clone, Copy)]
 pub struct Entry {
     pub line: u32,
     pub expressions: u32,

@@ -22,7 +22,7 @@ const ENTRY_SIZE: usize = 12;
 
 // One entry: read, with the position behind it, its line, the rows so far, and its name's address and length; or none stands
 // there, or 2 or 3 at a line.
-#[derive(Drop)]
+#[derive(Clone, Copy)]
 enum Step {
     Entry(usize, u32, u32, u32, u32),
     End,

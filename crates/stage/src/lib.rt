@@ -5,7 +5,7 @@ use scope::Scope;
 
 // The scope, and with it the next cell, the next node and how many numbers of the nodes are in use; `number` is 0. Where
 // the clause is refused, document 01's number and line.
-#[derive(Drop)]
+#[derive(Clone, Copy)]
 pub struct Stage {
     pub scope: Scope,
     pub number: u32,

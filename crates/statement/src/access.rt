@@ -23,7 +23,7 @@ const FLAG: usize = 4;
 
 pub const FROM_ROWS: usize = 2367;
 
-#[derive(Drop)]
+#[derive(Clone, Copy)]
 pub enum Kind {
     Select,
     Create,
@@ -35,7 +35,7 @@ pub enum Kind {
 }
 
 // A clause: none, or the line of its record and the row of its expression.
-#[derive(Drop)]
+#[derive(Clone, Copy)]
 pub enum Clause {
     Missing,
     Stands(u32, usize),

@@ -30,7 +30,7 @@ pub const UPDATE: u32 = 6;
 pub const OTHER: u32 = 7;
 
 // A first record: a and b are the address and the length of its name, or 0; flag is 1 where a `drop` says yes.
-#[derive(Drop)]
+#[derive(Clone, Copy)]
 pub struct First {
     pub kind: u32,
     pub a: u32,

@@ -31,7 +31,7 @@ pub const FROM_NUMBERS: usize = 248;
 pub const PART_NUMBERS: usize = 3863;
 
 // A statement: read, and how many expression cells it has; or 2 or 3 at a line.
-#[derive(Drop)]
+#[derive(Clone, Copy)]
 pub enum Outcome {
     Done(u32),
     Wrong(u32),

@@ -81,7 +81,7 @@ fn least(a: usize, b: usize) -> usize
 
 // The first ten fields of a line, where each starts and how many bytes it has, and the position behind the line. What the
 // arrays hold from count on means nothing.
-#[derive(Drop)]
+#[derive(Clone, Copy)]
 pub struct Line {
     pub starts: [usize; 12],
     pub lens: [usize; 12],
@@ -207,7 +207,7 @@ pub fn equal(x: &[u8], y: &[u8]) -> bool
 }
 
 // The order of two byte strings, a proper prefix first.
-#[derive(Drop)]
+#[derive(Clone, Copy)]
 pub enum Order {
     Before,
     Same,
@@ -291,7 +291,7 @@ pub fn is_name(n: usize) -> bool
 }
 
 // A number, or none.
-#[derive(Drop)]
+#[derive(Clone, Copy)]
 pub enum Number {
     Value(u64),
     Wrong,

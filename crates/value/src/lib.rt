@@ -15,7 +15,7 @@ ghost use Rattle.value.specs.Values.{worked_of, refusal_of};
 use numbers::refusals::{DIVISION_BY_ZERO, INTEGER_OVERFLOW, NOT_WORKED_OUT, WRONG_OPERAND};
 
 // A text is an address and a length (text::places).
-#[derive(Drop)]
+#[derive(Clone, Copy)]
 pub enum Value {
     Null,
     Bool(bool),
@@ -24,7 +24,7 @@ pub enum Value {
     Text(u32, u32),
 }
 
-#[derive(Drop)]
+#[derive(Clone, Copy)]
 pub enum Worked {
     Value(Value),
     Overflow,
@@ -34,7 +34,7 @@ pub enum Worked {
 }
 
 // The operands of arithmetic: both integers, or else both floats; a null with a null or a number; anything else.
-#[derive(Drop)]
+#[derive(Clone, Copy)]
 pub enum Numbers {
     Ints(i64, i64),
     Floats(f64, f64),
@@ -43,7 +43,7 @@ pub enum Numbers {
 }
 
 // The operands of AND and OR: two truths; a truth with a null; two nulls; anything else.
-#[derive(Drop)]
+#[derive(Clone, Copy)]
 pub enum Truths {
     Both(bool, bool),
     One(bool),
@@ -52,7 +52,7 @@ pub enum Truths {
 }
 
 // How two values compare: their order, unordered where one is a NaN; unknown where one is a null; or not at all.
-#[derive(Drop)]
+#[derive(Clone, Copy)]
 pub enum Compared {
     Less,
     Same,

@@ -15,7 +15,7 @@ use value::{Value, Worked, arithmetic, comparison, literals, logic};
 
 // Document 01's number of a refusal, or 0 and the value's kind and bits.
 #[repr(C)]
-#[derive(Drop)]
+#[derive(Clone, Copy)]
 pub struct Answer {
     pub refusal: u32,
     pub kind: u32,
