@@ -1,0 +1,7 @@
+-- `is_once`: the sections of one entry at most.
+use borrow.Author.Rules.{rules}
+use Rattle.entries.specs.Entries.{once-one}
+use Rattle.sections.proofs.is_once.Goals as goal
+
+pub returns : goal.returns
+returns c = rw c.most_of.ensures (once-one _)
