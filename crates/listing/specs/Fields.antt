@@ -1,6 +1,6 @@
 -- Fields, each behind a tab, and lines of them.
 use Rattle.std.specs.Prelude.{ℕ, ◌≡◌, refl, List, [], ◌∷◌, ◌++◌}
-use Rattle.std.proofs.Common.{sym, ap, ◌∙◌, append_assoc, append-nil}
+use Rattle.std.proofs.Common.{sym, ap, append_assoc, append-nil}
 use Rattle.rules.specs.Lists.{Bytes}
 use Rattle.listing.specs.Put.{Put, put-none, put_then, put_same}
 

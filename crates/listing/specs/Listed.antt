@@ -14,7 +14,6 @@ use Rattle.rules.specs.Print.{decimal_of, show_lines, text_name, show_refusal, s
 use Rattle.text.specs.Words.{words_of, push}
 use Rattle.listing.specs.Words.{word_of}
 use Rattle.listing.specs.Put.{Put}
-use Rattle.listing.specs.Lines.{Lines}
 use Rattle.listing.specs.declared.Listed as Ls
 use Rattle.listing.specs.declared.Listed.TheVariants as L
 

@@ -1,6 +1,6 @@
 -- The statement's own lines and the whole listing, from the numbers of an area.
-use Rattle.std.specs.Prelude.{ℕ, ◌+◌, ◌*◌, ◌-◌, ◌≡◌, true, false, List, [], ◌∷◌, ◌++◌, eqb, get_or, drop}
-use Rattle.std.proofs.Common.{◌∙◌, eq-eqb, ne_eqb}
+use Rattle.std.specs.Prelude.{ℕ, ◌-◌, ◌≡◌, true, false, List, [], ◌∷◌, ◌++◌, eqb, get_or, drop}
+use Rattle.std.proofs.Common.{eq-eqb, ne_eqb}
 use Rattle.rules.specs.Lists.{Bytes}
 use Rattle.rules.specs.Lines.{bytes}
 use Rattle.rules.specs.Places.{bytes_at}

@@ -1,6 +1,5 @@
 -- What the code puts for the parts of nodes and for each kind of node: its numbers are the area's.
 use Rattle.std.specs.Prelude.{ℕ, ◌+◌, ◌*◌, ◌^◌, ◌≡◌, List, [], ◌∷◌, ◌++◌, get_or, drop, take}
-use Rattle.std.proofs.Common.{◌∙◌}
 use Rattle.rules.specs.Lists.{Bytes}
 use Rattle.rules.specs.Lines.{bytes}
 use Rattle.rules.specs.Places.{bytes_at}

@@ -1,6 +1,6 @@
 -- The k-th of some words, each closed by a blank.
-use Rattle.std.specs.Prelude.{ℕ, suc, ◌+◌, ◌-◌, ◌≤◌, ◌<◌, ◌≡◌, refl, [], ◌∷◌, length, take, drop, get_or}
-use Rattle.std.proofs.Common.{arith, ◌∙◌, drop_of_length-le}
+use Rattle.std.specs.Prelude.{ℕ, suc, ◌+◌, ◌-◌, ◌≤◌, ◌<◌, ◌≡◌, refl, [], length, take, drop, get_or}
+use Rattle.std.proofs.Common.{arith, drop_of_length-le}
 use Rattle.std.proofs.Math.Path.{sym}
 use Rattle.rules.specs.Lists.{Bytes}
 use Rattle.text.specs.Bytes.{stop_at}
