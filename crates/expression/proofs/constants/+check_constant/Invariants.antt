@@ -1,0 +1,23 @@
+-- `expression::constants::check_constant` meets its contract: what is left of the table falls with each call.
+use mathlib.Core.Path.{◌≡◌, sym, ◌∙◌}
+use Prim.Native.Nat.{ℕ, suc, ◌*◌, ◌-◌, ◌<◌}
+use native.Mathlib.Omega.{arith}
+use lib.ListN.{length}
+use borrow.Author.Rules.{rules}
+use Rattle.ast.specs.Table.{row_size, arguments_at, tree_at}
+use Rattle.ast.specs.Operands.{operands_at, operands-inside}
+use Rattle.expression.specs.Constants.{check_all}
+use Rattle.expression.proofs.Checks.{at_row, check-start, check-end, check-stop, check-more}
+use Rattle.expression.proofs.constants.+check_constant.Given as goal
+
+abbrev pub decreases-check_constant : goal.decreases-check_constant
+decreases-check_constant l = length l.table.now - l.r
+
+abbrev pub invariant-loop-left : goal.invariant-loop-left
+invariant-loop-left l =
+    (l.r < l.p) × (row_size * l.r < length l.table)
+    × (check_all (arguments_at (tree_at l.catalog l.statement l.table) l.table l.left l.p)
+    ≡ check_all (arguments_at (tree_at l.catalog l.statement l.table) l.table (operands_at l.table l.r) (suc l.r)))
+
+abbrev pub decreases-loop-left : goal.decreases-loop-left
+decreases-loop-left l = l.left
