@@ -1,0 +1,7 @@
+-- `key`: the key position stands among the table's numbers.
+use Rattle.schema.specs.Layout.{table_at}
+use Rattle.schema.proofs.key.Goals as goal
+
+pub returns : goal.returns
+unfolding table_at
+returns c c' q = c.number.ensures

@@ -1,0 +1,20 @@
+-- `default_record`: by the keyword, what the rules make of the line.
+use Rattle.rules.specs.Lines.{bytes}
+use Rattle.schema.specs.DefaultRecords.{default_none, default-crowded, default-wrong, default-value}
+use Rattle.schema.proofs.record.default_record.Goals as goal
+
+pub returns-then-f-ne1 : goal.returns-then-f-ne1
+unfolding bytes
+returns-then-f-ne1 c q l = default-crowded _ _ _ c.requires.fact_2 c.holds.ensures q l c.if-holds.true c.if-f-ne1.true
+
+pub returns-then-holds : goal.returns-then-holds
+unfolding bytes
+returns-then-holds c q l = default_none _ _ _ c.requires.fact_2 c.holds.ensures q l c.if-holds.true c.if-f-ne1.false
+
+pub returns-then-v-eq0 : goal.returns-then-v-eq0
+unfolding bytes
+returns-then-v-eq0 c q l = default-wrong _ _ _ c.requires.fact_2 c.holds.ensures q l c.if-holds.false c.literal_at-v.ensures c.if-v-eq0.true
+
+pub returns : goal.returns
+unfolding bytes
+returns c q l = default-value _ _ _ c.requires.fact_2 c.holds.ensures q l c.if-holds.false c.literal_at-v.ensures c.if-v-eq0.false

@@ -1,0 +1,40 @@
+-- `table_record`: field by field, what the rules make of the line.
+use native.Mathlib.Omega.{arith}
+use mathlib.Core.Path.{sym, ◌∙◌}
+use Rattle.rules.specs.Lines.{bytes}
+use Rattle.schema.specs.Records.{field-most}
+use Rattle.schema.specs.TableRecords.{count_small, table-missing, table-count, table-name, table-key, table_taken, table-right}
+use Rattle.schema.proofs.record.table_record.Goals as goal
+
+pub returns-then-not-holds : goal.returns-then-not-holds
+unfolding bytes
+returns-then-not-holds c = table-missing _ _ _ _ _ c.fields-f.ensures c.holds.ensures c.if-not-holds.true
+
+pub returns-then-f-ne3 : goal.returns-then-f-ne3
+unfolding bytes
+returns-then-f-ne3 c = table-count _ _ _ _ _ c.fields-f.ensures c.holds.ensures c.if-not-holds.false c.if-f-ne3.true
+
+pub returns-then-not-is_name : goal.returns-then-not-is_name
+unfolding bytes
+returns-then-not-is_name c = table-name _ _ _ _ _ c.fields-f.ensures c.holds.ensures c.if-not-holds.false c.if-f-ne3.false (sym c.is_name.ensures ∙ c.if-not-is_name.true)
+
+pub returns-in_default : goal.returns-in_default
+unfolding bytes
+returns-in_default c = table-key _ _ _ _ _ c.fields-f.ensures c.holds.ensures c.if-not-holds.false c.if-f-ne3.false (sym c.is_name.ensures ∙ c.if-not-is_name.false) _ c.count-d.ensures c.in_default.is
+
+pub overflow_cast-a : goal.overflow_cast-a
+overflow_cast-a c = record { fits = omega (arith, field-most _ _ _ c.fields-f.ensures c.requires 1 (omega (arith, c.if-f-ne3.false))) }
+
+pub overflow_cast-m : goal.overflow_cast-m
+overflow_cast-m c = record { fits = omega (arith, field-most _ _ _ c.fields-f.ensures c.requires 1 (omega (arith, c.if-f-ne3.false))) }
+
+pub returns-then-is_taken : goal.returns-then-is_taken
+unfolding bytes
+returns-then-is_taken c = table_taken _ _ _ _ _ c.fields-f.ensures c.holds.ensures c.if-not-holds.false c.if-f-ne3.false (sym c.is_name.ensures ∙ c.if-not-is_name.false) _ c.count-d.ensures c.in-Value.is c.requires c.is_taken.ensures c.if-is_taken.true
+
+pub overflow_cast-result : goal.overflow_cast-result
+overflow_cast-result c = record { fits = omega (arith, count_small _ _ _ (c.count-d.ensures 0) c.in-Value.is) }
+
+pub returns : goal.returns
+unfolding bytes
+returns c = table-right _ _ _ _ _ c.fields-f.ensures c.holds.ensures c.if-not-holds.false c.if-f-ne3.false (sym c.is_name.ensures ∙ c.if-not-is_name.false) _ c.count-d.ensures c.in-Value.is c.requires c.is_taken.ensures c.if-is_taken.false
