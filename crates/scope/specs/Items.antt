@@ -1,5 +1,5 @@
 -- A projection over groups and aggregates: its items' labels over the same tables, the first of equal items matched.
-use Rattle.std.specs.Prelude.{ℕ, ◌+◌, ◌-◌, ◌≤◌, min, ◌≡◌, refl, false, take}
+use Rattle.std.specs.Prelude.{ℕ, ◌≤◌, min, ◌≡◌, refl, false, take}
 use Rattle.std.proofs.Common.{arith, sym, ◌∙◌, take_all}
 use Rattle.std.proofs.Math.Path.{ap}
 use mathlib.Core.List.{List, [], ◌∷◌, ◌++◌, map, append_assoc, append-nil}

@@ -12,7 +12,6 @@ use Rattle.rules.specs.Scope as rules
 use Rattle.rules.specs.Scope.{at, missing, the_only, the_last, not_found, lookup_named, is_named, is_qualified}
 use Rattle.scope.specs.Labels.{columns-length}
 use Rattle.scope.specs.Scopes.{matches_of, scope_from}
-use Rattle.scope.specs.declared.Scope.{Scope}
 use Rattle.scope.specs.declared.lookup.Found.{Found}
 use Rattle.scope.specs.declared.lookup.Found.TheVariants.{At, UnknownQualifier, UnknownColumn, Ambiguous}
 use Rattle.scope.specs.declared.lookup.Found.TheVariants.{ConstantOnly, NotAggregated}

@@ -1,5 +1,5 @@
 -- Two scopes merged: the other's labels and tables behind one's own.
-use Rattle.std.specs.Prelude.{ℕ, suc, ◌+◌, ◌-◌, ◌≤◌, ◌<◌, ◌≡◌, refl, List, [], ◌∷◌, ◌++◌, map, length, get_or, take, set}
+use Rattle.std.specs.Prelude.{ℕ, suc, ◌+◌, ◌≤◌, ◌<◌, ◌≡◌, refl, List, [], ◌∷◌, ◌++◌, map, length, get_or, take, set}
 use Rattle.std.proofs.Common.{arith, add-one, add-zero, ap, ◌∙◌, append_assoc, append-nil, length-set, take-suc-set, take-suc, length-take-le, get_or-take}
 use Rattle.rules.specs.Limits.{most_columns, most_from_tables}
 use Rattle.rules.specs.Lists.{Bytes}

@@ -1,5 +1,5 @@
 -- A projection: its items' labels over the same tables, where nothing is matched.
-use Rattle.std.specs.Prelude.{ℕ, ◌+◌, ◌-◌, ◌≤◌, ◌≡◌, refl, true, List, [], ◌∷◌, ◌++◌, map, length, get_or}
+use Rattle.std.specs.Prelude.{ℕ, ◌+◌, ◌≤◌, ◌≡◌, refl, true, List, [], ◌∷◌, ◌++◌, map, length, get_or}
 use Rattle.std.proofs.Common.{arith, ap, sym, ◌∙◌, append_assoc, append-nil, take_all}
 use Rattle.std.proofs.Math.ListN.{get_or-map}
 use Rattle.rules.specs.Limits.{most_columns}

@@ -1,5 +1,5 @@
 -- The rules' remap of a right join, for a scope with no matches and nothing hidden: its columns swapped.
-use Prim.Native.Nat.{ℕ, zero, suc, ◌+◌, ◌-◌, ◌≤◌, ◌<◌, max}
+use Prim.Native.Nat.{ℕ, zero, suc, ◌+◌, ◌≤◌, ◌<◌, max}
 use native.Mathlib.Omega.{arith}
 use Rattle.std.proofs.Math.Numerals.{add-one}
 use Rattle.std.specs.Prelude.{◌≡◌, false, List, [], ◌∷◌, ◌++◌, map, get_or, take, drop}
@@ -34,6 +34,10 @@ source-here : (t i u : ℕ) (r : List (Option ℕ)) → last_source t (suc i) r 
 unfolding last_source
 source-here t i u r h e = rw (last_source, h, eq-eqb u t e)
 
+source-more : (t i u j : ℕ) (r : List (Option ℕ)) → last_source t (suc i) r ≡ some j → last_source t i (some u ∷ r) ≡ some j
+unfolding last_source
+source-more t i u j r h = rw (last_source, h)
+
 source_in : (k i u n : ℕ) → k < n → last_source (u + k) i (rising u n) ≡ some (i + k)
 unfolding last_source rising
 source_in k i u zero h = absurd (omega arith)
@@ -43,7 +47,7 @@ source_in zero i u (suc n) h =
 source_in (suc k) i u (suc n) h =
     let e : u + suc k ≡ u + 1 + k = omega arith in
     let g : i + suc k ≡ suc i + k = omega arith in
-    rw (e, g, last_source, source_in k (suc i) (u + 1) n (omega arith))
+    source-more (u + suc k) i u (i + suc k) (rising (u + 1) n) (rw (e, g) (source_in k (suc i) (u + 1) n (omega arith)))
 
 source-later : (t i : ℕ) (xs ys : List (Option ℕ)) (j : ℕ) → last_source t (i + length xs) ys ≡ some j
     → last_source t i (xs ++ ys) ≡ some j

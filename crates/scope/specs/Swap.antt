@@ -1,5 +1,5 @@
 -- A right join's columns swapped back: the first a behind the b that follow them.
-use Rattle.std.specs.Prelude.{ℕ, ◌+◌, ◌-◌, ◌≤◌, ◌<◌, ◌≡◌, List, [], ◌++◌, length, get_or, take, drop, set}
+use Rattle.std.specs.Prelude.{ℕ, ◌+◌, ◌≤◌, ◌<◌, ◌≡◌, List, [], ◌++◌, length, get_or, take, drop, set}
 use Rattle.std.proofs.Common.{arith, ap, sym, ◌∙◌, length-drop, take-add, take-take, take_at, drop_at, length-take-le, get_or-drop}
 use Rattle.rules.specs.Lists.{Bytes}
 use Rattle.rules.specs.Ast.{Expr}
