@@ -1,6 +1,6 @@
 -- A step of a SELECT: the cells and the node records that it appends behind the node before it, or its refusal; and
 -- steps one after the other.
-use Rattle.std.specs.Prelude.{ℕ, ◌+◌, ◌≤◌, ◌≡◌, refl, List, [], ◌∷◌, ◌++◌, length, take}
+use Rattle.std.specs.Prelude.{ℕ, ◌≤◌, ◌≡◌, refl, List, [], ◌∷◌, ◌++◌, length, take}
 use Rattle.std.proofs.Common.{arith, sym, ◌∙◌, append_assoc, append-nil}
 use Rattle.rules.specs.Refusals.{Reason, Refusal, refusal_number, Answer, ok, refused, refuse}
 use Rattle.rules.specs.Refusals as R
