@@ -1,7 +1,9 @@
-// What an open file holds, and a text from one, read as far as it takes to see that it is too long.
+// What a reader has, and a text from one, read as far as it takes to see that it is too long.
 #![tactic(auto)]
 
-ghost use Rattle.input.specs.Input.{Within, Whole};
+ghost use Rattle.input.specs.Input.{Within, Whole, Took};
+
+use std::io::Read;
 
 pub const SIZE: usize = 65537;
 
@@ -15,17 +17,16 @@ pub enum Input {
     Failed,
 }
 
-// The file's bytes at the start of `text`, to the file's end or until `text` is full.
-pub fn fill(fd: i32, text: &mut [u8]) -> Input
-    ensures { Within text.new result }
+// The reader's bytes at the start of `text`, to the reader's end or until `text` is full.
+pub fn fill<R: Read>(from: &mut R, text: &mut [u8]) -> Input
+    ensures within { Within text.new result }
+    ensures took { Took (R.remaining from.old) (R.remaining from.new) text.new result }
 {
     let mut done: usize = 0;
     while done < text.len() {
-        let got = libc::read(fd, &mut text[done..]);
-        if got < 0 {
+        let Ok(n) = from.read(&mut text[done..]) else {
             return Input::Failed;
-        }
-        let n = io::count(got, &text[done..]);
+        };
         if n == 0 {
             return Input::Bytes(done);
         }
@@ -34,9 +35,10 @@ pub fn fill(fd: i32, text: &mut [u8]) -> Input
     Input::Bytes(done)
 }
 
-// A text's bytes: all of the file's, or more than a text may have.
-pub fn read_text(fd: i32, text: &mut Buffer) -> Input
-    ensures { Whole text.new result }
+// A text's bytes: all of the reader's, or more than a text may have.
+pub fn read_text<R: Read>(from: &mut R, text: &mut Buffer) -> Input
+    ensures whole { Whole text.new result }
+    ensures took { Took (R.remaining from.old) (R.remaining from.new) text.new result }
 {
-    fill(fd, text)
+    fill(from, text)
 }
