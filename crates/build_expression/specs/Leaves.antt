@@ -7,7 +7,7 @@ use Rattle.rules.specs.Refusals.{refusal_number, unsupported_star, unknown_funct
 use Rattle.rules.specs.Lists.{Bytes}
 use Rattle.rules.specs.Lines.{Word}
 use Rattle.rules.specs.Codes.{unary_code}
-use Rattle.rules.specs.Ast.{sqrt, Expr, column, call, is, size, size_all}
+use Rattle.rules.specs.Ast.{sqrt, Expr, call, size, size_all}
 use Rattle.rules.specs.Cells as C
 use Rattle.rules.specs.Scope.{lookup, match_at, matched}
 use Rattle.appends.specs.Expressions.Emit.{emit}

@@ -1,0 +1,7 @@
+-- `leaves::column`: what was looked up by the row's name.
+use Rattle.build_expression.proofs.Names.{resolved}
+use Rattle.build_expression.proofs.leaves.column.Goals as goal
+
+pub returns : goal.returns
+returns c = resolved _ _ _ _ _ _ c.name_address-a.ensures c.name_length-length.ensures
+    c.line.ensures c.lookup-f.ensures c.found.ensures

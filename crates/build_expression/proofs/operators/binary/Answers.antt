@@ -1,0 +1,6 @@
+-- `operators::binary`: the cells of the operator.
+use Rattle.build_expression.specs.Steps.{binary-emits}
+use Rattle.build_expression.proofs.operators.binary.Goals as goal
+
+pub returns : goal.returns
+returns c = binary-emits _ _ _ _ _ _ (c.operator.ensures _ c.binary_code-code.ensures)
