@@ -1,7 +1,7 @@
 -- SELECT's items: stars expanded (planner.rs, build_select).
 use Rattle.std.specs.Prelude.{ℕ, Bool, true, false, ◌&&◌, not, List, [], ◌∷◌, ◌++◌, map, eqb}
 use Rattle.std.proofs.Math.Option.{Option, none, some}
-use Rattle.rules.specs.Refusals.{Answer, ok, ◌>>=◌, ◌>>◌, refuse_if, at_most, star_without_from}
+use Rattle.rules.specs.Refusals.{Answer, ok, ◌>>◌, refuse_if, at_most, star_without_from}
 use Rattle.rules.specs.Limits.{most_columns}
 use Rattle.rules.specs.Lists.{is_empty, is_some}
 use Rattle.rules.specs.Lines as Lines

@@ -23,7 +23,6 @@ use Rattle.rules.specs.Evaluate as Evaluate
 use Rattle.rules.specs.Plan as Plan
 use Rattle.rules.specs.Scope as Scope
 use Rattle.rules.specs.BuildExpression as BuildExpression
-use Rattle.rules.specs.Stage as Stage
 use Rattle.rules.specs.BuildFrom as BuildFrom
 use Rattle.rules.specs.BuildAggregate as BuildAggregate
 use Rattle.rules.specs.Items as Items
