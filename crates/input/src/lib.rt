@@ -3,6 +3,7 @@
 
 ghost use Rattle.input.specs.Input.{Within, Whole, Took};
 
+use std::io;
 use std::io::Read;
 
 pub const SIZE: usize = 65537;
@@ -10,33 +11,24 @@ pub const SIZE: usize = 65537;
 // Room for a text of the most bytes, and for the byte that makes it too long.
 pub type Buffer = [u8; SIZE];
 
-// How many bytes were read, or that a read failed.
-#[derive(Clone, Copy)]
-pub enum Input {
-    Bytes(usize),
-    Failed,
-}
-
-// The reader's bytes at the start of `text`, to the reader's end or until `text` is full.
-pub fn fill<R: Read>(from: &mut R, text: &mut [u8]) -> Input
+// How many of the reader's bytes stand at the start of `text`: all to the reader's end, or as many as `text` has room for.
+pub fn fill<R: Read>(from: &mut R, text: &mut [u8]) -> io::Result<usize>
     ensures within { Within text.new result }
     ensures took { Took (R.remaining from.old) (R.remaining from.new) text.new result }
 {
     let mut done: usize = 0;
     while done < text.len() {
-        let Ok(n) = from.read(&mut text[done..]) else {
-            return Input::Failed;
-        };
+        let n = from.read(&mut text[done..])?;
         if n == 0 {
-            return Input::Bytes(done);
+            return Ok(done);
         }
         done += n;
     }
-    Input::Bytes(done)
+    Ok(done)
 }
 
-// A text's bytes: all of the reader's, or more than a text may have.
-pub fn read_text<R: Read>(from: &mut R, text: &mut Buffer) -> Input
+// How many bytes a text has: all of the reader's, or more than a text may have.
+pub fn read_text<R: Read>(from: &mut R, text: &mut Buffer) -> io::Result<usize>
     ensures whole { Whole text.new result }
     ensures took { Took (R.remaining from.old) (R.remaining from.new) text.new result }
 {

@@ -6,7 +6,6 @@ use Rattle.std.proofs.KnownBytes.{Consumes-trans}
 use borrow.Rule.Slice.PartMut.{put_mid, post_of}
 use lib.Seq.{take-add, take-append-le}
 use Rattle.std.specs.declared.option.Option.{Option}
-use Rattle.input.specs.Input.{within, failed, took, took-failed}
 use Rattle.input.proofs.fill.Goals as goal
 
 put_behind : (a k n : ℕ) (xs ys : List ℕ) → a ≤ length xs → n ≤ length ys → take (a + n) (put_mid a k xs ys) ≡ take a xs ++ take n ys
@@ -26,27 +25,15 @@ no_more a b d p k n xs ys z h l e f =
     let s : p + n ≡ p = omega arith in
     subst (λ m. Consumes a d (take m (put_mid p k xs ys))) s (more a b d p k n xs ys h l e f)
 
-pub returns-in_default-clause-within : goal.returns-in_default-clause-within
-returns-in_default-clause-within g c = failed _
-
-pub returns-in_default-clause-took : goal.returns-in_default-clause-took
-returns-in_default-clause-took g c = took-failed _ _ _
-
-pub returns-then-n-eq0-clause-within : goal.returns-then-n-eq0-clause-within
-returns-then-n-eq0-clause-within g c = within _ _ (search rules)
-
 pub returns-then-n-eq0-clause-took : goal.returns-then-n-eq0-clause-took
-returns-then-n-eq0-clause-took g c =
-    took _ _ _ _
-    (no_more _ _ _ _ _ _ _ _ c.if-n-eq0.true c.loop-done.invariant.0 c.in-Ok.ensures.bound.0 c.loop-done.invariant.1 c.in-Ok.ensures.bytes.0)
-    (λ l. c.in-Ok.ensures.bytes.1 c.if-n-eq0.true (search rules))
+returns-then-n-eq0-clause-took g c = (
+  no_more _ _ _ _ _ _ _ _ c.if-n-eq0.true c.loop-done.invariant.0 c.in_ok-n.ensures.bound.0 c.loop-done.invariant.1 c.in_ok-n.ensures.bytes.0,
+  λ l. c.in_ok-n.ensures.bytes.1 c.if-n-eq0.true (search rules),
+)
 
 pub loop-done-preserved : goal.loop-done-preserved
 loop-done-preserved g c =
-    (search rules, more _ _ _ _ _ _ _ _ c.loop-done.invariant.0 c.in-Ok.ensures.bound.0 c.loop-done.invariant.1 c.in-Ok.ensures.bytes.0)
-
-pub returns-clause-within : goal.returns-clause-within
-returns-clause-within g c = within _ _ c.loop-done.invariant.0
+    (search rules, more _ _ _ _ _ _ _ _ c.loop-done.invariant.0 c.in_ok-n.ensures.bound.0 c.loop-done.invariant.1 c.in_ok-n.ensures.bytes.0)
 
 pub returns-clause-took : goal.returns-clause-took
-returns-clause-took g c = took _ _ _ _ c.loop-done.invariant.1 (λ l. absurd (omega arith))
+returns-clause-took g c = (c.loop-done.invariant.1, λ l. absurd (omega arith))
