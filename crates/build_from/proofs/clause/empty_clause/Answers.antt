@@ -1,0 +1,8 @@
+-- `clause::empty_clause`: one record, and the empty scope.
+use mathlib.Core.Path.{refl}
+use Rattle.build_from.specs.Clause.{clause-none}
+use borrow.Author.Rules.{rules}
+use Rattle.build_from.proofs.clause.empty_clause.Goals as goal
+
+pub returns : goal.returns
+returns c = λ b q ts cells area. clause-none b q ts cells area _ c.new.ensures refl refl refl c.empty_row-k.ensures
