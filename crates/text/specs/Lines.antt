@@ -165,9 +165,9 @@ module _ (base : ℕ) (t : Bytes) where
       let x = get_or-set_other st (i + suc k) i a 0 ne in
       let y = get_or-set_other ln (i + suc k) i b 0 ne in
       let whole : fields_from base t (set st (i + suc k) a) (set ln (i + suc k) b) i (suc (suc k))
-          ≡ field base t (get_or (set st (i + suc k) a) i 0) (get_or (set ln (i + suc k) b) i 0) ∷ fields_from base t (set st (i + suc k) a) (set ln (i + suc k) b) (suc i) (suc k) = refl in
+      ≡ field base t (get_or (set st (i + suc k) a) i 0) (get_or (set ln (i + suc k) b) i 0) ∷ fields_from base t (set st (i + suc k) a) (set ln (i + suc k) b) (suc i) (suc k) = refl in
       let parts : fields_from base t st ln i (suc k) ++ (field base t a b ∷ [])
-          ≡ field base t (get_or st i 0) (get_or ln i 0) ∷ (fields_from base t st ln (suc i) k ++ (field base t a b ∷ [])) = refl in
+      ≡ field base t (get_or st i 0) (get_or ln i 0) ∷ (fields_from base t st ln (suc i) k ++ (field base t a b ∷ [])) = refl in
       cc (whole, parts, ih, s, x, y)
 
   field-more : (st ln : List ℕ) (n a b : ℕ) → n < length st → n < length ln → fields_from base t (set st n a) (set ln n b) 0 (n + 1) ≡ fields_from base t st ln 0 n ++ (field base t a b ∷ [])

@@ -1,9 +1,8 @@
 -- `ints::add` meets its contract.
-use borrow.Author.Rules.{rules}
 use Rattle.ints.proofs.Operations.{add-law}
 use Rattle.ints.proofs.add.Goals as goal
 
 pub returns : goal.returns
 returns c = let start = c in add-law start.args.x start.ranges.x
-  c.is_negative.ensures c.unsigned_abs.ensures start.args.y
-  start.ranges.y c.is_negative-2.ensures c.unsigned_abs-2.ensures c.sum.ensures
+    c.is_negative.ensures c.unsigned_abs.ensures start.args.y
+    start.ranges.y c.is_negative-2.ensures c.unsigned_abs-2.ensures c.sum.ensures

@@ -1,6 +1,5 @@
 -- `ints::factorial` meets its contract.
 use mathlib.Core.Path.{◌∙◌}
-use borrow.Author.Rules.{rules}
 use Rattle.ints.specs.Parts.{signed}
 use Rattle.ints.proofs.factorial.Goals as goal
 

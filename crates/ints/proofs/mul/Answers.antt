@@ -1,10 +1,9 @@
 -- `ints::mul` meets its contract.
-use borrow.Author.Rules.{rules}
 use Rattle.ints.proofs.Operations.{mul-law}
 use Rattle.ints.proofs.mul.Goals as goal
 
 pub returns : goal.returns
 returns c = let start = c in mul-law start.args.x start.ranges.x
-  c.is_negative.ensures c.unsigned_abs.ensures start.args.y
-  start.ranges.y c.is_negative-2.ensures c.unsigned_abs-2.ensures
-  c.capped_mul.ensures c.from_parts.ensures
+    c.is_negative.ensures c.unsigned_abs.ensures start.args.y
+    start.ranges.y c.is_negative-2.ensures c.unsigned_abs-2.ensures
+    c.capped_mul.ensures c.from_parts.ensures

@@ -1,9 +1,8 @@
 -- `ints::sub` meets its contract.
-use borrow.Author.Rules.{rules}
 use Rattle.ints.proofs.Operations.{sub-law}
 use Rattle.ints.proofs.sub.Goals as goal
 
 pub returns : goal.returns
 returns c = let start = c in sub-law start.args.x start.ranges.x
-  c.is_negative.ensures c.unsigned_abs.ensures start.args.y
-  start.ranges.y c.is_negative-2.ensures c.unsigned_abs-2.ensures c.sum.ensures
+    c.is_negative.ensures c.unsigned_abs.ensures start.args.y
+    start.ranges.y c.is_negative-2.ensures c.unsigned_abs-2.ensures c.sum.ensures

@@ -1,7 +1,6 @@
 -- `number`: past the end the number is 0.
 use mathlib.Core.Path.{sym}
 use lib.ListN.{get_or-eq_default}
-use borrow.Author.Rules.{rules}
 use Rattle.numbers.proofs.number.Goals as goal
 
 pub returns-else-i-s : goal.returns-else-i-s

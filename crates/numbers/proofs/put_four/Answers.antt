@@ -2,7 +2,6 @@
 use native.Mathlib.Omega.{arith}
 use lib.ListN.{length-set}
 use Rattle.numbers.specs.Stores.{four-stores}
-use borrow.Author.Rules.{rules}
 use Rattle.numbers.proofs.put_four.Goals as goal
 
 pub bounds-s-i-2 : goal.bounds-s-i-2

@@ -1,11 +1,9 @@
 -- `any_fields`: the fields read and those from the next position on are the line's.
-use borrow.Author.Rules.{rules}
 use native.Mathlib.Omega.{arith}
-use Prim.Native.Nat.{◌-◌, ◌≤◌}
-use mathlib.Core.Path.{◌≡◌, refl}
-use lib.ListN.{length, length-set}
+use mathlib.Core.Path.{refl}
+use lib.ListN.{length-set}
 use Rattle.text.specs.Bytes.{stop-after}
-use Rattle.text.specs.Lines.{Reading, begin, go_on, ends, unclosed, filled}
+use Rattle.text.specs.Lines.{begin, go_on, ends, unclosed, filled}
 use Rattle.text.proofs.any_fields.Goals as goal
 
 pub loop-n-init : goal.loop-n-init

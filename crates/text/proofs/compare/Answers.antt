@@ -1,10 +1,7 @@
 -- `compare`: the bytes from here on decide as the whole do.
-use borrow.Author.Rules.{rules}
 use native.Mathlib.Omega.{arith}
-use Prim.Native.Nat.{◌-◌}
-use mathlib.Core.Path.{◌≡◌, refl, sym, ◌∙◌}
-use lib.ListN.{length, drop}
-use Rattle.text.specs.Order.{order_of, order-step, order-before, order-after, order-longer, order-shorter, order-end}
+use mathlib.Core.Path.{refl, sym, ◌∙◌}
+use Rattle.text.specs.Order.{order-step, order-before, order-after, order-longer, order-shorter, order-end}
 use Rattle.text.proofs.compare.Goals as goal
 
 pub loop-i-init : goal.loop-i-init

@@ -1,10 +1,8 @@
 -- `compare`: the bytes from here on decide as the whole do.
-use borrow.Author.Rules.{rules}
-use native.Mathlib.Omega.{arith}
 use Prim.Native.Nat.{◌-◌}
-use mathlib.Core.Path.{◌≡◌, refl, sym, ◌∙◌}
+use mathlib.Core.Path.{◌≡◌}
 use lib.ListN.{length, drop}
-use Rattle.text.specs.Order.{order_of, order-step, order-before, order-after, order-longer, order-shorter, order-end}
+use Rattle.text.specs.Order.{order_of}
 use Rattle.text.proofs.compare.Given as goal
 
 abbrev pub invariant-loop-i : goal.invariant-loop-i

@@ -1,6 +1,5 @@
 -- `count`: a decimal within 513.
 use Rattle.rules.specs.Reader as reader
-use borrow.Author.Rules.{rules}
 use Rattle.text.proofs.count.Goals as goal
 
 pub returns : goal.returns

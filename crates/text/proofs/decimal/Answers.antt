@@ -4,7 +4,6 @@ use Prim.Native.Nat.{min}
 use mathlib.Core.Path.{sym, ap, ◌∙◌}
 use Rattle.rules.specs.Lists.{map_option}
 use Rattle.text.specs.Numbers.{value_of, decimal-empty, decimal-zero, decimal-needless, decimal-digits}
-use borrow.Author.Rules.{rules}
 use Rattle.text.proofs.decimal.Goals as goal
 
 pub returns-then-x-eq0 : goal.returns-then-x-eq0

@@ -1,12 +1,7 @@
 -- `digits`: the digits from here on, behind the number so far, give what all give.
-use borrow.Author.Rules.{rules}
 use native.Mathlib.Omega.{arith}
 use native.Mathlib.Nat.{min-le_left}
-use Prim.Native.Nat.{◌-◌, ◌≤◌, min}
-use mathlib.Core.Path.{◌≡◌, refl, sym, ◌∙◌}
-use lib.ListN.{length, drop}
-use Rattle.rules.specs.Lists.{map_option}
-use Rattle.rules.specs.Lines as rules
+use mathlib.Core.Path.{refl, sym, ◌∙◌}
 use Rattle.text.specs.Numbers.{value_of, digits_step, digits_low, digits-high, digits-end}
 use Rattle.text.proofs.digits.Goals as goal
 

@@ -1,13 +1,9 @@
 -- `digits`: the digits from here on, behind the number so far, give what all give.
-use borrow.Author.Rules.{rules}
-use native.Mathlib.Omega.{arith}
-use native.Mathlib.Nat.{min-le_left}
 use Prim.Native.Nat.{◌-◌, ◌≤◌, min}
-use mathlib.Core.Path.{◌≡◌, refl, sym, ◌∙◌}
+use mathlib.Core.Path.{◌≡◌}
 use lib.ListN.{length, drop}
 use Rattle.rules.specs.Lists.{map_option}
 use Rattle.rules.specs.Lines as rules
-use Rattle.text.specs.Numbers.{value_of, digits_step, digits_low, digits-high, digits-end}
 use Rattle.text.proofs.digits.Given as goal
 
 abbrev pub invariant-loop-i : goal.invariant-loop-i

@@ -1,7 +1,6 @@
 -- `equal`: the bytes from here on are the same.
-use borrow.Author.Rules.{rules}
 use mathlib.Core.Path.{sym}
-use Rattle.text.specs.Order.{Alike, alike-begin, alike-step, alike_end, differ-at, same-lengths}
+use Rattle.text.specs.Order.{alike-begin, alike-step, alike_end, differ-at, same-lengths}
 use Rattle.text.proofs.equal.Goals as goal
 
 pub returns-then-x-y : goal.returns-then-x-y

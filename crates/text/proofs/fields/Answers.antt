@@ -1,6 +1,5 @@
 -- `fields`: a line of at most four fields in a straight line, any other by the loop.
 use native.Mathlib.Omega.{arith}
-use borrow.Author.Rules.{rules}
 use Rattle.text.specs.Bytes.{stop-after}
 use Rattle.text.specs.FewFields.{one_field_lem, two_fields_lem, three-fields, four-fields}
 use Rattle.text.proofs.fields.Goals as goal

@@ -1,7 +1,6 @@
 -- `holds`: the part compared.
 use mathlib.Core.Path.{ap, ◌∙◌}
 use Rattle.rules.specs.Lists.{same}
-use borrow.Author.Rules.{rules}
 use Rattle.text.proofs.holds.Goals as goal
 
 pub returns : goal.returns

@@ -2,7 +2,6 @@
 use Rattle.text.specs.Bytes.{stop-found}
 use mathlib.Core.Path.{sym, ◌∙◌}
 use Rattle.text.specs.Lines.{line-hit, line-none, line-stop}
-use borrow.Author.Rules.{rules}
 use Rattle.text.proofs.line_end.Goals as goal
 
 pub returns-then-e-t : goal.returns-then-e-t

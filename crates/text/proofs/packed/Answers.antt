@@ -1,8 +1,7 @@
 -- `packed`: the bytes from here on are packed.
 use native.Mathlib.Omega.{arith}
 use Prim.Native.Nat.{◌-◌}
-use borrow.Author.Rules.{rules}
-use Rattle.text.specs.Packed.{Packing, packing-begin, packing-step, packing-end, packing-long, packed-as}
+use Rattle.text.specs.Packed.{packing-begin, packing-step, packing-end, packing-long, packed-as}
 use Rattle.text.proofs.packed.Goals as goal
 
 pub loop-i-init : goal.loop-i-init

@@ -4,7 +4,6 @@ use native.Mathlib.Omega.{arith}
 use mathlib.Core.Path.{◌≡◌, sym, ◌∙◌}
 use Prim.Native.Nat.{◌+◌, ◌-◌}
 use Rattle.text.specs.Bytes.{part_none, part-all}
-use borrow.Author.Rules.{rules}
 use Rattle.text.proofs.part.Goals as goal
 
 pub returns-then-len-a : goal.returns-then-len-a

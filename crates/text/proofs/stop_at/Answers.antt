@@ -1,9 +1,6 @@
 -- `stop_at`: from here on the first such byte is the one that is looked for.
-use borrow.Author.Rules.{rules}
-use Prim.Native.Nat.{◌-◌}
-use mathlib.Core.Path.{◌≡◌, refl, sym, ◌∙◌}
-use lib.ListN.{length}
-use Rattle.text.specs.Bytes.{stop_at, stop-none, stop-first, stop-second, stop_step}
+use mathlib.Core.Path.{refl, sym, ◌∙◌}
+use Rattle.text.specs.Bytes.{stop-none, stop-first, stop-second, stop_step}
 use Rattle.text.proofs.stop_at.Goals as goal
 
 pub loop-i-init : goal.loop-i-init

@@ -1,9 +1,8 @@
 -- `stop_at`: from here on the first such byte is the one that is looked for.
-use borrow.Author.Rules.{rules}
 use Prim.Native.Nat.{◌-◌}
-use mathlib.Core.Path.{◌≡◌, refl, sym, ◌∙◌}
+use mathlib.Core.Path.{◌≡◌}
 use lib.ListN.{length}
-use Rattle.text.specs.Bytes.{stop_at, stop-none, stop-first, stop-second, stop_step}
+use Rattle.text.specs.Bytes.{stop_at}
 use Rattle.text.proofs.stop_at.Given as goal
 
 abbrev pub invariant-loop-i : goal.invariant-loop-i

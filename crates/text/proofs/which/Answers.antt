@@ -1,11 +1,8 @@
 -- `which`: the words from here on, counted from those passed, give what all give.
-use borrow.Author.Rules.{rules}
 use native.Mathlib.Omega.{arith}
-use Prim.Native.Nat.{◌-◌, ◌≤◌}
 use mathlib.Core.Path.{sym, ◌∙◌, ap}
-use lib.ListN.{length}
 use Rattle.text.specs.Bytes.{stop-after, stop-most}
-use Rattle.text.specs.Words.{find, words_of, Search, search-hit, search-miss, search-end, search-begin}
+use Rattle.text.specs.Words.{find, words_of, search-hit, search-miss, search-end, search-begin}
 use Rattle.text.proofs.which.Goals as goal
 
 pub loop-i-init : goal.loop-i-init

@@ -3,7 +3,6 @@ use mathlib.Core.Path.{◌≡◌, ◌∙◌, ap}
 use Prim.Native.Nat.{ℕ, suc, ◌-◌, ◌<◌, ◌^◌}
 use native.Mathlib.Omega.{arith}
 use lib.IntN.{pos}
-use borrow.Author.Rules.{rules}
 use Rattle.rules.specs.Area.{bits}
 use Rattle.ints.proofs.Signed.{read-mag, turned-fits, turned-read}
 use Rattle.ints.proofs.bits.from_bits.Goals as goal

@@ -13,18 +13,18 @@ use Rattle.ints.proofs.bits.to_bits.Goals as goal
 
 pub overflow_cast-result : goal.overflow_cast-result
 overflow_cast-result c = from_zero c.args.x c.ranges.x c.if-x-ge0.true (λ x v. T (non_neg v) × Fits w64 (nat_abs v))
-  (λ n h. (tt, record { fits = omega arith }))
+    (λ n h. (tt, record { fits = omega arith }))
 
 pub overflow_sub-result : goal.overflow_sub-result
 overflow_sub-result c = below-zero c.args.x c.ranges.x c.if-x-ge0.false (λ x v. SFits w64 v) (λ n h. record { sfits = h })
 
 pub overflow_cast-result-else-x-ge0 : goal.overflow_cast-result-else-x-ge0
 overflow_cast-result-else-x-ge0 c = below-zero-read c.args.x c.ranges.x c.if-x-ge0.false (λ x v. T (non_neg v) × Fits w64 (nat_abs v))
-  (λ n h. (tt, record { fits = omega arith }))
+    (λ n h. (tt, record { fits = omega arith }))
 
 pub overflow_sub-result-else-x-ge0 : goal.overflow_sub-result-else-x-ge0
 overflow_sub-result-else-x-ge0 c = below-zero-read c.args.x c.ranges.x c.if-x-ge0.false (λ x v. nat_abs v ≤ 18446744073709551615)
-  (λ n h. omega arith)
+    (λ n h. omega arith)
 
 pub returns-then-x-ge0 : goal.returns-then-x-ge0
 unfolding bits
@@ -33,4 +33,4 @@ returns-then-x-ge0 c = from_zero c.args.x c.ranges.x c.if-x-ge0.true (λ x v. na
 pub returns-else-x-ge0 : goal.returns-else-x-ge0
 unfolding bits
 returns-else-x-ge0 c = below-zero-read c.args.x c.ranges.x c.if-x-ge0.false (λ x v. 18446744073709551615 - nat_abs v ≡ bits x)
-  (λ n h. omega arith)
+    (λ n h. omega arith)

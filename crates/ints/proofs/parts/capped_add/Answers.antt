@@ -1,6 +1,5 @@
 -- `ints::parts::capped_add` meets its contract.
 use native.Mathlib.Omega.{arith}
-use borrow.Author.Rules.{rules}
 use Rattle.ints.proofs.Capped.{in_cap, over-cap}
 use Rattle.ints.proofs.parts.capped_add.Goals as goal
 

@@ -3,7 +3,6 @@ use mathlib.Core.Path.{sym, ◌∙◌, ap}
 use Prim.Native.Nat.{ℕ, ◌*◌}
 use native.Mathlib.Nat.{zero-mul}
 use native.Mathlib.Omega.{arith}
-use borrow.Author.Rules.{rules}
 use Rattle.ints.specs.Parts.{capped}
 use Rattle.ints.proofs.Capped.{in_cap, over-cap, small, large}
 use Rattle.ints.proofs.parts.capped_mul.Goals as goal

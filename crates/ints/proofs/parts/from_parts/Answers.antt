@@ -1,7 +1,6 @@
 -- `ints::parts::from_parts` meets its contract.
 use Prim.Native.Nat.{◌-◌}
 use native.Mathlib.Omega.{arith}
-use borrow.Author.Rules.{rules}
 use Rattle.ints.proofs.Fitted.{made-zero, made-low, made-negative, made-high, made-positive}
 use Rattle.ints.proofs.Signed.{turned-fits}
 use Rattle.ints.proofs.parts.from_parts.Goals as goal
@@ -17,7 +16,7 @@ overflow_sub-result-then-neg c = turned-fits (c.args.m - 1) (omega arith)
 
 pub returns-then-neg : goal.returns-then-neg
 returns-then-neg c = let start = c in made-negative start.args.neg start.args.m c.if-neg.true
-  c.if-m-eq0.false c.if-m-gt9223372036854775808.false
+    c.if-m-eq0.false c.if-m-gt9223372036854775808.false
 
 pub returns-then-m-gt9223372036854775807 : goal.returns-then-m-gt9223372036854775807
 returns-then-m-gt9223372036854775807 c = made-high c.args.neg c.args.m c.if-neg.false c.if-m-gt9223372036854775807.true

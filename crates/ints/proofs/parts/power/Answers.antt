@@ -1,8 +1,5 @@
 -- `ints::parts::power` meets its contract: after i turns p is the i-th power.
-use mathlib.Core.Path.{◌≡◌}
-use Prim.Native.Nat.{◌-◌, ◌≤◌, ◌^◌}
 use native.Mathlib.Omega.{arith}
-use Rattle.ints.specs.Parts.{capped}
 use Rattle.ints.proofs.Capped.{power-none, power-low, power-past, power-start, power-again, power-end}
 use Rattle.ints.proofs.parts.power.Goals as goal
 
@@ -29,13 +26,13 @@ loop-i-smaller c = omega arith
 
 pub loop-i-preserved : goal.loop-i-preserved
 loop-i-preserved c = (
- power-again c.args.m c.loop-i.p _
-   c.loop-i.i c.if-m-le1.false c.loop-i.invariant.0
-   c.capped_mul-p.ensures,
- omega arith,
+  power-again c.args.m c.loop-i.p _
+      c.loop-i.i c.if-m-le1.false c.loop-i.invariant.0
+      c.capped_mul-p.ensures,
+  omega arith,
 )
 
 pub returns : goal.returns
 returns c = let start = c in power-end start.args.m start.args.e c.loop-i.p
-  c.loop-i.i c.if-e-gt63.false c.if-m-le1.false c.loop-i.invariant.0
-  c.loop-i.invariant.1 c.loop-i-test.false
+    c.loop-i.i c.if-e-gt63.false c.if-m-le1.false c.loop-i.invariant.0
+    c.loop-i.invariant.1 c.loop-i-test.false

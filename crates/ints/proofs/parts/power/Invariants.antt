@@ -1,9 +1,7 @@
 -- `ints::parts::power` meets its contract: after i turns p is the i-th power.
 use mathlib.Core.Path.{◌≡◌}
 use Prim.Native.Nat.{◌-◌, ◌≤◌, ◌^◌}
-use native.Mathlib.Omega.{arith}
 use Rattle.ints.specs.Parts.{capped}
-use Rattle.ints.proofs.Capped.{power-none, power-low, power-past, power-start, power-again, power-end}
 use Rattle.ints.proofs.parts.power.Given as goal
 
 abbrev pub invariant-loop-i : goal.invariant-loop-i

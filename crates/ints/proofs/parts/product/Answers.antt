@@ -1,7 +1,6 @@
 -- `ints::parts::product` meets its contract: what is left of the product from i on gives the whole.
-use Prim.Native.Nat.{◌-◌, ◌≤◌}
 use native.Mathlib.Omega.{arith}
-use Rattle.ints.proofs.Capped.{Left, factorial-past, factorial-start, factorial-again, factorial-end}
+use Rattle.ints.proofs.Capped.{factorial-past, factorial-start, factorial-again, factorial-end}
 use Rattle.ints.proofs.parts.product.Goals as goal
 
 pub returns-then-n-gt20 : goal.returns-then-n-gt20
@@ -21,11 +20,11 @@ loop-i-smaller c = omega arith
 
 pub loop-i-preserved : goal.loop-i-preserved
 loop-i-preserved c = (
- factorial-again c.args.n c.loop-i.i c.loop-i.p _
-   c.loop-i.invariant.0 c.loop-i-test.true c.capped_mul-p.ensures,
- omega arith,
+  factorial-again c.args.n c.loop-i.i c.loop-i.p _
+      c.loop-i.invariant.0 c.loop-i-test.true c.capped_mul-p.ensures,
+  omega arith,
 )
 
 pub returns : goal.returns
 returns c = factorial-end c.args.n c.loop-i.i c.loop-i.p c.loop-i.invariant.0
-  c.loop-i-test.false
+    c.loop-i-test.false

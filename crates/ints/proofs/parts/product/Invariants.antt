@@ -1,7 +1,6 @@
 -- `ints::parts::product` meets its contract: what is left of the product from i on gives the whole.
 use Prim.Native.Nat.{◌-◌, ◌≤◌}
-use native.Mathlib.Omega.{arith}
-use Rattle.ints.proofs.Capped.{Left, factorial-past, factorial-start, factorial-again, factorial-end}
+use Rattle.ints.proofs.Capped.{Left}
 use Rattle.ints.proofs.parts.product.Given as goal
 
 abbrev pub invariant-loop-i : goal.invariant-loop-i

@@ -1,6 +1,5 @@
 -- `joined`: the halves' sum.
 use mathlib.Core.Path.{refl}
-use borrow.Author.Rules.{rules}
 use Rattle.numbers.specs.Bits.{joined}
 use Rattle.numbers.proofs.halves.joined.Goals as goal
 

@@ -1,5 +1,4 @@
 -- `literals::is_null_or_nan`: by the kind of the literal.
-use borrow.Author.Rules.{rules}
 use Rattle.rules.specs.BuildExpression.{is_null_or_nan}
 use Rattle.numbers.specs.Values.{value-arm, value-rest}
 use Rattle.numbers.proofs.literals.is_null_or_nan.Goals as goal

@@ -1,7 +1,6 @@
 -- `length_at`: the text by the address.
 use mathlib.Core.Path.{sym, ap, ◌∙◌}
 use lib.ListN.{length}
-use borrow.Author.Rules.{rules}
 use Rattle.text.specs.Places.{bytes-catalog, bytes-statement}
 use Rattle.text.proofs.lengths.length_at.Goals as goal
 

@@ -2,7 +2,6 @@
 use native.Mathlib.Omega.{arith}
 use mathlib.Core.Path.{ap, ◌∙◌}
 use lib.ListN.{length, length-take}
-use borrow.Author.Rules.{rules}
 use Rattle.text.proofs.lengths.length_in.Goals as goal
 
 pub overflow_cast-result : goal.overflow_cast-result

@@ -1,6 +1,5 @@
 -- `bytes_at`: the text by the address.
 use mathlib.Core.Path.{sym, ◌∙◌}
-use borrow.Author.Rules.{rules}
 use Rattle.text.specs.Places.{bytes-catalog, bytes-statement}
 use Rattle.text.proofs.places.bytes_at.Goals as goal
 

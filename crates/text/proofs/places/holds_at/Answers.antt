@@ -2,7 +2,6 @@
 use mathlib.Core.Path.{sym, ap, ◌∙◌}
 use Rattle.rules.specs.Lists.{same}
 use Rattle.text.specs.Places.{bytes-catalog, bytes-statement}
-use borrow.Author.Rules.{rules}
 use Rattle.text.proofs.places.holds_at.Goals as goal
 
 pub returns-then-a-lt-MOST_BYTES : goal.returns-then-a-lt-MOST_BYTES

@@ -3,7 +3,6 @@ use mathlib.Core.Path.{sym, ap, ◌∙◌}
 use Rattle.rules.specs.Places.{bytes_at}
 use Rattle.text.specs.Order.{order_of}
 use Rattle.text.specs.Places.{bytes-catalog, bytes-statement}
-use borrow.Author.Rules.{rules}
 use Rattle.text.proofs.places.order_texts.Goals as goal
 
 pub returns-then-b-lt-MOST_BYTES : goal.returns-then-b-lt-MOST_BYTES

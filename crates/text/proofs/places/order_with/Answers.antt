@@ -2,7 +2,6 @@
 use mathlib.Core.Path.{sym, ap, ◌∙◌}
 use Rattle.text.specs.Order.{order_of}
 use Rattle.text.specs.Places.{bytes-catalog, bytes-statement}
-use borrow.Author.Rules.{rules}
 use Rattle.text.proofs.places.order_with.Goals as goal
 
 pub returns-then-a-lt-MOST_BYTES : goal.returns-then-a-lt-MOST_BYTES

@@ -1,6 +1,5 @@
 -- `places::same_bytes`: the second place's text by its address.
 use mathlib.Core.Path.{sym, ap, ◌∙◌}
-use borrow.Author.Rules.{rules}
 use Rattle.rules.specs.Lists.{same}
 use Rattle.rules.specs.Places.{bytes_at}
 use Rattle.text.specs.Places.{bytes-catalog, bytes-statement}

@@ -1,5 +1,4 @@
 -- `words::literal`: by the number of the word.
-use borrow.Author.Rules.{rules}
 use Rattle.text.specs.Packed.{find_number, Apart, find_none, packed-word}
 use Rattle.text.specs.Tables.{literal-table}
 use Rattle.text.proofs.words.literal.Goals as goal

@@ -1,5 +1,4 @@
 -- `words::nullable`: by the number of the word.
-use borrow.Author.Rules.{rules}
 use Rattle.text.specs.Packed.{find_number, Apart, find_none, packed-word}
 use Rattle.text.specs.Tables.{nullable-table}
 use Rattle.text.proofs.words.nullable.Goals as goal
