@@ -1,0 +1,14 @@
+-- `insert::end_insert`: the own numbers and the end.
+use Rattle.build_insert.specs.Map.{map_of}
+use Rattle.build_insert.specs.Inserts.{insert-room, insert-ends}
+use borrow.Author.Rules.{rules}
+use Rattle.build_insert.proofs.insert.end_insert.Goals as goal
+
+pub put_own-e-requires : goal.put_own-e-requires
+put_own-e-requires c = c.requires.map_fits
+
+pub finish-requires : goal.finish-requires
+finish-requires c = insert-room c.args.catalog.now c.args.statement.now c.args.a c.args.n _ c.args.m (map_of c.args.columns.now c.args.map) _ c.requires.free c.requires.m_le_most_plan_cells c.put_own-e.ensures
+
+pub returns : goal.returns
+returns c = insert-ends c.args.catalog.now c.args.statement.now c.args.a c.args.n _ c.args.m (map_of c.args.columns.now c.args.map) _ c.requires.free c.requires.m_le_most_plan_cells c.put_own-e.ensures c.length_at-length.ensures c.finish.ensures

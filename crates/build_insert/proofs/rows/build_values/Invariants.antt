@@ -1,0 +1,13 @@
+-- `rows::build_values`: value by value.
+use native.Mathlib.Omega.{arith}
+use mathlib.Core.Path.{◌∙◌}
+use Rattle.build_insert.specs.Values.{ValuesSoFar, values-none, values-kept, values-all, value_room, value-space, values-stop, values-more, values-done}
+use borrow.Author.Rules.{rules}
+use Rattle.build_insert.proofs.rows.build_values.Given as goal
+
+abbrev pub invariant-loop-left : goal.invariant-loop-left
+invariant-loop-left l =
+    ValuesSoFar l.catalog l.statement l.cells l.values l.r l.n l.initial.area l.k l.initial.nodes l.left l.p l.m l.j l.area l.nodes
+
+abbrev pub decreases-loop-left : goal.decreases-loop-left
+decreases-loop-left l = l.left
