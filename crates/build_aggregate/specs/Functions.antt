@@ -1,5 +1,5 @@
 -- One aggregate function: which one a record calls, and what its argument appends or is refused for.
-use Prim.Native.Nat.{ℕ, zero, suc, ◌+◌, ◌*◌, ◌≤◌, ◌<◌}
+use Prim.Native.Nat.{ℕ, zero, suc, ◌+◌, ◌*◌, ◌<◌}
 use Rattle.std.proofs.Common.{arith, add-one, sym, ◌∙◌, eqb-true}
 use Rattle.std.specs.Prelude.{◌≡◌, Bool, true, false, ◌&&◌, List, [], ◌∷◌, length, eqb}
 use Rattle.std.proofs.Math.Path.{refl, ap}
@@ -17,7 +17,7 @@ use Rattle.rules.specs.Area.{aggregate_code}
 use Rattle.rules.specs.Cells.{Cell, cells}
 use Rattle.rules.specs.Cells as C
 use Rattle.rules.specs.Scope.{Scope}
-use Rattle.rules.specs.BuildAggregate.{aggregates, contains, is_count, argument, aggregate_of, build_function}
+use Rattle.rules.specs.BuildAggregate.{aggregates, contains, is_count, build_function}
 use Rattle.appends.specs.Lists.Entry.{emit_second}
 use Rattle.appends.specs.Lists.Functions.{emit_operand, operand-star, operand-other, function-step, function-argument}
 use Rattle.appends.specs.Lists.Functions.{function-nested, function-none, function-more}

@@ -2,7 +2,7 @@
 use Prim.Native.Nat.{ℕ, ◌+◌, ◌-◌, ◌*◌, ◌≤◌, ◌<◌, pred}
 use Rattle.std.proofs.Common.{arith, sym, ◌∙◌}
 use Rattle.std.proofs.Math.Numerals.{sub-one}
-use Rattle.std.specs.Prelude.{◌≡◌, refl, Bool, true, false, List, [], ◌∷◌, ◌++◌}
+use Rattle.std.specs.Prelude.{◌≡◌, refl, Bool, true, false, List, [], ◌∷◌}
 use Rattle.std.proofs.Math.Path.{ap}
 use Rattle.std.proofs.Math.Option.{none, some}
 use Rattle.rules.specs.Refusals.{Reason, refusal_number, argument_count, nested_aggregate, unknown_function}
@@ -12,7 +12,7 @@ use Rattle.rules.specs.Ast.{Expr, star, column, literal, call, unary, binary, is
 use Rattle.rules.specs.Views.{as_call}
 use Rattle.rules.specs.Plan.{Built, Aggregate}
 use Rattle.rules.specs.Area.{aggregate_code, function_numbers}
-use Rattle.rules.specs.Cells.{Cell, built_count, root, cells}
+use Rattle.rules.specs.Cells.{Cell, built_count, root}
 use Rattle.rules.specs.Scope.{Scope}
 use Rattle.rules.specs.Count.{argument_cost, cost_first}
 use Rattle.rules.specs.BuildExpression.{build}
@@ -35,7 +35,7 @@ use Rattle.plan.specs.Appended.{Appended, appended-on}
 use Rattle.plan.specs.Parts.{functions-on}
 use Rattle.build_expression.specs.Builds.{scope_at, Builds}
 use Rattle.build_aggregate.specs.Functions.{called_of, Calls, step_of, function_step, FunctionBuilds}
-use Rattle.build_aggregate.specs.Entries.{Lists, step-gave, lists-refused, Listing, Adds}
+use Rattle.build_aggregate.specs.Entries.{step-gave, lists-refused, Listing, Adds}
 
 -- HOW MANY CELLS
 record Entry {B C : Type 0} (key : B → Built) (mark : B → ℕ → C) (r : Answer B) (n : ℕ) (c : C) (m : ℕ) : Type 0 where
