@@ -1,5 +1,4 @@
 -- `build_item`: a qualified column over no matches, or the tree.
-use mathlib.Core.Path.{sym, ◌∙◌}
 use Rattle.ast.specs.Table.{tree_at}
 use Rattle.build_expression.specs.Builds.{unmatched-none}
 use Rattle.build_expression.specs.Operands.{leaf_room}
@@ -9,6 +8,6 @@ pub qualified-requires : goal.qualified-requires
 qualified-requires c = record {
   room = leaf_room (tree_at c.args.catalog.now c.args.statement.now c.args.table.now
       c.args.r) _ _ c.requires;
-  r_value = sym c.kind.ensures ∙ c.if-kind-eq-QUALIFIED.true;
+  r_value = cc;
   unmatched = unmatched-none _ _ _ c.args.width c.args.matches.now _ c.if-matches-eq0.true;
 }
