@@ -1,6 +1,6 @@
 -- An expression is equal to itself.
-use mathlib.Core.Path.{◌≡◌, refl, ◌∙◌}
-use mathlib.Core.Bool.{true, ◌&&◌}
+use mathlib.Core.Path.{◌≡◌, refl}
+use mathlib.Core.Bool.{true}
 use mathlib.Core.Option.{none, some}
 use borrow.Author.Tests.{eq-eqb}
 use Rattle.rules.specs.Lists.{is_some}

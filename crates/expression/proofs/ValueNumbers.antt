@@ -2,15 +2,11 @@
 use mathlib.Core.Bool.{Bool, true, false}
 use mathlib.Core.List.{[], ◌∷◌, ◌++◌}
 use mathlib.Core.Path.{◌≡◌, refl, sym, ap, ◌∙◌}
-use Prim.Native.Nat.{ℕ, suc, ◌+◌, ◌-◌, ◌*◌, ◌/◌, ◌%◌, ◌^◌, ◌<◌}
-use native.Mathlib.Omega.{arith}
-use lib.Dec.{ltb}
+use Prim.Native.Nat.{ℕ, ◌^◌, ◌<◌}
 use lib.Ieee.{Float, binary64, to_bits}
 use lib.IntN.{ℤ, pos, negsuc}
-use lib.ListN.{length, take, length-take}
+use lib.ListN.{length}
 use lib.Signed.{mag, le_z}
-use mir.Syntax.{w32}
-use mir.Val.{Fits}
 use Rattle.rules.specs.Area.{halves, bits, flag, span, value_numbers}
 use Rattle.rules.specs.BuildSelect.{natural}
 use Rattle.rules.specs.Lists.{Bytes}

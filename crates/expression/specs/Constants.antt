@@ -3,7 +3,7 @@ use Rattle.std.specs.Prelude.{ℕ, Bool, ◌&&◌, List, eqb}
 use Rattle.rules.specs.Lists.{Bytes, same}
 use Rattle.rules.specs.Lines.{bytes}
 use Rattle.rules.specs.Places.{bytes_at}
-use Rattle.rules.specs.Refusals.{Answer, ok, ◌>>=◌, ◌>>◌, refuse}
+use Rattle.rules.specs.Refusals.{Answer, ok, ◌>>◌, refuse}
 use Rattle.rules.specs.Ast.{Expr, Exprs, nil, cons}
 use Rattle.rules.specs.Scope.{empty}
 use Rattle.rules.specs.BuildExpression.{build}

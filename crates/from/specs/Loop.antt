@@ -11,7 +11,7 @@ use Rattle.std.proofs.lemmas.List.Edits.{sets}
 use Rattle.rules.specs.Refusals.{statement}
 use Rattle.rules.specs.Limits.{most_from_tables}
 use Rattle.rules.specs.Lists.{Bytes}
-use Rattle.rules.specs.Ast.{From, table, join}
+use Rattle.rules.specs.Ast.{From, table}
 use Rattle.rules.specs.Reader.{stop, line_here, next, one_of, turns}
 use Rattle.rules.specs.ReadStatement.{from_heads, tabled, from_tree}
 use Rattle.rules.specs.Area.{flag}

@@ -1,7 +1,7 @@
 -- Floats in text, by their hexadecimal digits.
-use Rattle.std.specs.Prelude.{◌≡◌, ℕ, ◌+◌, ◌-◌, ◌*◌, ◌^◌, ◌<◌, ◌≤◌, [], ◌∷◌, length, drop, ◌≢◌, slice_index}
+use Rattle.std.specs.Prelude.{◌≡◌, ℕ, ◌+◌, ◌-◌, ◌*◌, ◌^◌, ◌<◌, ◌≤◌, length, drop, ◌≢◌, slice_index}
 use native.Mathlib.Omega.{arith}
-use Rattle.std.proofs.Common.{pow-suc, add-one, ap, ◌∙◌, drop_of_length-le}
+use Rattle.std.proofs.Common.{pow-suc, add-one, ap, drop_of_length-le}
 use Rattle.std.proofs.Math.Nat.{pow-le-pow_right}
 use Rattle.std.proofs.Math.Option.{none, some}
 use borrow.Author.Tests.{le-leb, lt-leb, ne_eqb}

@@ -8,7 +8,6 @@ use Rattle.rules.specs.Lists.{Bytes, map_option}
 use Rattle.rules.specs.Lines.{within, negated, decimal, integer}
 use Rattle.text.specs.Numbers.{value_of, within-min}
 use Rattle.text.specs.declared.Number.{Number}
-use Rattle.text.specs.declared.Number.TheVariants as Number
 use Rattle.numbers.specs.Bits.{signed, signed_low, signed_high}
 
 -- the greatest integer

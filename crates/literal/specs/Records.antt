@@ -7,7 +7,7 @@ use Rattle.rules.specs.Refusals.{Text}
 use Rattle.rules.specs.Lists.{Bytes, map_option}
 use Rattle.rules.specs.Lines.{Word, bytes}
 use Rattle.rules.specs.Lines as Lines
-use Rattle.rules.specs.Schema.{Value, null, bool, int, float, text}
+use Rattle.rules.specs.Schema.{Value, null, bool}
 use Rattle.rules.specs.Reader.{base_address, rest, line_here, apply, one_of, no_field, one_field, word, flags, literals}
 use Rattle.rules.specs.Area.{halves, flag, span, value_numbers, default_numbers}
 use Rattle.numbers.specs.Bits.{signed, bits-signed}
@@ -20,7 +20,6 @@ use Rattle.text.specs.Records.{no-field, one_field_lem}
 use Rattle.text.specs.Fields.{Inside, field-length, field_at}
 use Rattle.literal.specs.Bits.{bits_of}
 use Rattle.literal.specs.declared.Bits.{Bits}
-use Rattle.literal.specs.declared.Bits.TheVariants as Bits
 use Rattle.literal.specs.declared.record.Literal.{Literal}
 
 -- the literal of a record of the text t, whose bytes have the addresses from base on, or zeros

@@ -1,5 +1,5 @@
 -- What a record says, by its keyword and its fields.
-use Prim.Native.Nat.{ℕ, suc, ◌+◌, ◌-◌, ◌≤◌, min}
+use Prim.Native.Nat.{ℕ, suc, ◌+◌, ◌≤◌, min}
 use Rattle.std.proofs.Common.{arith, ap, ◌∙◌}
 use Rattle.std.proofs.Math.Path.{◌≡◌, sym}
 use Rattle.std.specs.Prelude.{refl, true, false, [], ◌∷◌, take, drop}

@@ -4,7 +4,7 @@ use Rattle.std.specs.Prelude.{ℕ, ◌≤◌, Bool, true, false, List, ltb}
 use Rattle.std.proofs.Common.{arith, ltb-false}
 use Rattle.std.proofs.Math.Path.{◌≡◌, refl}
 use Rattle.std.proofs.Math.ListN.{length}
-use Rattle.rules.specs.Refusals.{catalog, statement, limit_passed, refusal_number, Refusal, Answer, ok, refused, refuse, ◌>>=◌}
+use Rattle.rules.specs.Refusals.{catalog, statement, limit_passed, refusal_number, Refusal, Answer, ok, refused, refuse}
 use Rattle.rules.specs.Limits.{most_bytes}
 use Rattle.rules.specs.Lists.{Bytes}
 use Rattle.rules.specs.Schema.{Catalog}
@@ -23,7 +23,6 @@ use Rattle.statement.specs.Access as access
 use Rattle.statement.specs.declared.access.Kind.TheVariants as K
 use Rattle.reader.specs.Texts.{kind_of, not_other, both_of, read_texts}
 use Rattle.reader.specs.Reading.{texts_of, TextsRead}
-use Rattle.reader.specs.declared.Texts as Tx
 use Rattle.reader.specs.declared.Texts.TheVariants as T
 
 -- BOTH READ

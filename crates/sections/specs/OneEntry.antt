@@ -9,7 +9,7 @@ use Rattle.std.proofs.lemmas.List.Edits.{sets}
 use Rattle.rules.specs.Refusals.{statement, wrong_record, limit_passed, Refusal, ok, refused}
 use Rattle.rules.specs.Lists.{Bytes}
 use Rattle.rules.specs.Ast.{Exprs}
-use Rattle.rules.specs.Reader.{Place, Read, at, rest, next, stop}
+use Rattle.rules.specs.Reader.{Place, at, rest, next, stop}
 use Rattle.rules.specs.ReadExpression.{times, expression}
 use Rattle.ast.specs.Table.{row_size, table_size, arguments_at, tree_at}
 use Rattle.text.specs.Answers.{wrong_at, limit_at, bind_ok, bind-no, within-wrong, within-limit, within-ok, prefixed, give-first}

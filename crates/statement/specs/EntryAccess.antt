@@ -12,7 +12,7 @@ use Rattle.rules.specs.Lists.{Bytes, entry_after, map_option, or_else}
 use Rattle.rules.specs.Lines.{Word}
 use Rattle.rules.specs.Places.{bytes_at, word_at}
 use Rattle.rules.specs.Schema.{string}
-use Rattle.rules.specs.Ast.{Expr, Item, Key, Clause, Named, Set, NewColumn, list_of}
+use Rattle.rules.specs.Ast.{Expr, Clause, list_of}
 use Rattle.ast.specs.Table.{arguments_at, tree_at}
 use Rattle.numbers.specs.Values.{is_one}
 use Rattle.ast.specs.Names.{name_at}

@@ -5,7 +5,7 @@ use Rattle.std.proofs.Math.Path.{◌≡◌, ap}
 use Rattle.rules.specs.Lists.{Bytes}
 use Rattle.rules.specs.Lines.{Word}
 use Rattle.rules.specs.Ast as Ast
-use Rattle.rules.specs.Reader.{Place, Read, give, ◌>>=◌}
+use Rattle.rules.specs.Reader.{Place, give, ◌>>=◌}
 use Rattle.rules.specs.ReadStatement.{insert_head}
 use Rattle.numbers.specs.Kept.{Kept, kept-all, kept-first}
 use Rattle.ast.specs.Table.{row_size}

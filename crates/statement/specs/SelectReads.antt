@@ -5,7 +5,7 @@ use Rattle.std.proofs.Math.Path.{sym}
 use Rattle.rules.specs.Lists.{Bytes}
 use Rattle.rules.specs.Ast.{Select, From}
 use Rattle.rules.specs.Ast as Ast
-use Rattle.rules.specs.Reader.{Place, Read, give, ◌>>=◌, turns}
+use Rattle.rules.specs.Reader.{Place, give, ◌>>=◌, turns}
 use Rattle.rules.specs.ReadStatement.{froms, select_head}
 use Rattle.numbers.specs.Kept.{Kept, kept-all, kept-first}
 use Rattle.ast.specs.Table.{row_size}

@@ -1,6 +1,5 @@
 -- `clause`: no field.
 use Rattle.entries.specs.HeadRecords.{clause-yes, clause-no}
-use borrow.Author.Rules.{rules}
 use Rattle.entries.proofs.clause.Goals as goal
 
 pub returns-then-f-ne1 : goal.returns-then-f-ne1

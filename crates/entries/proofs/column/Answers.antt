@@ -1,10 +1,8 @@
 -- `column`: a name, words, and a reference or none.
 use native.Mathlib.Omega.{arith}
 use mathlib.Core.Path.{sym, ◌∙◌}
-use borrow.Author.Tests.{not-true, not-false}
 use Rattle.entries.specs.HeadRecords.{field_at}
 use Rattle.entries.specs.ColumnHeads.{column-count, column-name-no, column-words-no, column-plain, column-reference-no, column-refers}
-use borrow.Author.Rules.{rules}
 use Rattle.entries.proofs.column.Goals as goal
 
 pub returns-then-n-lt8 : goal.returns-then-n-lt8

@@ -3,7 +3,6 @@ use native.Mathlib.Omega.{arith}
 use mathlib.Core.Path.{refl}
 use Rattle.rules.specs.Lines.{bytes}
 use Rattle.entries.specs.ColumnWords.{words-type, words-key, words-null, words-unique, words-index, words-default, words_right}
-use borrow.Author.Rules.{rules}
 use Rattle.entries.proofs.column_words.Goals as goal
 
 pub returns-then-code-ge4 : goal.returns-then-code-ge4

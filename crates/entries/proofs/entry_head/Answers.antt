@@ -3,7 +3,6 @@ use native.Mathlib.Omega.{arith}
 use Rattle.rules.specs.Lines.{bytes}
 use Rattle.entries.specs.Entries.{keywords}
 use Rattle.entries.specs.HeadKinds.{head-missing, head-by, head-set, head-columns, head-clause}
-use borrow.Author.Rules.{rules}
 use Rattle.entries.proofs.entry_head.Goals as goal
 
 pub returns-then-k-kind : goal.returns-then-k-kind

@@ -1,7 +1,6 @@
 -- `item`: an alias or none.
 use native.Mathlib.Omega.{arith}
 use Rattle.entries.specs.HeadRecords.{field_at, item-plain, item-named, item-no}
-use borrow.Author.Rules.{rules}
 use Rattle.entries.proofs.item.Goals as goal
 
 pub returns-then-f-eq1 : goal.returns-then-f-eq1
@@ -11,7 +10,7 @@ pub returns-then-f-ne2 : goal.returns-then-f-ne2
 returns-then-f-ne2 c = item-no _ _ _ c.requires _ c.if-f-eq1.false c.if-f-ne2.true c.wrong.ensures
 
 pub name_head-requires : goal.name_head-requires
-name_head-requires c = record { fact_1 = field_at _ _ _ c.requires 1 (omega (arith, c.if-f-ne2.false)); fact_2 = omega arith; }
+name_head-requires c = record { fact_1 = field_at _ _ _ c.requires 1 (omega (arith, c.if-f-ne2.false)); fact_2 = omega arith }
 
 pub returns : goal.returns
 returns c = item-named _ _ _ c.requires _ c.if-f-ne2.false c.name_head.ensures

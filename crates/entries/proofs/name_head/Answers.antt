@@ -1,8 +1,6 @@
 -- `name_head`: a name, or none.
 use mathlib.Core.Path.{refl, sym, ◌∙◌}
-use borrow.Author.Tests.{not-true, not-false}
 use Rattle.entries.specs.HeadFields.{head-name, head-unnamed}
-use borrow.Author.Rules.{rules}
 use Rattle.entries.proofs.name_head.Goals as goal
 
 pub returns-then-not-is_name : goal.returns-then-not-is_name

@@ -2,7 +2,6 @@
 use native.Mathlib.Omega.{arith}
 use Rattle.rules.specs.Lines.{bytes}
 use Rattle.entries.specs.HeadRecords.{order-no, order-word, order-yes}
-use borrow.Author.Rules.{rules}
 use Rattle.entries.proofs.order.Goals as goal
 
 pub returns-then-f-ne2 : goal.returns-then-f-ne2

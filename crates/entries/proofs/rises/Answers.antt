@@ -1,6 +1,5 @@
 -- `rises`: by the order of both names.
 use Rattle.entries.specs.SetHeads.{rises-first, rises-before, rises-same, rises-after}
-use borrow.Author.Rules.{rules}
 use Rattle.entries.proofs.rises.Goals as goal
 
 pub returns-then-len-eq0 : goal.returns-then-len-eq0

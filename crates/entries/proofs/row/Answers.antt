@@ -1,7 +1,6 @@
 -- `row`: a count.
 use native.Mathlib.Omega.{arith}
 use Rattle.entries.specs.HeadRecords.{row-no, row-wrong, row_small, row-yes}
-use borrow.Author.Rules.{rules}
 use Rattle.entries.proofs.row.Goals as goal
 
 pub returns-then-f-ne2 : goal.returns-then-f-ne2

@@ -1,6 +1,5 @@
 -- `expression::number` meets its contract.
 use mathlib.Core.Path.{sym, ap}
-use borrow.Author.Rules.{rules}
 use Rattle.rules.specs.Refusals as rule
 use Rattle.expression.specs.Answers.{reason_of}
 use Rattle.expression.specs.declared.Reason.{Reason}

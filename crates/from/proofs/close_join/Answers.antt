@@ -1,5 +1,4 @@
 -- `close_join`: the predicate where one follows, and the row.
-use borrow.Author.Rules.{rules}
 use Rattle.from.specs.Predicates.{bare-closed, predicate-closed, predicate-wrong, predicate-limit}
 use Rattle.from.specs.Trees.{line_in, kind_in, on_in}
 use Rattle.from.proofs.close_join.Goals as goal

@@ -3,7 +3,6 @@ use Prim.Native.Nat.{◌-◌}
 use native.Mathlib.Omega.{arith}
 use mathlib.Core.Bool.{true}
 use mathlib.Core.Path.{refl}
-use borrow.Author.Rules.{rules}
 use Rattle.from.specs.Closed.{loop-end, loop-right, close-room, loop-closed-wrong, loop-closed-limit, closed-moves, loop-closed}
 use Rattle.from.specs.Loop.{loop-as, right-falls, close-falls}
 use Rattle.from.specs.Turns.{TurnRead}
@@ -21,7 +20,7 @@ unfolding TurnRead
 returns-then-v-eq0 c = λ g u. record { reads = loop-right (loop-as true c.requires.fact_2 u) c.if-s-eq0.false _ refl c.if-v-eq0.true; falls = right-falls _ _ _ _ c.requires.fact_2 }
 
 pub close_join-r-requires : goal.close_join-r-requires
-close_join-r-requires c = record { fact_1 = c.requires.fact_1.reads.position; fact_2 = (close-room (loop-as true c.requires.fact_2 c.requires.fact_1.reads) c.if-s-eq0.false _ refl c.if-v-eq0.false, c.requires.fact_1.reads.cells-room, c.requires.fact_1.reads.rows-room); }
+close_join-r-requires c = record { fact_1 = c.requires.fact_1.reads.position; fact_2 = (close-room (loop-as true c.requires.fact_2 c.requires.fact_1.reads) c.if-s-eq0.false _ refl c.if-v-eq0.false, c.requires.fact_1.reads.cells-room, c.requires.fact_1.reads.rows-room) }
 
 pub overflow_add-result : goal.overflow_add-result
 overflow_add-result c = omega (arith, close-room (loop-as true c.requires.fact_2 c.requires.fact_1.reads) c.if-s-eq0.false _ refl c.if-v-eq0.false)

@@ -1,7 +1,6 @@
 -- `next_side`: one record, by its kind.
 use native.Mathlib.Omega.{arith}
 use mathlib.Core.Bool.{false}
-use borrow.Author.Rules.{rules}
 use Rattle.from.specs.Loop.{loop-as, loop-wrong, loop-limit, next-within, table-moves, row_room, loop-table, push-moves, push-room, push-within, push-small, loop-push, table-falls, push-falls}
 use Rattle.from.specs.Turns.{TurnRead}
 use Rattle.from.proofs.next_side.Goals as goal

@@ -2,7 +2,6 @@
 use Prim.Native.Nat.{◌*◌}
 use native.Mathlib.Omega.{arith}
 use lib.ListN.{length-set}
-use borrow.Author.Rules.{rules}
 use Rattle.numbers.specs.Stores.{eight-stores}
 use Rattle.ast.specs.Table.{row_size}
 use Rattle.from.proofs.put_row.Goals as goal

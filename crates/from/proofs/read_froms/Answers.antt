@@ -1,10 +1,7 @@
 -- `read_froms`: the trees so far, and those that the rules read from here on, are what they read in all.
-use Prim.Native.Nat.{◌-◌}
 use native.Mathlib.Omega.{arith}
 use mathlib.Core.Path.{sym, ◌∙◌}
-use lib.ListN.{length}
-use borrow.Author.Rules.{rules}
-use Rattle.from.specs.Runs.{FromsLoop, froms-begin, froms-end, froms-wrong, froms-limit, froms-moved, froms-on}
+use Rattle.from.specs.Runs.{froms-begin, froms-end, froms-wrong, froms-limit, froms-moved, froms-on}
 use Rattle.from.proofs.read_froms.Goals as goal
 
 pub loop-cells-init : goal.loop-cells-init

@@ -1,9 +1,7 @@
 -- `read_joins`: what the rules read from here on, behind the sides that are read, is what they read in all.
-use mathlib.Core.Path.{◌≡◌, refl, ◌∙◌}
-use lib.ListN.{length}
-use borrow.Author.Rules.{rules}
-use Rattle.from.specs.Turns.{Reads, turn_on, turn_end, turn-wrong, turn-limit}
-use Rattle.from.specs.Loop.{turns_left, loop-begin}
+use mathlib.Core.Path.{refl, ◌∙◌}
+use Rattle.from.specs.Turns.{turn_on, turn_end, turn-wrong, turn-limit}
+use Rattle.from.specs.Loop.{loop-begin}
 use Rattle.from.proofs.read_joins.Goals as goal
 
 pub loop-x-init : goal.loop-x-init

@@ -1,9 +1,8 @@
 -- `read_joins`: what the rules read from here on, behind the sides that are read, is what they read in all.
-use mathlib.Core.Path.{◌≡◌, refl, ◌∙◌}
+use mathlib.Core.Path.{◌≡◌}
 use lib.ListN.{length}
-use borrow.Author.Rules.{rules}
-use Rattle.from.specs.Turns.{Reads, turn_on, turn_end, turn-wrong, turn-limit}
-use Rattle.from.specs.Loop.{turns_left, loop-begin}
+use Rattle.from.specs.Turns.{Reads}
+use Rattle.from.specs.Loop.{turns_left}
 use Rattle.from.proofs.read_joins.Given as goal
 
 abbrev pub invariant-loop-x : goal.invariant-loop-x

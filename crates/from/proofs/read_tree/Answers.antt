@@ -1,6 +1,5 @@
 -- `read_tree`: one table, or the joins.
 use native.Mathlib.Omega.{arith}
-use borrow.Author.Rules.{rules}
 use Rattle.from.specs.Runs.{table-limit, table-took}
 use Rattle.from.proofs.read_tree.Goals as goal
 

@@ -1,5 +1,4 @@
 -- `take_turn`: by whether a side was read.
-use borrow.Author.Rules.{rules}
 use Rattle.from.proofs.take_turn.Goals as goal
 
 pub returns : goal.returns

@@ -1,7 +1,6 @@
 -- `float`: the digits from here on, behind the number so far, give what all give.
 -- `float`: the digits from here on, behind the number so far, give what all give.
-use Rattle.std.proofs.Common.{◌≡◌, ◌-◌, ◌^◌, ◌<◌, ◌≤◌, length, drop, sym, ◌∙◌, arith, rules}
-use Rattle.rules.specs.Lines as lines
+use Rattle.std.proofs.Common.{sym, ◌∙◌, arith}
 use Rattle.literal.specs.Bits.{bits_of}
 use Rattle.literal.specs.Floats.{float-length, float-digits, room, power-step, hex-wrong, hex-step, hex-end}
 use Rattle.literal.proofs.float.Goals as goal

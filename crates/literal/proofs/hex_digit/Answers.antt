@@ -1,5 +1,5 @@
 -- `hex_digit`: by the ranges of the bytes.
-use Rattle.std.proofs.Common.{refl, arith, rules}
+use Rattle.std.proofs.Common.{refl, arith}
 use Rattle.literal.specs.Floats.{hex-low, hex-digit, hex-between, hex-letter, hex-high}
 use Rattle.literal.proofs.hex_digit.Goals as goal
 

@@ -1,5 +1,5 @@
 -- `int`: by the sign, then the decimal behind it.
-use Rattle.std.proofs.Common.{◌≡◌, sym, refl, ◌∙◌, rules}
+use Rattle.std.proofs.Common.{sym, refl, ◌∙◌}
 use Rattle.rules.specs.Lists.{map_option}
 use Rattle.literal.specs.Bits.{bits_of}
 use Rattle.literal.specs.Integers.{integer_empty, integer-minus, integer-plain}

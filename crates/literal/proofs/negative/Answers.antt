@@ -1,5 +1,5 @@
 -- `negative`: not zero, and within the lowest integer.
-use Rattle.std.proofs.Common.{arith, rules}
+use Rattle.std.proofs.Common.{arith}
 use Rattle.literal.specs.Bits.{bits_of}
 use Rattle.literal.specs.Integers.{none-negative, negative-large, negative-zero, negative-in}
 use Rattle.literal.proofs.negative.Goals as goal

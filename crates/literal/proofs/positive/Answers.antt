@@ -1,7 +1,6 @@
 -- `positive`: within the greatest integer, or none.
 use Rattle.literal.specs.Bits.{bits_of}
 use Rattle.literal.specs.Integers.{none-positive, positive-large, positive-in}
-use Rattle.std.proofs.Common.{rules}
 use Rattle.literal.proofs.positive.Goals as goal
 
 pub returns-then-m-gt-GREATEST : goal.returns-then-m-gt-GREATEST

@@ -4,7 +4,6 @@ use native.Mathlib.Omega.{arith}
 use mathlib.Core.Path.{ap}
 use Rattle.sections.specs.Kinds.{entry-within}
 use Rattle.sections.specs.OneEntry.{entry_start}
-use borrow.Author.Rules.{rules}
 use Rattle.sections.proofs.entry_start.Goals as goal
 
 pub overflow_add-result : goal.overflow_add-result

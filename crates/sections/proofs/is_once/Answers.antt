@@ -1,5 +1,4 @@
 -- `is_once`: the sections of one entry at most.
-use borrow.Author.Rules.{rules}
 use Rattle.entries.specs.Entries.{once-one}
 use Rattle.sections.proofs.is_once.Goals as goal
 

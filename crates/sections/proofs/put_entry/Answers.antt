@@ -2,7 +2,6 @@
 use mathlib.Core.Path.{refl}
 use mathlib.Core.List.{[], ◌∷◌}
 use Rattle.sections.specs.Store.{sets-three}
-use borrow.Author.Rules.{rules}
 use Rattle.sections.proofs.put_entry.Goals as goal
 
 pub returns : goal.returns

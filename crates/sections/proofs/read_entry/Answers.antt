@@ -1,7 +1,6 @@
 -- `read_entry`: the rest from here is this entry and the rest behind it, or what ends the section.
 use native.Mathlib.Omega.{arith}
 use Rattle.sections.specs.OneEntry.{entry-room, entry-end, entry-wrong, entry-limit, entry_next, entry-refused, entry-limited, entry-took}
-use borrow.Author.Rules.{rules}
 use Rattle.sections.proofs.read_entry.Goals as goal
 
 pub returns-then-h-eq0 : goal.returns-then-h-eq0

@@ -1,11 +1,9 @@
 -- `read_section`: the entries read, and the rest by the rules from here, are what the rules read in all.
-use Prim.Native.Nat.{ℕ, ◌-◌}
 use native.Mathlib.Omega.{arith}
-use mathlib.Core.Path.{◌≡◌, refl, sym, ◌∙◌}
-use lib.ListN.{length, length-set}
-use borrow.Author.Rules.{rules}
+use mathlib.Core.Path.{refl, sym, ◌∙◌}
+use lib.ListN.{length-set}
 use Rattle.sections.specs.Kinds.{start-within, entry-within}
-use Rattle.sections.specs.Runs.{SectionLoop, section-begin, section-ready, section-wrong, section-limit, section-end, entry-moved, section-once, section-on}
+use Rattle.sections.specs.Runs.{section-begin, section-ready, section-wrong, section-limit, section-end, entry-moved, section-once, section-on}
 use Rattle.sections.proofs.read_section.Goals as goal
 
 pub loop-parts-init : goal.loop-parts-init

@@ -2,7 +2,6 @@
 use native.Mathlib.Omega.{arith}
 use Rattle.sections.specs.Kinds.{start-within}
 use Rattle.sections.specs.AtLeastOne.{some-wrong, some-limit, some-none, some-done}
-use borrow.Author.Rules.{rules}
 use Rattle.sections.proofs.read_some.Goals as goal
 
 pub offset_bounds-parts-start : goal.offset_bounds-parts-start

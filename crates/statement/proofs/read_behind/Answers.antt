@@ -1,7 +1,6 @@
 -- `read_behind`: the body, then `end`.
 use mathlib.Core.Bool.{false}
 use mathlib.Core.List.{[]}
-use borrow.Author.Rules.{rules}
 use Rattle.statement.specs.EndRecord.{whole-wrong, whole-limit, body-position, whole-read}
 use Rattle.statement.proofs.read_behind.Goals as goal
 

@@ -1,6 +1,4 @@
 -- `read_end`: a line `end` with no other field, and nothing behind it.
-use borrow.Author.Tests.{not-true, not-false}
-use borrow.Author.Rules.{rules}
 use Rattle.rules.specs.Lines.{bytes}
 use Rattle.statement.specs.EndRecord.{end-missing, end-fields, end_more, end-done}
 use Rattle.statement.proofs.read_end.Goals as goal

@@ -11,7 +11,7 @@ pub returns-then-kind-eq0 : goal.returns-then-kind-eq0
 returns-then-kind-eq0 c = wrong_first _ _ c.first_record-f.ensures (omega (arith, c.if-statement.false)) _ _ _ c.if-kind-eq0.true
 
 pub read_behind-r-requires : goal.read_behind-r-requires
-read_behind-r-requires c = record { fact_1 = rw c.first_fields-line.ensures.next (second-line _ _ c.first_record-f.ensures (omega (arith, c.if-statement.false)) c.if-kind-eq0.false); fact_2 = record { rows = search rules; from-rows = search rules; numbers = search rules }; }
+read_behind-r-requires c = record { fact_1 = rw c.first_fields-line.ensures.next (second-line _ _ c.first_record-f.ensures (omega (arith, c.if-statement.false)) c.if-kind-eq0.false); fact_2 = record { rows = search rules; from-rows = search rules; numbers = search rules } }
 
 pub returns-in-Wrong : goal.returns-in-Wrong
 returns-in-Wrong c = statement-wrong _ _ c.first_record-f.ensures (omega (arith, c.if-statement.false)) c.if-kind-eq0.false _ _ c.args.parts.now _ _ c.put_first.ensures (omega arith) _ _ c.first_fields-line.ensures.next c.read_behind-r.ensures _ c.in-Wrong.is

@@ -1,5 +1,4 @@
 -- `aggregates::is_aggregate`: the address is the catalog's or the statement's.
-use borrow.Author.Rules.{rules}
 use Rattle.text.specs.Places.{bytes-catalog, bytes-statement}
 use Rattle.ast.proofs.aggregates.is_aggregate.Goals as goal
 

@@ -1,6 +1,5 @@
 -- `aggregates::named_in`: the number of the name among the five.
 use mathlib.Core.Path.{sym, ◌∙◌}
-use borrow.Author.Rules.{rules}
 use Rattle.rules.specs.Lines.{bytes}
 use Rattle.rules.specs.BuildAggregate.{aggregates}
 use Rattle.text.specs.Words.{nth}

@@ -1,14 +1,9 @@
 -- `equality::same_trees`: what is left of the table falls with each call; the operands left of both trees say what the whole trees say.
-use Prim.Native.Nat.{ℕ, ◌*◌, ◌-◌, ◌<◌}
-use native.Mathlib.Omega.{arith}
-use mathlib.Core.Path.{◌≡◌, sym, ◌∙◌}
+use Prim.Native.Nat.{◌*◌, ◌-◌, ◌<◌}
+use mathlib.Core.Path.{◌≡◌}
 use lib.ListN.{length}
-use borrow.Author.Tests.{not-true, not-false}
-use borrow.Author.Rules.{rules}
 use Rattle.rules.specs.Equality as rules
-use Rattle.ast.specs.Operands.{operands-inside}
 use Rattle.ast.specs.Table.{row_size, arguments_at, tree_at}
-use Rattle.ast.proofs.EqualWalk.{same_operands, roots-differ, roots-same, equal-end, equal-more, equal-stop}
 use Rattle.ast.proofs.equality.+same_trees.Given as goal
 
 abbrev pub decreases-same_trees : goal.decreases-same_trees

@@ -5,7 +5,6 @@ use mathlib.Core.Bool.{true, false, not, ◌&&◌, and-false}
 use mathlib.Core.List.{List}
 use lib.Dec.{eqb}
 use borrow.Author.Tests.{eq-eqb, ne_eqb}
-use borrow.Author.Rules.{rules}
 use Rattle.numbers.specs.Codes.{or_least, least_kept}
 use Rattle.ast.specs.Table.{at}
 use Rattle.ast.specs.Operands.{kind_at}

@@ -5,7 +5,6 @@ use mathlib.Core.Bool.{Bool, true, false, not, ◌&&◌}
 use mathlib.Core.List.{List}
 use lib.Dec.{eqb}
 use borrow.Author.Tests.{eqb-false}
-use borrow.Author.Rules.{rules}
 use Rattle.rules.specs.Lists.{Bytes}
 use Rattle.rules.specs.Equality.{equal}
 use Rattle.ast.specs.Table.{tree_at}

@@ -1,5 +1,4 @@
 -- `equality::same_literal`, from the numbers of the two rows.
-use borrow.Author.Rules.{rules}
 use Rattle.ast.proofs.equality.same_literal.Goals as goal
 
 pub returns : goal.returns

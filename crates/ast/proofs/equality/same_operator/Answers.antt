@@ -1,5 +1,4 @@
 -- `equality::same_operator`, from the codes of the two rows.
-use borrow.Author.Rules.{rules}
 use Rattle.ast.proofs.equality.same_operator.Goals as goal
 
 pub returns : goal.returns

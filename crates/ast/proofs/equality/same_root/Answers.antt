@@ -2,7 +2,6 @@
 use mathlib.Core.Path.{sym, ◌∙◌}
 use mathlib.Core.Bool.{and-true, and-false}
 use borrow.Author.Tests.{eq-eqb, ne_eqb}
-use borrow.Author.Rules.{rules}
 use Rattle.ast.proofs.Roots.{roots-apart, roots-column, roots-qualified, roots-call, roots-unary, roots-binary, roots-is, roots-literal, roots-star}
 use Rattle.ast.proofs.equality.same_root.Goals as goal
 

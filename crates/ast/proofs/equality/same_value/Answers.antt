@@ -1,7 +1,6 @@
 -- `equality::same_value`, by the kind of the two literals.
 use native.Mathlib.Omega.{arith}
 use mathlib.Core.Path.{sym, ◌∙◌}
-use borrow.Author.Rules.{rules}
 use Rattle.rules.specs.Places.{word_at}
 use Rattle.rules.specs.Lists.{same}
 use Rattle.rules.specs.Equality.{contents, same_value}

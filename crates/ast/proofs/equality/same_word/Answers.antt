@@ -1,5 +1,4 @@
 -- `equality::same_word`, from the numbers of the two rows.
-use borrow.Author.Rules.{rules}
 use Rattle.ast.proofs.equality.same_word.Goals as goal
 
 pub returns : goal.returns

@@ -1,6 +1,5 @@
 -- `row::binary_code`: the operator's number, or the least.
 use mathlib.Core.Path.{sym, ap, ◌∙◌}
-use borrow.Author.Rules.{rules}
 use Rattle.numbers.specs.Codes.{or_least}
 use Rattle.ast.specs.Row.{binary-code}
 use Rattle.ast.proofs.row.binary_code.Goals as goal

@@ -1,6 +1,5 @@
 -- `row::kind_of`, by the kind's number.
 use mathlib.Core.Path.{sym, ◌∙◌}
-use borrow.Author.Rules.{rules}
 use Rattle.ast.specs.Row.{number_of, kind-rest}
 use Rattle.ast.proofs.row.kind_of.Goals as goal
 

@@ -1,6 +1,5 @@
 -- `row::unary_code`: the operator's number, or the least.
 use mathlib.Core.Path.{sym, ap, ◌∙◌}
-use borrow.Author.Rules.{rules}
 use Rattle.numbers.specs.Codes.{or_least}
 use Rattle.ast.specs.Row.{unary-code}
 use Rattle.ast.proofs.row.unary_code.Goals as goal

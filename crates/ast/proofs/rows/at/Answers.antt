@@ -1,7 +1,6 @@
 -- `rows::at`: inside the table the number there, outside 0.
 use native.Mathlib.Omega.{arith}
 use mathlib.Core.Path.{refl, sym}
-use borrow.Author.Rules.{rules}
 use Rattle.ast.specs.Table.{at}
 use Rattle.ast.specs.Operands.{outside}
 use Rattle.ast.proofs.rows.at.Goals as goal

@@ -1,6 +1,5 @@
 -- `rows::kind`: the number at place 0, or the star's.
 use mathlib.Core.Path.{ap, ◌∙◌}
-use borrow.Author.Rules.{rules}
 use Rattle.numbers.specs.Codes.{or_least}
 use Rattle.ast.specs.Operands.{kind_at}
 use Rattle.ast.proofs.rows.kind.Goals as goal

@@ -2,7 +2,6 @@
 use Prim.Native.Nat.{ℕ, ◌+◌}
 use native.Mathlib.Omega.{arith}
 use mathlib.Core.Path.{ap, ◌∙◌}
-use borrow.Author.Rules.{rules}
 use Rattle.ast.specs.Table.{rows_at}
 use Rattle.ast.specs.Operands.{inside}
 use Rattle.ast.proofs.rows.next.Goals as goal

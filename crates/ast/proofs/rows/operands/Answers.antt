@@ -1,6 +1,5 @@
 -- `rows::operands`, by the kind.
 use mathlib.Core.Path.{sym, ◌∙◌}
-use borrow.Author.Rules.{rules}
 use Rattle.ast.specs.Operands.{no-operands, operands-call, operands-unary, operands-binary, operands-is}
 use Rattle.ast.proofs.rows.operands.Goals as goal
 

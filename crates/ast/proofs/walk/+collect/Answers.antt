@@ -1,25 +1,21 @@
 -- `walk::collect`: what is left of the table falls with each call; what the operands left give, written from here on, is what the whole gives.
-use Prim.Native.Nat.{ℕ, ◌*◌, ◌-◌, ◌<◌}
 use native.Mathlib.Omega.{arith}
-use mathlib.Core.Path.{◌≡◌, refl, sym, ap, ◌∙◌}
+use mathlib.Core.Path.{refl, sym, ap, ◌∙◌}
 use lib.Seq.{set_out, sets}
-use lib.ListN.{length}
-use borrow.Author.Rules.{rules}
 use Rattle.ast.specs.Operands.{operands-inside}
-use Rattle.ast.specs.Collect.{rows_of, collect_rows, collected}
+use Rattle.ast.specs.Collect.{collected}
 use Rattle.ast.proofs.Collects.{one-row, no_place, rows_none, rows-match, rows_on, loop-answer, loop-rows, full-answer, full-rows}
-use Rattle.ast.specs.Table.{row_size}
 use Rattle.ast.proofs.walk.+collect.Goals as goal
 
 pub returns-then-count-rows : goal.returns-then-count-rows
-returns-then-count-rows t c = record { value = rw (rows-match _ _ _ _ (sym c.is_aggregate_call.ensures ∙ c.if-is_aggregate_call.true)) (sym (one-row _ _ _ c.if-count-rows.true)); rows_after = rw (rows-match _ _ _ _ (sym c.is_aggregate_call.ensures ∙ c.if-is_aggregate_call.true)); }
+returns-then-count-rows t c = record { value = rw (rows-match _ _ _ _ (sym c.is_aggregate_call.ensures ∙ c.if-is_aggregate_call.true)) (sym (one-row _ _ _ c.if-count-rows.true)); rows_after = rw (rows-match _ _ _ _ (sym c.is_aggregate_call.ensures ∙ c.if-is_aggregate_call.true)) }
 
 pub returns-then-is_aggregate_call : goal.returns-then-is_aggregate_call
-returns-then-is_aggregate_call t c = record { value = rw (rows-match _ _ _ _ (sym c.is_aggregate_call.ensures ∙ c.if-is_aggregate_call.true)) (sym (no_place _ _ _ _ c.if-count-rows.false)); rows_after = rw (rows-match _ _ _ _ (sym c.is_aggregate_call.ensures ∙ c.if-is_aggregate_call.true)) (sym (set_out _ _ _ c.if-count-rows.false)); }
+returns-then-is_aggregate_call t c = record { value = rw (rows-match _ _ _ _ (sym c.is_aggregate_call.ensures ∙ c.if-is_aggregate_call.true)) (sym (no_place _ _ _ _ c.if-count-rows.false)); rows_after = rw (rows-match _ _ _ _ (sym c.is_aggregate_call.ensures ∙ c.if-is_aggregate_call.true)) (sym (set_out _ _ _ c.if-count-rows.false)) }
 
 pub returns-then-left-eq0 : goal.returns-then-left-eq0
 unfolding collected
-returns-then-left-eq0 t c = record { value = rw (← rows_on _ _ _ _ _ (sym c.is_aggregate_call.ensures ∙ c.if-is_aggregate_call.false) c.operands-left.ensures, rows_none _ _ c.operands-left.result _ (omega arith)); rows_after = rw (← rows_on _ _ _ _ _ (sym c.is_aggregate_call.ensures ∙ c.if-is_aggregate_call.false) c.operands-left.ensures, rows_none _ _ c.operands-left.result _ (omega arith)); }
+returns-then-left-eq0 t c = record { value = rw (← rows_on _ _ _ _ _ (sym c.is_aggregate_call.ensures ∙ c.if-is_aggregate_call.false) c.operands-left.ensures, rows_none _ _ c.operands-left.result _ (omega arith)); rows_after = rw (← rows_on _ _ _ _ _ (sym c.is_aggregate_call.ensures ∙ c.if-is_aggregate_call.false) c.operands-left.ensures, rows_none _ _ c.operands-left.result _ (omega arith)) }
 
 pub overflow_add-p : goal.overflow_add-p
 overflow_add-p t c = omega (arith, operands-inside _ _ (λ e. c.if-left-eq0.false (c.operands-left.ensures ∙ e)))
@@ -28,11 +24,11 @@ pub loop-left-init : goal.loop-left-init
 loop-left-init t c = (omega arith, operands-inside _ _ (λ e. c.if-left-eq0.false (c.operands-left.ensures ∙ e)), refl, ap (collected _ _) (rows_on _ _ _ _ _ (sym c.is_aggregate_call.ensures ∙ c.if-is_aggregate_call.false) c.operands-left.ensures), ap (sets _ _) (rows_on _ _ _ _ _ (sym c.is_aggregate_call.ensures ∙ c.if-is_aggregate_call.false) c.operands-left.ensures))
 
 pub returns-in_default : goal.returns-in_default
-returns-in_default t c = record { value = sym (full-answer _ _ _ _ _ _ _ _ c.loop-left-test.true c.loop-left.invariant.2 c.collect-next_count.ensures.rows_after (sym c.collect-next_count.ensures.value ∙ c.in_default.is)) ∙ c.loop-left.invariant.3; rows_after = sym (full-rows _ _ _ _ _ _ _ _ c.loop-left-test.true c.loop-left.invariant.2 c.collect-next_count.ensures.rows_after (sym c.collect-next_count.ensures.value ∙ c.in_default.is)) ∙ c.loop-left.invariant.4; }
+returns-in_default t c = record { value = sym (full-answer _ _ _ _ _ _ _ _ c.loop-left-test.true c.loop-left.invariant.2 c.collect-next_count.ensures.rows_after (sym c.collect-next_count.ensures.value ∙ c.in_default.is)) ∙ c.loop-left.invariant.3; rows_after = sym (full-rows _ _ _ _ _ _ _ _ c.loop-left-test.true c.loop-left.invariant.2 c.collect-next_count.ensures.rows_after (sym c.collect-next_count.ensures.value ∙ c.in_default.is)) ∙ c.loop-left.invariant.4 }
 
 pub loop-left-preserved : goal.loop-left-preserved
 loop-left-preserved t c = rw c.next-p.ensures (omega arith, c.loop-left.invariant.1, c.collect-next_count.auto.rows ∙ c.loop-left.invariant.2, loop-answer _ _ _ _ _ _ _ _ c.loop-left-test.true c.loop-left.invariant.2 c.collect-next_count.ensures.rows_after _ (sym c.collect-next_count.ensures.value ∙ c.in-Rows.is) ∙ c.loop-left.invariant.3, loop-rows _ _ _ _ _ _ _ _ c.loop-left-test.true c.loop-left.invariant.2 c.collect-next_count.ensures.rows_after _ (sym c.collect-next_count.ensures.value ∙ c.in-Rows.is) ∙ c.loop-left.invariant.4)
 
 pub returns : goal.returns
 unfolding collected
-returns t c = record { value = sym (ap (collected _ _) (rows_none _ _ _ _ c.loop-left-test.false)) ∙ c.loop-left.invariant.3; rows_after = sym (ap (sets _ _) (rows_none _ _ _ _ c.loop-left-test.false)) ∙ c.loop-left.invariant.4; }
+returns t c = record { value = sym (ap (collected _ _) (rows_none _ _ _ _ c.loop-left-test.false)) ∙ c.loop-left.invariant.3; rows_after = sym (ap (sets _ _) (rows_none _ _ _ _ c.loop-left-test.false)) ∙ c.loop-left.invariant.4 }

@@ -1,13 +1,9 @@
 -- `walk::collect`: what is left of the table falls with each call; what the operands left give, written from here on, is what the whole gives.
-use Prim.Native.Nat.{ℕ, ◌*◌, ◌-◌, ◌<◌}
-use native.Mathlib.Omega.{arith}
-use mathlib.Core.Path.{◌≡◌, refl, sym, ap, ◌∙◌}
-use lib.Seq.{set_out, sets}
+use Prim.Native.Nat.{◌*◌, ◌-◌, ◌<◌}
+use mathlib.Core.Path.{◌≡◌}
+use lib.Seq.{sets}
 use lib.ListN.{length}
-use borrow.Author.Rules.{rules}
-use Rattle.ast.specs.Operands.{operands-inside}
 use Rattle.ast.specs.Collect.{rows_of, collect_rows, collected}
-use Rattle.ast.proofs.Collects.{one-row, no_place, rows_none, rows-match, rows_on, loop-answer, loop-rows, full-answer, full-rows}
 use Rattle.ast.specs.Table.{row_size}
 use Rattle.ast.proofs.walk.+collect.Given as goal
 

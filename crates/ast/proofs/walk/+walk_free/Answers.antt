@@ -1,13 +1,8 @@
 -- `walk::walk_free`: what is left of the table falls with each call; the operands left say what the whole tree says.
-use Prim.Native.Nat.{ℕ, ◌*◌, ◌-◌, ◌<◌}
 use native.Mathlib.Omega.{arith}
-use mathlib.Core.Path.{◌≡◌, sym, ◌∙◌}
-use lib.ListN.{length}
-use borrow.Author.Rules.{rules}
-use Rattle.rules.specs.BuildAggregate.{walk_free}
-use Rattle.ast.specs.Table.{row_size, arguments_at, tree_at}
+use mathlib.Core.Path.{sym, ◌∙◌}
 use Rattle.ast.specs.Operands.{operands-inside}
-use Rattle.ast.proofs.Walks.{walked, walk-stops, walk-on, walk_end, walk_more, walk-stop}
+use Rattle.ast.proofs.Walks.{walk-stops, walk-on, walk_end, walk_more, walk-stop}
 use Rattle.ast.proofs.walk.+walk_free.Goals as goal
 
 pub returns-then-is_aggregate_call : goal.returns-then-is_aggregate_call

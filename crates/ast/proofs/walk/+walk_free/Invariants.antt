@@ -1,13 +1,10 @@
 -- `walk::walk_free`: what is left of the table falls with each call; the operands left say what the whole tree says.
-use Prim.Native.Nat.{ℕ, ◌*◌, ◌-◌, ◌<◌}
-use native.Mathlib.Omega.{arith}
-use mathlib.Core.Path.{◌≡◌, sym, ◌∙◌}
+use Prim.Native.Nat.{◌*◌, ◌-◌, ◌<◌}
+use mathlib.Core.Path.{◌≡◌}
 use lib.ListN.{length}
-use borrow.Author.Rules.{rules}
 use Rattle.rules.specs.BuildAggregate.{walk_free}
 use Rattle.ast.specs.Table.{row_size, arguments_at, tree_at}
-use Rattle.ast.specs.Operands.{operands-inside}
-use Rattle.ast.proofs.Walks.{walked, walk-stops, walk-on, walk_end, walk_more, walk-stop}
+use Rattle.ast.proofs.Walks.{walked}
 use Rattle.ast.proofs.walk.+walk_free.Given as goal
 
 abbrev pub decreases-walk_free : goal.decreases-walk_free

@@ -1,7 +1,6 @@
 -- `walk::contains`: that walk's answer turned round.
 use mathlib.Core.Path.{ap}
 use mathlib.Core.Bool.{not}
-use borrow.Author.Rules.{rules}
 use Rattle.rules.specs.BuildAggregate.{contains}
 use Rattle.ast.proofs.walk.contains.Goals as goal
 

@@ -1,6 +1,5 @@
 -- `walk::is_aggregate_call`: a call whose name is an aggregate's.
 use mathlib.Core.Path.{sym, ◌∙◌}
-use borrow.Author.Rules.{rules}
 use Rattle.rules.specs.Lists.{is_some}
 use Rattle.ast.specs.Aggregates.{named_of}
 use Rattle.ast.specs.Walk.{no_call, call-named}

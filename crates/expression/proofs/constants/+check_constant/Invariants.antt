@@ -1,13 +1,10 @@
 -- `expression::constants::check_constant` meets its contract: what is left of the table falls with each call.
-use mathlib.Core.Path.{◌≡◌, sym, ◌∙◌}
-use Prim.Native.Nat.{ℕ, suc, ◌*◌, ◌-◌, ◌<◌}
-use native.Mathlib.Omega.{arith}
+use mathlib.Core.Path.{◌≡◌}
+use Prim.Native.Nat.{suc, ◌*◌, ◌-◌, ◌<◌}
 use lib.ListN.{length}
-use borrow.Author.Rules.{rules}
 use Rattle.ast.specs.Table.{row_size, arguments_at, tree_at}
-use Rattle.ast.specs.Operands.{operands_at, operands-inside}
+use Rattle.ast.specs.Operands.{operands_at}
 use Rattle.expression.specs.Constants.{check_all}
-use Rattle.expression.proofs.Checks.{at_row, check-start, check-end, check-stop, check-more}
 use Rattle.expression.proofs.constants.+check_constant.Given as goal
 
 abbrev pub decreases-check_constant : goal.decreases-check_constant

@@ -1,6 +1,5 @@
 -- `constants::build_constant_value`: the check passed, or its refusal.
 use mathlib.Core.Path.{sym, ◌∙◌}
-use borrow.Author.Rules.{rules}
 use Rattle.expression.specs.Answers.{constant_of}
 use Rattle.expression.proofs.Checks.{constant-passed, constant-refused}
 use Rattle.expression.proofs.constants.build_constant_value.Goals as goal

@@ -1,6 +1,5 @@
 -- `expression::constants::check_call` meets its contract.
 use mathlib.Core.Path.{◌∙◌}
-use borrow.Author.Rules.{rules}
 use Rattle.rules.specs.Lines.{bytes}
 use Rattle.expression.specs.declared.Reason.TheVariants.{UnknownFunction}
 use Rattle.expression.specs.Answers.{reason_of}
@@ -14,11 +13,11 @@ returns-then-at-ne1 c = guard-refused _ UnknownFunction _ _ (other-count _ _ _ _
 pub returns-then-holds_at : goal.returns-then-holds_at
 unfolding bytes
 returns-then-holds_at c = guard_passed _ _ _ (one_argument _ _ _ _ _ _ _ _ c.at.ensures c.if-at-ne1.false
-  c.at-a.ensures c.at-n.ensures c.holds_at.ensures
-  ∙ c.if-holds_at.true)
+    c.at-a.ensures c.at-n.ensures c.holds_at.ensures
+    ∙ c.if-holds_at.true)
 
 pub returns : goal.returns
 unfolding reason_of bytes
 returns c = guard-refused _ UnknownFunction _ _ (one_argument _ _ _ _ _ _ _ _ c.at.ensures c.if-at-ne1.false
-  c.at-a.ensures c.at-n.ensures c.holds_at.ensures
-  ∙ c.if-holds_at.false) c.at-line.ensures
+    c.at-a.ensures c.at-n.ensures c.holds_at.ensures
+    ∙ c.if-holds_at.false) c.at-line.ensures

@@ -1,6 +1,5 @@
 -- `expression::constants::check_is` meets its contract.
 use mathlib.Core.Path.{◌∙◌}
-use borrow.Author.Rules.{rules}
 use Rattle.expression.specs.declared.Reason.TheVariants.{InvalidIs}
 use Rattle.expression.specs.Answers.{reason_of}
 use Rattle.expression.proofs.Checks.{guard_passed, guard-refused, is-literal}
@@ -8,11 +7,11 @@ use Rattle.expression.proofs.constants.check_is.Goals as goal
 
 pub returns-then-is_null_or_nan : goal.returns-then-is_null_or_nan
 returns-then-is_null_or_nan c = λ t q. guard_passed _ _ _ (is-literal t q _ _ _ _ _ _ (c.is_null_or_nan.ensures t q)
-  c.at-k.ensures c.at-a.ensures c.at-b.ensures
-  ∙ c.if-is_null_or_nan.true)
+    c.at-k.ensures c.at-a.ensures c.at-b.ensures
+    ∙ c.if-is_null_or_nan.true)
 
 pub returns : goal.returns
 unfolding reason_of
 returns c = λ t q. guard-refused _ InvalidIs _ _ (is-literal t q _ _ _ _ _ _ (c.is_null_or_nan.ensures t q)
-  c.at-k.ensures c.at-a.ensures c.at-b.ensures
-  ∙ c.if-is_null_or_nan.false) c.at.ensures
+    c.at-k.ensures c.at-a.ensures c.at-b.ensures
+    ∙ c.if-is_null_or_nan.false) c.at.ensures

@@ -1,6 +1,5 @@
 -- `expression::constants::check_record` meets its contract.
 use mathlib.Core.Path.{sym, ap, ◌∙◌}
-use borrow.Author.Rules.{rules}
 use Rattle.rules.specs.Refusals.{refuse, constant_only, unsupported_star}
 use Rattle.expression.specs.Constants.{checked_of, first_of}
 use Rattle.expression.specs.Answers.{reason_of}
@@ -10,16 +9,16 @@ use Rattle.expression.proofs.constants.check_record.Goals as goal
 pub returns-in-2 : goal.returns-in-2
 unfolding checked_of reason_of
 returns-in-2 c = λ f h. ap (refuse constant_only) c.at.ensures
-  ∙ sym (record-column f _ _ _ _ (sym c.kind-k.ensures ∙ c.in-2.is))
+    ∙ sym (record-column f _ _ _ _ (sym c.kind-k.ensures ∙ c.in-2.is))
 
 pub returns-in-3 : goal.returns-in-3
 unfolding checked_of reason_of
 returns-in-3 c = λ f h. ap (refuse constant_only) c.at-in-3.ensures
-  ∙ sym (record-qualified f _ _ _ _ (sym c.kind-k.ensures ∙ c.in-3.is))
+    ∙ sym (record-qualified f _ _ _ _ (sym c.kind-k.ensures ∙ c.in-3.is))
 
 pub returns-in-4 : goal.returns-in-4
 returns-in-4 c = λ f h. c.first_of.ensures ∙ (λ i. first_of (c.check_call-call.ensures i) (h i))
-  ∙ sym (record-call f _ _ _ _ (sym c.kind-k.ensures ∙ c.in-4.is))
+    ∙ sym (record-call f _ _ _ _ (sym c.kind-k.ensures ∙ c.in-4.is))
 
 pub returns-in-5 : goal.returns-in-5
 returns-in-5 c = λ f h. h ∙ sym (record-unary f _ _ _ _ (sym c.kind-k.ensures ∙ c.in-5.is))
@@ -29,8 +28,8 @@ returns-in-6 c = λ f h. h ∙ sym (record-binary f _ _ _ _ (sym c.kind-k.ensure
 
 pub returns-in-7 : goal.returns-in-7
 returns-in-7 c = let given = c.args in
-  λ f h. c.first_of-in-7.ensures ∙ (λ i. first_of (h i) (c.check_is-literal.ensures given.catalog.now given.statement.now i))
-  ∙ sym (record_is f _ _ _ _ (sym c.kind-k.ensures ∙ c.in-7.is))
+    λ f h. c.first_of-in-7.ensures ∙ (λ i. first_of (h i) (c.check_is-literal.ensures given.catalog.now given.statement.now i))
+    ∙ sym (record_is f _ _ _ _ (sym c.kind-k.ensures ∙ c.in-7.is))
 
 pub returns-in-8 : goal.returns-in-8
 unfolding checked_of
@@ -39,4 +38,4 @@ returns-in-8 c = λ f h. sym (record-literal f _ _ _ _ (sym c.kind-k.ensures ∙
 pub returns-in_default : goal.returns-in_default
 unfolding checked_of reason_of
 returns-in_default c = λ f h. ap (refuse unsupported_star) c.at-in_default.ensures
-  ∙ sym (record-star f _ _ _ _ _ c.kind-k.ensures c.in_default.in_default-own.rest)
+    ∙ sym (record-star f _ _ _ _ _ c.kind-k.ensures c.in_default.in_default-own.rest)

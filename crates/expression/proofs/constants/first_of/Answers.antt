@@ -1,5 +1,4 @@
 -- `expression::constants::first_of` meets its contract.
-use borrow.Author.Rules.{rules}
 use Rattle.expression.proofs.Checks.{first-passed, first-refused}
 use Rattle.expression.proofs.constants.first_of.Goals as goal
 

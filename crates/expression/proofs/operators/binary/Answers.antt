@@ -1,5 +1,4 @@
 -- `expression::operators::binary` meets its contract.
-use borrow.Author.Rules.{rules}
 use Rattle.rules.specs.Operators.{binary_of}
 use Rattle.expression.proofs.Codes.{binary-arm, binary-rest}
 use Rattle.expression.proofs.operators.binary.Goals as goal

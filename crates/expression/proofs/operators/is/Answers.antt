@@ -1,6 +1,5 @@
 -- `expression::operators::is` meets its contract.
 use mathlib.Core.Path.{ap, ◌∙◌}
-use borrow.Author.Rules.{rules}
 use Rattle.rules.specs.Evaluate.{worked_at}
 use Rattle.rules.specs.Operators.{is_of}
 use Rattle.expression.specs.Answers.{answer_of, reason_of}

@@ -1,5 +1,4 @@
 -- `expression::operators::unary` meets its contract.
-use borrow.Author.Rules.{rules}
 use Rattle.expression.proofs.Codes.{unary-arm, unary-rest}
 use Rattle.expression.proofs.operators.unary.Goals as goal
 

@@ -1,6 +1,5 @@
 -- `expression::operators::worked_at` meets its contract.
 use mathlib.Core.Path.{sym, ap}
-use borrow.Author.Rules.{rules}
 use Rattle.rules.specs.Evaluate.{worked_at}
 use Rattle.value.specs.Values.{worked_of}
 use Rattle.value.specs.declared.Worked.{Worked}

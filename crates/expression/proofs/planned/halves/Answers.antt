@@ -1,5 +1,4 @@
 -- `planned::halves`: the two halves as numbers of the area.
-use borrow.Author.Rules.{rules}
 use Rattle.rules.specs.Area as area
 use Rattle.expression.specs.Numbers.{numbers_of}
 use Rattle.expression.proofs.planned.halves.Goals as goal

@@ -2,7 +2,6 @@
 use mathlib.Core.List.{[], ◌∷◌}
 use mathlib.Core.Path.{ap}
 use Prim.Native.Nat.{ℕ}
-use borrow.Author.Rules.{rules}
 use Rattle.numbers.specs.Values.{is_one, value-numbers, cell-arm, cell-rest}
 use Rattle.expression.specs.Numbers.{numbers_of}
 use Rattle.expression.proofs.planned.literal_numbers.Goals as goal
@@ -22,7 +21,7 @@ returns-in-4 c = rw (value-numbers _ _ _ _ _ c.ranges.a.fits c.ranges.b.fits, ce
 pub returns-in-5 : goal.returns-in-5
 unfolding numbers_of
 returns-in-5 c = rw (value-numbers _ _ _ _ _ c.ranges.a.fits c.ranges.b.fits, cell-arm _ _ _ _ _ 3 c.in-5.is)
-  (ap (λ (n : ℕ). 5 ∷ c.args.a ∷ n ∷ 0 ∷ []) c.length_at.ensures)
+    (ap (λ (n : ℕ). 5 ∷ c.args.a ∷ n ∷ 0 ∷ []) c.length_at.ensures)
 
 pub returns-in_default : goal.returns-in_default
 unfolding numbers_of

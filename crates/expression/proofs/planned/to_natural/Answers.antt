@@ -1,6 +1,5 @@
 -- `expression::planned::to_natural` meets its contract.
 use mathlib.Core.Path.{ap, ◌∙◌}
-use borrow.Author.Rules.{rules}
 use Rattle.rules.specs.Refusals.{◌>>=◌, refuse}
 use Rattle.rules.specs.BuildSelect.{natural}
 use Rattle.expression.specs.declared.Constant.{Constant}
@@ -13,7 +12,7 @@ use Rattle.expression.proofs.planned.to_natural.Goals as goal
 pub returns-in-Literal : goal.returns-in-Literal
 unfolding natural_in constant_of ◌>>=◌
 returns-in-Literal c = λ r l t q. c.value_natural.ensures r l t q ∙ ap (natural r l) (c.literal.ensures t q) ∙ natural-held r l _
-  ∙ same-image (λ (x : Constant). natural_in r l (constant_of t q x)) c.in-Literal.is
+    ∙ same-image (λ (x : Constant). natural_in r l (constant_of t q x)) c.in-Literal.is
 
 pub returns-in-Value : goal.returns-in-Value
 unfolding natural_in constant_of ◌>>=◌

@@ -1,6 +1,5 @@
 -- `expression::planned::value_natural` meets its contract.
 use mathlib.Core.Path.{◌∙◌}
-use borrow.Author.Rules.{rules}
 use Rattle.rules.specs.BuildSelect.{natural}
 use Rattle.value.specs.declared.Value.{Value}
 use Rattle.value.specs.Values.{value_of}
@@ -12,7 +11,7 @@ use Rattle.expression.proofs.planned.value_natural.Goals as goal
 pub returns-then-n-ge0 : goal.returns-then-n-ge0
 unfolding natural_of value_of
 returns-then-n-ge0 c = λ r l t q. natural-from r l _ c.in-Int.known_told-1-own.given.0.1 c.if-n-ge0.true _ c.to_bits.ensures
-  ∙ same-image (λ (v : Value). natural r l (value_of t q v)) c.in-Int.is
+    ∙ same-image (λ (v : Value). natural r l (value_of t q v)) c.in-Int.is
 
 pub returns-in-Null : goal.returns-in-Null
 unfolding natural_of natural value_of
@@ -25,7 +24,7 @@ returns-in-Bool c = λ r l t q. same-image (λ (v : Value). natural r l (value_o
 pub returns-else-n-ge0 : goal.returns-else-n-ge0
 unfolding natural_of value_of
 returns-else-n-ge0 c = λ r l t q. natural-below r l _ c.in-Int.known_told-1-own.given.0.1 c.if-n-ge0.false
-  ∙ same-image (λ (v : Value). natural r l (value_of t q v)) c.in-Int.is
+    ∙ same-image (λ (v : Value). natural r l (value_of t q v)) c.in-Int.is
 
 pub returns-in-Float : goal.returns-in-Float
 unfolding natural_of natural value_of

@@ -1,7 +1,5 @@
 -- `alias_record`: two names, or none.
 use mathlib.Core.Path.{refl, sym, ◌∙◌}
-use borrow.Author.Tests.{not-true, not-false}
-use borrow.Author.Rules.{rules}
 use Rattle.from.specs.Fields.{row_as, alias-first, alias-second, alias-some}
 use Rattle.from.proofs.record.alias_record.Goals as goal
 

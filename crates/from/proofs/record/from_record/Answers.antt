@@ -1,6 +1,5 @@
 -- `from_record`: by the keyword and the number of fields.
 use native.Mathlib.Omega.{arith}
-use borrow.Author.Rules.{rules}
 use Rattle.rules.specs.Lines.{bytes}
 use Rattle.text.specs.Fields.{inside-field}
 use Rattle.from.specs.Fields.{row_as, row_next, from-words, from_one, from-two, from-not, join-two, join-not, no-from}
@@ -18,7 +17,7 @@ unfolding bytes
 returns-then-n-ne3 c = λ l d k. row_next c.fields-f.ensures.next (row_as _ (from-not _ _ l d k _ c.fields-f.ensures _ _ from-words c.which-k.ensures c.if-k-eq0.true c.if-n-eq2.false c.if-n-ne3.true) (c.wrong_record.ensures _))
 
 pub alias_record-requires : goal.alias_record-requires
-alias_record-requires c = record { fact_1 = inside-field _ _ _ c.fields-f.ensures 1 c.requires.0 c.requires.1 (omega (arith, c.if-n-ne3.false)); fact_2 = inside-field _ _ _ c.fields-f.ensures 2 c.requires.0 c.requires.1 (omega (arith, c.if-n-ne3.false)); }
+alias_record-requires c = record { fact_1 = inside-field _ _ _ c.fields-f.ensures 1 c.requires.0 c.requires.1 (omega (arith, c.if-n-ne3.false)); fact_2 = inside-field _ _ _ c.fields-f.ensures 2 c.requires.0 c.requires.1 (omega (arith, c.if-n-ne3.false)) }
 
 pub returns-then-k-eq0 : goal.returns-then-k-eq0
 unfolding bytes

@@ -1,6 +1,5 @@
 -- `from_stands`: by the two keywords.
 use mathlib.Core.Path.{sym, ◌∙◌}
-use borrow.Author.Rules.{rules}
 use Rattle.rules.specs.Lines.{bytes}
 use Rattle.from.specs.Fields.{is-first, is-second}
 use Rattle.from.proofs.record.from_stands.Goals as goal

@@ -1,7 +1,6 @@
 -- `join_record`: two words, or none.
 use native.Mathlib.Omega.{arith}
 use mathlib.Core.Path.{refl}
-use borrow.Author.Rules.{rules}
 use Rattle.rules.specs.Lines.{bytes}
 use Rattle.from.specs.Fields.{row_as, join-words, predicate-words, join-none, predicate-none, join-some}
 use Rattle.from.proofs.record.join_record.Goals as goal

@@ -1,7 +1,5 @@
 -- `table_record`: a name, or none.
 use mathlib.Core.Path.{refl, sym, ◌∙◌}
-use borrow.Author.Tests.{not-true, not-false}
-use borrow.Author.Rules.{rules}
 use Rattle.from.specs.Fields.{row_as, table_none, table-some}
 use Rattle.from.proofs.record.table_record.Goals as goal
 

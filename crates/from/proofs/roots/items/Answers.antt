@@ -1,7 +1,6 @@
 -- `roots::items`: one more for each root, from the last one on.
 use native.Mathlib.Omega.{arith}
-use borrow.Author.Rules.{rules}
-use Rattle.from.specs.Roots.{first-falls, Counts, counts-begin, counts-on, counts_end}
+use Rattle.from.specs.Roots.{first-falls, counts-begin, counts-on, counts_end}
 use Rattle.from.proofs.roots.items.Goals as goal
 
 pub loop-end-init : goal.loop-end-init

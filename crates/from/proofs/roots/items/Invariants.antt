@@ -1,7 +1,5 @@
 -- `roots::items`: one more for each root, from the last one on.
-use native.Mathlib.Omega.{arith}
-use borrow.Author.Rules.{rules}
-use Rattle.from.specs.Roots.{first-falls, Counts, counts-begin, counts-on, counts_end}
+use Rattle.from.specs.Roots.{Counts}
 use Rattle.from.proofs.roots.items.Given as goal
 
 abbrev pub invariant-loop-end : goal.invariant-loop-end

@@ -1,6 +1,5 @@
 -- `roots::left`: the row before the first one of the right side.
 use native.Mathlib.Omega.{arith}
-use borrow.Author.Rules.{rules}
 use Rattle.from.specs.Roots.{left-all, left_is, left-none}
 use Rattle.from.proofs.roots.left.Goals as goal
 

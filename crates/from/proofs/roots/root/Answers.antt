@@ -1,7 +1,6 @@
 -- `roots::root`: from the last root on, as many as stand behind the one.
 use native.Mathlib.Omega.{arith}
-use borrow.Author.Rules.{rules}
-use Rattle.from.specs.Roots.{Finds, finds-begin, finds-none, finds-some, finds-on, finds-end}
+use Rattle.from.specs.Roots.{finds-begin, finds-none, finds-some, finds-on, finds-end}
 use Rattle.from.proofs.roots.root.Goals as goal
 
 pub returns-then-j-k : goal.returns-then-j-k

@@ -1,7 +1,5 @@
 -- `roots::root`: from the last root on, as many as stand behind the one.
-use native.Mathlib.Omega.{arith}
-use borrow.Author.Rules.{rules}
-use Rattle.from.specs.Roots.{Finds, finds-begin, finds-none, finds-some, finds-on, finds-end}
+use Rattle.from.specs.Roots.{Finds}
 use Rattle.from.proofs.roots.root.Given as goal
 
 abbrev pub invariant-loop-j : goal.invariant-loop-j

@@ -1,5 +1,4 @@
 -- `roots::sides`: the rows from the left side's first one on.
-use borrow.Author.Rules.{rules}
 use Rattle.from.specs.Rows.{sides-room, sides-is}
 use Rattle.from.proofs.roots.sides.Goals as goal
 

@@ -1,5 +1,4 @@
 -- `row::kind_of`: the first row, or by the kind's number.
-use borrow.Author.Rules.{rules}
 use Rattle.numbers.specs.Codes.{coded}
 use Rattle.from.specs.Access.{kind_of, kind-first, kind-by, kind-rest}
 use Rattle.from.proofs.row.kind_of.Goals as goal
@@ -25,4 +24,4 @@ returns-in-4 c = kind-by _ _ _ _ c.if-r-eq0.false c.at-k.ensures (rw c.in-4.is)
 
 pub returns-in_default : goal.returns-in_default
 returns-in_default c = kind-by _ _ _ _ c.if-r-eq0.false c.at-k.ensures
-  (kind-rest _ c.in_default.in_default-own.rest.0.0.0.1 c.in_default.in_default-own.rest.0.0.1 c.in_default.in_default-own.rest.0.1 c.in_default.in_default-own.rest.1)
+    (kind-rest _ c.in_default.in_default-own.rest.0.0.0.1 c.in_default.in_default-own.rest.0.0.1 c.in_default.in_default-own.rest.0.1 c.in_default.in_default-own.rest.1)

@@ -1,6 +1,5 @@
 -- `row::predicate_of`: none, or the row before the number.
 use mathlib.Core.Path.{ap, ◌∙◌}
-use borrow.Author.Rules.{rules}
 use Rattle.from.specs.Access.{predicate_row, predicate-none, predicate-some}
 use Rattle.from.proofs.row.predicate_of.Goals as goal
 

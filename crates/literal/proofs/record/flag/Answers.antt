@@ -1,5 +1,5 @@
 -- `flag`: `t` or `f`.
-use Rattle.std.proofs.Common.{refl, arith, rules}
+use Rattle.std.proofs.Common.{refl, arith}
 use Rattle.rules.specs.Lines.{bytes}
 use Rattle.literal.specs.Records.{literal-as, flag-words, flag-none, flag-some}
 use Rattle.literal.proofs.record.flag.Goals as goal

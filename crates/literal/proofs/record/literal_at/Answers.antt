@@ -1,5 +1,5 @@
 -- `literal_at`: by the keyword and the number of fields.
-use Rattle.std.proofs.Common.{refl, arith, rules}
+use Rattle.std.proofs.Common.{refl, arith}
 use Rattle.rules.specs.Lines.{bytes}
 use Rattle.rules.specs.Area.{value_numbers, default_numbers}
 use Rattle.numbers.specs.Values.{ValueFits, LiteralFits}
@@ -20,7 +20,7 @@ unfolding bytes
 returns-then-n-ne2 c = λ x l d k b. literal-as (literal-not x _ _ l d k _ c.requires.fact_2 _ _ literal-words c.literal-k.ensures c.if-k-eq0.false c.if-n-ne2.true) (c.no_literal-then-n-ne2.ensures _ _)
 
 pub literal_by-requires : goal.literal_by-requires
-literal_by-requires c = record { fact_1 = inside-field _ _ _ c.requires.fact_2 1 c.requires.fact_1.0 c.requires.fact_1.1 (omega arith); fact_2 = (omega (arith, c.if-k-eq0.false), c.requires.fact_1.2); }
+literal_by-requires c = record { fact_1 = inside-field _ _ _ c.requires.fact_2 1 c.requires.fact_1.0 c.requires.fact_1.1 (omega arith); fact_2 = (omega (arith, c.if-k-eq0.false), c.requires.fact_1.2) }
 
 pub returns : goal.returns
 unfolding bytes

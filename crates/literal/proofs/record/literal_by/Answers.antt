@@ -1,5 +1,5 @@
 -- `literal_by`: by the keyword.
-use Rattle.std.proofs.Common.{refl, arith, rules}
+use Rattle.std.proofs.Common.{refl, arith}
 use Rattle.text.specs.Lines.{field}
 use Rattle.literal.specs.Records.{literal-as, int-some, int-none, float-some, float-none, text-some, no-literal}
 use Rattle.literal.proofs.record.literal_by.Goals as goal

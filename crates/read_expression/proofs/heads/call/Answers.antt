@@ -1,11 +1,9 @@
 -- `call`: a name and a count, or none.
 -- `call`: a name and a count, or none.
 use native.Mathlib.Omega.{arith}
-use mathlib.Core.Path.{◌≡◌, refl, sym, ◌∙◌}
-use borrow.Author.Tests.{not-true, not-false}
+use mathlib.Core.Path.{refl, sym, ◌∙◌}
 use Rattle.read_expression.specs.RowOf.{row-of-as}
 use Rattle.read_expression.specs.Heads.{call-unnamed, call-uncounted, call-some, count_small}
-use borrow.Author.Rules.{rules}
 use Rattle.read_expression.proofs.heads.call.Goals as goal
 
 pub returns-then-not-is_name : goal.returns-then-not-is_name

@@ -1,9 +1,7 @@
 -- `column`: a name, or none.
-use mathlib.Core.Path.{◌≡◌, refl, sym, ◌∙◌}
-use borrow.Author.Tests.{not-true, not-false}
+use mathlib.Core.Path.{refl, sym, ◌∙◌}
 use Rattle.read_expression.specs.RowOf.{row-of-as}
 use Rattle.read_expression.specs.Heads.{column-none, column-some}
-use borrow.Author.Rules.{rules}
 use Rattle.read_expression.proofs.heads.column.Goals as goal
 
 pub returns-then-not-is_name : goal.returns-then-not-is_name

@@ -8,7 +8,6 @@ use Rattle.text.specs.Fields.{inside-field}
 use Rattle.read_expression.specs.RowOf.{row-of-as}
 use Rattle.read_expression.specs.Operators.{row-of-plain, star-plainly}
 use Rattle.read_expression.specs.Records.{other-words, head-op, head-op-not, head-column, head-qualified, head-column-not, head-call, head-call-not, head-star, head-star-not, head-literal}
-use borrow.Author.Rules.{rules}
 use Rattle.read_expression.proofs.heads.head.Goals as goal
 
 pub returns-then-n-ne2 : goal.returns-then-n-ne2
@@ -31,7 +30,7 @@ unfolding bytes
 returns-then-n-ne3 c = λ l d k. row-of-as _ _ _ _ (head-column-not _ _ l d k _ c.requires.fact_2 _ _ other-words c.head-k.ensures c.if-k-eq1.true c.if-n-eq2.false c.if-n-ne3.true) (c.wrong-then-n-ne3.ensures _)
 
 pub qualified-requires : goal.qualified-requires
-qualified-requires c = record { fact_1 = inside-field _ _ _ c.requires.fact_2 1 c.requires.fact_1.0 c.requires.fact_1.1 (omega arith); fact_2 = inside-field _ _ _ c.requires.fact_2 2 c.requires.fact_1.0 c.requires.fact_1.1 (omega arith); }
+qualified-requires c = record { fact_1 = inside-field _ _ _ c.requires.fact_2 1 c.requires.fact_1.0 c.requires.fact_1.1 (omega arith); fact_2 = inside-field _ _ _ c.requires.fact_2 2 c.requires.fact_1.0 c.requires.fact_1.1 (omega arith) }
 
 pub returns-then-k-eq1 : goal.returns-then-k-eq1
 unfolding bytes

@@ -2,7 +2,6 @@
 use mathlib.Core.Path.{refl}
 use Rattle.read_expression.specs.RowOf.{row-of-as}
 use Rattle.read_expression.specs.Literals.{row-none, row-some}
-use borrow.Author.Rules.{rules}
 use Rattle.read_expression.proofs.heads.literal_row.Goals as goal
 
 pub returns-then-v-eq0 : goal.returns-then-v-eq0

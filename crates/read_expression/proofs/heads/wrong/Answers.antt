@@ -3,7 +3,6 @@ use native.Mathlib.Omega.{arith}
 use mathlib.Core.Path.{sym}
 use Rattle.read_expression.specs.Encode.{head_numbers, arity}
 use Rattle.read_expression.specs.Fits.{HeadFits}
-use borrow.Author.Rules.{rules}
 use Rattle.read_expression.proofs.heads.wrong.Goals as goal
 
 pub returns : goal.returns

@@ -1,13 +1,10 @@
 -- `reading::read_deep` and `reading::read_times`: the depth falls with each expression inside another; what is read so far, put before
 -- what the rest reads, is what the whole reads.
-use Prim.Native.Nat.{ℕ, ◌+◌, ◌*◌, ◌<◌}
 use native.Mathlib.Omega.{arith}
-use borrow.Author.Rules.{rules}
-use Rattle.rules.specs.ReadExpression.{deep}
 use mathlib.Core.Path.{◌∙◌}
 use Rattle.read_expression.specs.Given.{given-done}
 use Rattle.read_expression.specs.Rows.{rows-length}
-use Rattle.read_expression.specs.ExpressionRuns.{Loop, loop-start, loop-length, loop-end, loop-wrong, loop-limit, loop-on, no_record, no_room, too-deep, operands-position, operands-wrong, operands-limit, deep-done, deep_is, leaf-done}
+use Rattle.read_expression.specs.ExpressionRuns.{loop-start, loop-length, loop-end, loop-wrong, loop-limit, loop-on, no_record, no_room, too-deep, operands-position, operands-wrong, operands-limit, deep-done, deep_is, leaf-done}
 use Rattle.read_expression.proofs.reading.+read_deep_read_times.Goals as goal
 
 pub read_deep-returns-then-h-eq-WRONG : goal.read_deep-returns-then-h-eq-WRONG
@@ -29,7 +26,7 @@ pub read_deep-read_times-r-requires : goal.read_deep-read_times-r-requires
 read_deep-read_times-r-requires t c = (omega (arith, c.if-depth-eq0.false), (operands-position c.requires.0 c.head-h.ensures c.if-h-eq-WRONG.false (omega (arith, c.if-c-ge-STATEMENT_ROWS.false)) c.fields-f.ensures.next, (omega (arith, c.requires.1.0), (c.head-h.ensures 0 0 0).small, c.requires.1.1)))
 
 pub read_deep-read_is-requires : goal.read_deep-read_is-requires
-read_deep-read_is-requires t c = let w = (given-done _ _ _ _ _ _ 0 _ _ _ (c.read_times-r.ensures 0) c.in-Done.is) in record { fact_1 = w.position; fact_2 = (omega (arith, w.more), rows-length w.holds ∙ c.requires.1.1); }
+read_deep-read_is-requires t c = let w = (given-done _ _ _ _ _ _ 0 _ _ _ (c.read_times-r.ensures 0) c.in-Done.is) in record { fact_1 = w.position; fact_2 = (omega (arith, w.more), rows-length w.holds ∙ c.requires.1.1) }
 
 pub read_deep-returns-then-h-eq-IS : goal.read_deep-returns-then-h-eq-IS
 read_deep-returns-then-h-eq-IS t c = λ k. deep_is _ _ _ k c.head-h.ensures _ c.if-h-eq-WRONG.false (omega (arith, c.if-c-ge-STATEMENT_ROWS.false)) c.if-depth-eq0.false c.fields-f.ensures.next _ _ (c.read_times-r.ensures k) _ _ _ c.in-Done.is c.if-h-eq-IS.true _ _ (c.read_is.ensures k)

@@ -1,13 +1,8 @@
 -- `reading::read_deep` and `reading::read_times`: the depth falls with each expression inside another; what is read so far, put before
 -- what the rest reads, is what the whole reads.
-use Prim.Native.Nat.{ℕ, ◌+◌, ◌*◌, ◌<◌}
-use native.Mathlib.Omega.{arith}
-use borrow.Author.Rules.{rules}
+use Prim.Native.Nat.{ℕ, ◌+◌, ◌*◌}
 use Rattle.rules.specs.ReadExpression.{deep}
-use mathlib.Core.Path.{◌∙◌}
-use Rattle.read_expression.specs.Given.{given-done}
-use Rattle.read_expression.specs.Rows.{rows-length}
-use Rattle.read_expression.specs.ExpressionRuns.{Loop, loop-start, loop-length, loop-end, loop-wrong, loop-limit, loop-on, no_record, no_room, too-deep, operands-position, operands-wrong, operands-limit, deep-done, deep_is, leaf-done}
+use Rattle.read_expression.specs.ExpressionRuns.{Loop}
 use Rattle.read_expression.proofs.reading.+read_deep_read_times.Given as goal
 
 abbrev pub decreases-read_deep : goal.decreases-read_deep

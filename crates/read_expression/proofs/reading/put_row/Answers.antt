@@ -1,7 +1,6 @@
 -- `reading::put_row`: eight stores one behind the other are the row.
 use native.Mathlib.Omega.{arith}
 use lib.ListN.{length-set}
-use borrow.Author.Rules.{rules}
 use Rattle.numbers.specs.Stores.{eight-stores}
 use Rattle.read_expression.proofs.reading.put_row.Goals as goal
 

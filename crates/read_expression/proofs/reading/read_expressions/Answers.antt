@@ -1,5 +1,4 @@
 -- `reading::read_expressions`: expressions at most 32 deep.
-use borrow.Author.Rules.{rules}
 use Rattle.rules.specs.ReadExpression.{expression}
 use Rattle.read_expression.proofs.reading.read_expressions.Goals as goal
 

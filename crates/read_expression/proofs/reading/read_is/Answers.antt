@@ -1,5 +1,4 @@
 -- `reading::read_is`: the literal and the row of an `is`.
-use borrow.Author.Rules.{rules}
 use Rattle.read_expression.specs.ExpressionRuns.{is-row-wrong, is_row}
 use Rattle.read_expression.proofs.reading.read_is.Goals as goal
 

@@ -1,6 +1,5 @@
 -- `starred::put_starred`: nothing is stored, or the row's eight numbers.
 use mathlib.Core.Path.{sym, ◌∙◌}
-use borrow.Author.Rules.{rules}
 use Rattle.read_expression.specs.Starred.{starred_numbers, starred-past, starred-short, starred-is}
 use Rattle.read_expression.proofs.starred.put_starred.Goals as goal
 
@@ -13,5 +12,5 @@ returns-then-cells-ne-TABLE_SIZE c = starred-short _ _ _ _ _ _ _ c.if-k-ge-STARR
 pub returns : goal.returns
 unfolding starred_numbers
 returns c = let called = c in
-  called.put_row.ensures
-  ∙ sym (starred-is _ _ _ _ _ _ _ called.if-k-ge-STARRED_ROWS.false called.if-cells-ne-TABLE_SIZE.false)
+    called.put_row.ensures
+    ∙ sym (starred-is _ _ _ _ _ _ _ called.if-k-ge-STARRED_ROWS.false called.if-cells-ne-TABLE_SIZE.false)

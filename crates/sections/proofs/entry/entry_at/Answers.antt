@@ -1,7 +1,6 @@
 -- `entry::entry_at`: where the entry starts.
 use native.Mathlib.Omega.{arith}
 use mathlib.Core.Path.{◌∙◌}
-use borrow.Author.Rules.{rules}
 use Rattle.sections.specs.Access.{start_small, numbers-start}
 use Rattle.sections.proofs.entry.entry_at.Goals as goal
 
@@ -10,7 +9,7 @@ overflow_add-i c = record { fits = omega (arith, c.start.ensures, start_small c.
 
 pub overflow_add-i-2 : goal.overflow_add-i-2
 overflow_add-i-2 c = record {
- fits = omega (arith, c.start.ensures, start_small c.args.kind, c.ranges.k);
+  fits = omega (arith, c.start.ensures, start_small c.args.kind, c.ranges.k);
 }
 
 pub numbers_from-requires : goal.numbers_from-requires

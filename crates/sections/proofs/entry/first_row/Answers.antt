@@ -1,6 +1,5 @@
 -- `entry::first_row`: none, or the first of some.
 use mathlib.Core.Path.{sym}
-use borrow.Author.Rules.{rules}
 use Rattle.sections.specs.Expressions.{first-none, first_some}
 use Rattle.sections.proofs.entry.first_row.Goals as goal
 

@@ -1,6 +1,5 @@
 -- `entry::start`: the table of the layout, and 0 behind it.
 use mathlib.Core.Path.{sym}
-use borrow.Author.Rules.{rules}
 use Rattle.sections.specs.Access.{start-past}
 use Rattle.sections.proofs.entry.start.Goals as goal
 

@@ -1,6 +1,5 @@
 -- `access::if_exists`: the flag is 1.
 use mathlib.Core.Path.{ap}
-use borrow.Author.Rules.{rules}
 use Rattle.numbers.specs.Values.{is_one}
 use Rattle.statement.proofs.access.if_exists.Goals as goal
 

@@ -1,5 +1,4 @@
 -- `access::kind_of`, by the kind's number.
-use borrow.Author.Rules.{rules}
 use Rattle.numbers.specs.Codes.{coded}
 use Rattle.statement.specs.Access.{kind_of, kind-by, kind-rest}
 use Rattle.statement.proofs.access.kind_of.Goals as goal
@@ -30,4 +29,4 @@ returns-in-6 c = kind-by _ _ _ c.number-k.ensures (rw c.in-6.is)
 
 pub returns-in_default : goal.returns-in_default
 returns-in_default c = kind-by _ _ _ c.number-k.ensures
-  (kind-rest _ c.in_default.in_default-own.rest.0.0.0.0.0.1 c.in_default.in_default-own.rest.0.0.0.0.1 c.in_default.in_default-own.rest.0.0.0.1 c.in_default.in_default-own.rest.0.0.1 c.in_default.in_default-own.rest.0.1 c.in_default.in_default-own.rest.1)
+    (kind-rest _ c.in_default.in_default-own.rest.0.0.0.0.0.1 c.in_default.in_default-own.rest.0.0.0.0.1 c.in_default.in_default-own.rest.0.0.0.1 c.in_default.in_default-own.rest.0.0.1 c.in_default.in_default-own.rest.0.1 c.in_default.in_default-own.rest.1)

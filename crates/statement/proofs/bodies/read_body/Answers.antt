@@ -1,5 +1,4 @@
 -- `read_body`: by the kind.
-use borrow.Author.Rules.{rules}
 use Rattle.numbers.specs.Codes.{coded}
 use Rattle.statement.specs.FirstRecord.{head_of}
 use Rattle.statement.specs.BodyReads.{delete-read, create-read, no_body}

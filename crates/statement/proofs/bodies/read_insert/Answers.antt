@@ -2,16 +2,15 @@
 use native.Mathlib.Omega.{arith}
 use mathlib.Core.Path.{◌∙◌}
 use mathlib.Core.List.{[]}
-use borrow.Author.Rules.{rules}
 use Rattle.statement.specs.Answers.{given-done}
 use Rattle.statement.specs.InsertReads.{insert-wrong, insert-limit, insert-names-wrong, insert-names-limit, names-position, insert-read}
 use Rattle.statement.proofs.bodies.read_insert.Goals as goal
 
 pub read_names-b-requires : goal.read_names-b-requires
-read_names-b-requires c = record { fact_1 = (given-done _ _ _ _ _ _ _ _ (c.read_section-a.ensures 0) c.in-Done.is).position; fact_2 = (c.read_section-a.auto.cells ∙ c.requires.fact_2.0, c.read_section-a.auto.parts ∙ c.requires.fact_2.1); }
+read_names-b-requires c = record { fact_1 = (given-done _ _ _ _ _ _ _ _ (c.read_section-a.ensures 0) c.in-Done.is).position; fact_2 = (c.read_section-a.auto.cells ∙ c.requires.fact_2.0, c.read_section-a.auto.parts ∙ c.requires.fact_2.1) }
 
 pub read_some-requires : goal.read_some-requires
-read_some-requires c = record { fact_1 = names-position _ (record { bytes = []; start = 0 }) _ _ _ [] _ _ _ (c.read_section-a.ensures 0) _ _ _ c.in-Done.is _ _ _ c.read_names-b.ensures _ _ _ c.in-Done-b.is; fact_2 = (omega arith, c.read_names-b.auto.cells ∙ c.read_section-a.auto.cells ∙ c.requires.fact_2.0, c.read_names-b.auto.parts ∙ c.read_section-a.auto.parts ∙ c.requires.fact_2.1); }
+read_some-requires c = record { fact_1 = names-position _ (record { bytes = []; start = 0 }) _ _ _ [] _ _ _ (c.read_section-a.ensures 0) _ _ _ c.in-Done.is _ _ _ c.read_names-b.ensures _ _ _ c.in-Done-b.is; fact_2 = (omega arith, c.read_names-b.auto.cells ∙ c.read_section-a.auto.cells ∙ c.requires.fact_2.0, c.read_names-b.auto.parts ∙ c.read_section-a.auto.parts ∙ c.requires.fact_2.1) }
 
 pub returns-in-Wrong : goal.returns-in-Wrong
 returns-in-Wrong c = λ n froms. insert-wrong _ n _ _ _ froms _ _ _ (c.read_section-a.ensures 0) _ c.in-Wrong.is

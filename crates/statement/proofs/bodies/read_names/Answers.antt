@@ -1,5 +1,4 @@
 -- `read_names`: none, or the section of the names.
-use borrow.Author.Rules.{rules}
 use Rattle.statement.specs.InsertReads.{names-none, names-some}
 use Rattle.statement.proofs.bodies.read_names.Goals as goal
 

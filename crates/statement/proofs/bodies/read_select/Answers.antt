@@ -2,13 +2,12 @@
 use native.Mathlib.Omega.{arith}
 use mathlib.Core.Path.{◌∙◌}
 use lib.ListN.{length-set}
-use borrow.Author.Rules.{rules}
 use Rattle.statement.specs.Answers.{given-done}
 use Rattle.statement.specs.SelectReads.{select-wrong, select-limit, select-from-wrong, select-from-limit, from-took, select_read}
 use Rattle.statement.proofs.bodies.read_select.Goals as goal
 
 pub read_froms-f-requires : goal.read_froms-f-requires
-read_froms-f-requires c = record { fact_1 = (given-done _ _ _ _ _ _ _ _ (c.read_some-i.ensures 0) c.in-Done.is).position; fact_2 = (c.read_some-i.auto.cells ∙ c.requires.fact_2.rows, c.requires.fact_2.from-rows); }
+read_froms-f-requires c = record { fact_1 = (given-done _ _ _ _ _ _ _ _ (c.read_some-i.ensures 0) c.in-Done.is).position; fact_2 = (c.read_some-i.auto.cells ∙ c.requires.fact_2.rows, c.requires.fact_2.from-rows) }
 
 pub read_run-r-requires : goal.read_run-r-requires
 read_run-r-requires c = ((from-took _ _ _ _ _ _ _ (c.read_some-i.ensures 0) _ _ _ c.in-Done.is _ _ _ c.read_froms-f.ensures _ _ _ _ c.in-Done-f.is).position, (omega arith, omega arith, c.read_froms-f.auto.cells ∙ c.read_some-i.auto.cells ∙ c.requires.fact_2.rows, c.read_some-i.auto.parts ∙ c.requires.fact_2.numbers))

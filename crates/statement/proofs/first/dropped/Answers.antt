@@ -1,8 +1,6 @@
 -- `dropped`: a name and an answer, or none.
 use native.Mathlib.Omega.{arith}
 use mathlib.Core.Path.{refl, sym, ◌∙◌}
-use borrow.Author.Tests.{not-true, not-false}
-use borrow.Author.Rules.{rules}
 use Rattle.rules.specs.Lines.{bytes}
 use Rattle.statement.specs.FirstRecord.{drop-unnamed, drop-unanswered, drop-some}
 use Rattle.statement.proofs.first.dropped.Goals as goal

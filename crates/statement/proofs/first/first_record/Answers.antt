@@ -1,7 +1,6 @@
 -- `first_record`: by the keyword and the number of fields.
 use native.Mathlib.Omega.{arith}
 use mathlib.Core.Path.{sym, ◌∙◌}
-use borrow.Author.Rules.{rules}
 use Rattle.rules.specs.Lines.{bytes}
 use Rattle.statement.specs.FirstRecord.{first_words, said-select, said-other, first-inside, first-none, first-select, first-select-not, first-other, first-other-not, first-drop, first-drop-not, first-named, first-named-not}
 use Rattle.statement.proofs.first.first_record.Goals as goal
@@ -42,7 +41,7 @@ unfolding bytes first_words
 returns-then-n-ne2 c = λ b. c.wrong-then-n-ne2.ensures b _ ∙ sym (first-named-not _ _ c.requires.fact_2 _ c.which-k.ensures (omega (arith, c.if-k-eq0.false)) (omega (arith, c.if-k-ge7.false, c.if-k-eq6.false, c.if-k-eq5.false)) c.if-n-ne2.true)
 
 pub named-requires : goal.named-requires
-named-requires c = record { fact_1 = first-inside _ _ c.requires.fact_2 1 c.requires.fact_1 (omega (arith, c.if-n-ne2.false)); fact_2 = ((omega (arith, c.if-k-eq0.false)), (omega (arith, c.if-k-ge7.false, c.if-k-eq6.false, c.if-k-eq5.false))); }
+named-requires c = record { fact_1 = first-inside _ _ c.requires.fact_2 1 c.requires.fact_1 (omega (arith, c.if-n-ne2.false)); fact_2 = ((omega (arith, c.if-k-eq0.false)), (omega (arith, c.if-k-ge7.false, c.if-k-eq6.false, c.if-k-eq5.false))) }
 
 pub returns : goal.returns
 unfolding bytes first_words

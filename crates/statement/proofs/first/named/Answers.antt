@@ -1,7 +1,5 @@
 -- `named`: a name, or none.
 use mathlib.Core.Path.{refl, sym, ◌∙◌}
-use borrow.Author.Tests.{not-true, not-false}
-use borrow.Author.Rules.{rules}
 use Rattle.statement.specs.FirstRecord.{named_none, named_some}
 use Rattle.statement.proofs.first.named.Goals as goal
 

@@ -1,7 +1,6 @@
 -- `put_first`: five stores are one.
 use native.Mathlib.Omega.{arith}
 use lib.ListN.{length-set}
-use borrow.Author.Rules.{rules}
 use Rattle.statement.proofs.first.put_first.Goals as goal
 
 pub bounds-parts-1 : goal.bounds-parts-1

@@ -1,5 +1,4 @@
 -- `wrong`: the kind is 0.
-use borrow.Author.Rules.{rules}
 use Rattle.statement.specs.FirstRecord.{said-none}
 use Rattle.statement.proofs.first.wrong.Goals as goal
 
