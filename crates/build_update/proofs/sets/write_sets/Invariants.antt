@@ -1,0 +1,20 @@
+-- `sets::write_sets`: the sets so far.
+use Prim.Native.Nat.{ℕ, ◌-◌}
+use native.Mathlib.Omega.{arith}
+use mathlib.Core.Path.{◌∙◌}
+use lib.ListN.{take}
+use Rattle.schema.specs.Layout.{table_at}
+use Rattle.build_expression.specs.Builds.{scope_at}
+use Rattle.build_update.specs.SoFar.{sets_at, set_here_lem, sets-length, SoFar, so-far-none, so-far-step, so-far-stop, so-far-all}
+use Rattle.build_update.specs.SoFar.{area-kept, nodes-kept, number-room, set_room}
+use borrow.Author.Rules.{rules}
+use Rattle.build_update.proofs.sets.write_sets.Given as goal
+
+abbrev pub invariant-loop-v : goal.invariant-loop-v
+invariant-loop-v l =
+    (h : ℕ) → SoFar (scope_at l.catalog l.statement l.cells (take l.width l.labels) (take l.width l.matches) (take l.count l.names) h)
+    (table_at l.catalog l.statement l.tables l.i).columns (sets_at l.catalog l.statement l.cells l.parts) l.n l.k l.initial.area l.initial.nodes l.v l.m l.j l.area l.nodes
+
+abbrev pub decreases-loop-v : goal.decreases-loop-v
+decreases-loop-v l =
+    l.sets - l.v
