@@ -12,7 +12,6 @@ use Rattle.rules.specs.Plan.{Built, Node}
 use Rattle.rules.specs.Cells.{Cell}
 use Rattle.rules.specs.Nodes.{NodeRecord, filter}
 use Rattle.rules.specs.Area.{record_numbers}
-use Rattle.rules.specs.Scope as rules
 use Rattle.rules.specs.BuildExpression.{build_option, clause_expr}
 use Rattle.rules.specs.BuildSelect.{filtered, build_where, build_having}
 use Rattle.rules.specs.Sizes.{option_size, clause_size}
