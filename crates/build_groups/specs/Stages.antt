@@ -5,7 +5,7 @@ use Rattle.std.proofs.Math.Numerals.{sub-one}
 use Rattle.std.specs.Prelude.{◌≡◌, refl, true, false, List, [], ◌∷◌, ◌++◌, map, length, take}
 use Rattle.std.proofs.lemmas.Bool.{false≢true}
 use Rattle.std.proofs.lemmas.List.{length-map}
-use Rattle.rules.specs.Refusals.{Answer, refused, ◌>>=◌}
+use Rattle.rules.specs.Refusals.{Answer, ◌>>=◌}
 use Rattle.rules.specs.Limits.{most_columns, most_entries, most_cells}
 use Rattle.rules.specs.Lists.{Bytes, is_empty}
 use Rattle.rules.specs.Ast.{Expr, size}

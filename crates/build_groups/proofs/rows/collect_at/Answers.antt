@@ -1,0 +1,10 @@
+-- `rows::collect_at`: there is room for all rows.
+use Rattle.ast.specs.Collect.{collect_rows}
+use Rattle.build_groups.specs.Collects.{collected-rows, collected-full}
+use Rattle.build_groups.proofs.rows.collect_at.Goals as goal
+
+pub returns-in-Rows : goal.returns-in-Rows
+returns-in-Rows c = collected-rows _ _ _ c.collect-collected.ensures.value c.collect-collected.ensures.rows_after c.requires _ c.in-Rows.is
+
+pub returns-in-NoRoom : goal.returns-in-NoRoom
+returns-in-NoRoom c = collected-full (collect_rows c.args.catalog.now c.args.statement.now c.args.cells.now c.args.r) c.args.rows.now c.args.k c.collect-collected.ensures.value c.collect-collected.ensures.rows_after c.requires c.in-NoRoom.is
