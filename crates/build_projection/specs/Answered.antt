@@ -1,12 +1,12 @@
 -- What is answered for the items: all are listed, one is too many, or a star has no columns.
-use Rattle.std.specs.Prelude.{ℕ, zero, suc, ◌*◌, ◌≤◌, ◌≡◌, refl, Bool, ◌&&◌, List, [], ◌∷◌, ◌++◌, map, eqb, take}
+use Rattle.std.specs.Prelude.{ℕ, zero, suc, ◌≤◌, ◌≡◌, refl, Bool, ◌&&◌, List, [], ◌∷◌, map, eqb, take}
 use Rattle.std.proofs.Common.{arith, ◌∙◌, length-take-le, eq-eqb, ne_eqb}
 use Rattle.std.proofs.Math.Path.{sym, ap}
 use Rattle.std.proofs.Math.Bool.{false, not}
 use Rattle.std.proofs.Math.Option.{none, some}
 use Rattle.std.proofs.Math.ListN.{length, get_or}
 use Rattle.std.proofs.lemmas.List.{length-map}
-use Rattle.rules.specs.Refusals.{Answer, ok, refuse, refusal_number, limit_passed, star_without_from, ◌>>=◌}
+use Rattle.rules.specs.Refusals.{Answer, ok, refuse, refusal_number, limit_passed, star_without_from}
 use Rattle.rules.specs.Limits.{most_columns}
 use Rattle.rules.specs.Lists.{Bytes, is_empty, is_some}
 use Rattle.rules.specs.Ast.{Item, Select}

@@ -2,12 +2,12 @@
 use Rattle.std.specs.Prelude.{ℕ, suc, ◌+◌, ◌≤◌, ◌<◌, ◌≡◌, Bool, true, false, ◌&&◌, ltb, eqb, get_or, drop}
 use Rattle.std.proofs.Common.{arith, add-one, ◌∙◌, drop_of_length-le}
 use Rattle.std.proofs.Math.Path.{refl, sym, ap}
-use mathlib.Core.List.{List, [], ◌∷◌, ◌++◌}
+use mathlib.Core.List.{List, [], ◌∷◌}
 use Rattle.std.proofs.Math.Option.{Option, none, some}
 use Rattle.std.proofs.Math.ListN.{length}
 use borrow.Author.Tests.{lt-ltb, le-ltb, eq-eqb, ne_eqb}
 use Rattle.rules.specs.Lists.{Bytes, entry_after}
-use Rattle.rules.specs.Ast.{Expr, star, column, is, Item}
+use Rattle.rules.specs.Ast.{Expr, Item}
 use Rattle.rules.specs.Lines.{Word}
 use Rattle.rules.specs.Views.{as_star}
 use Rattle.rules.specs.Items.{plain_star}

@@ -7,7 +7,6 @@ use Rattle.std.proofs.Math.Seq.{length-sets}
 use Rattle.std.proofs.lemmas.Bool.{eqb-false}
 use Rattle.rules.specs.Lists.{Bytes}
 use Rattle.rules.specs.Ast.{column, line_of, Item}
-use Rattle.rules.specs.Plan.{qualified}
 use Rattle.rules.specs.Items.{starred_column}
 use Rattle.claims.specs.Answers.{All}
 use Rattle.claims.specs.Refused.Qualified.{IsQualified}

@@ -1,0 +1,16 @@
+-- `items::list_item`: an entry's number, or the rows of its star's columns, where there is room for them.
+use native.Mathlib.Omega.{arith}
+use Rattle.build_projection.specs.Steps.{entry-limit, entry_listed, star-limit, star-listed}
+use Rattle.build_projection.proofs.items.list_item.Goals as goal
+
+pub returns-then-n-ge-COLUMNS : goal.returns-then-n-ge-COLUMNS
+returns-then-n-ge-COLUMNS c = rw c.in-Missing.is (entry-limit _ _ _ _ _ _ _ _ c.if-n-ge-COLUMNS.true)
+
+pub returns-then-left-labels : goal.returns-then-left-labels
+returns-then-left-labels c = rw c.in-At.is (star-limit _ _ _ _ _ _ _ _ _ (omega arith))
+
+pub returns-else-n-ge-COLUMNS : goal.returns-else-n-ge-COLUMNS
+returns-else-n-ge-COLUMNS c = rw c.in-Missing.is (entry_listed _ _ _ _ _ _ _ _ (omega arith))
+
+pub returns-else-left-labels : goal.returns-else-left-labels
+returns-else-left-labels c = rw c.in-At.is (star-listed _ _ _ _ _ _ _ _ _ _ _ (omega arith) c.put_columns.ensures c.put_rows.ensures)
