@@ -1,0 +1,21 @@
+-- `later::order_rows`: the rows of the keys so far, and the keys that are left.
+use Rattle.build_hidden.specs.Later.{keys-begin, keys-fits, keys-more, keys-end}
+use Rattle.build_hidden.proofs.later.order_rows.Goals as goal
+
+pub loop-k-init : goal.loop-k-init
+loop-k-init c = keys-begin c.requires
+
+pub visit_rows-walked-requires : goal.visit_rows-walked-requires
+visit_rows-walked-requires c = keys-fits c.requires c.loop-k.invariant _ c.count-total.ensures c.loop-k-test.true
+    c.entry_at-e.ensures c.first_row.ensures
+
+pub loop-k-preserved : goal.loop-k-preserved
+loop-k-preserved c = keys-more c.requires c.loop-k.invariant _ c.count-total.ensures c.loop-k-test.true
+    c.entry_at-e.ensures c.first_row.ensures
+    c.visit_rows-walked.ensures
+
+pub shape_of-rows : goal.shape_of-rows
+shape_of-rows c = c.loop-k.invariant.appended.all
+
+pub returns : goal.returns
+returns c = keys-end c.requires c.loop-k.invariant _ c.count-total.ensures c.loop-k-test.false
