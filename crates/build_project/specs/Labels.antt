@@ -13,7 +13,6 @@ use Rattle.rules.specs.Lines.{Word}
 use Rattle.rules.specs.Places.{bytes_at, word_at}
 use Rattle.rules.specs.Area.{span, option_span}
 use Rattle.rules.specs.Ast.{Item}
-use Rattle.rules.specs.Scope as rules
 use Rattle.rules.specs.Scope.{item_label}
 use Rattle.claims.specs.Answers.{All, Given}
 use Rattle.text.specs.Places.{bytes-catalog, bytes-statement}

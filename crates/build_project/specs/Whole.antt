@@ -4,7 +4,7 @@ use Rattle.std.proofs.Common.{arith, sub-one, sym, ap, ◌∙◌, append_assoc}
 use Rattle.std.proofs.Math.Path.{refl}
 use Rattle.std.proofs.Math.Option.{Option}
 use Rattle.std.proofs.lemmas.List.{length-map}
-use Rattle.rules.specs.Refusals.{Answer, ok, refused, limit_passed}
+use Rattle.rules.specs.Refusals.{Answer, ok, limit_passed}
 use Rattle.rules.specs.Lists.{Bytes}
 use Rattle.rules.specs.Lines.{Word}
 use Rattle.rules.specs.Ast.{Item, size}
