@@ -1,0 +1,15 @@
+-- `planner_plan`: a short area is untouched; else both texts are planned, with enough numbers for the catalog.
+use native.Mathlib.Omega.{arith}
+use mathlib.Core.Path.{refl}
+use Rattle.planner.specs.Outcomes.{entry-short, entry-long}
+use borrow.Author.Rules.{rules}
+use Rattle.planner.proofs.planner_plan.Goals as goal
+
+pub returns-then-area-lt-LEAST_AREA : goal.returns-then-area-lt-LEAST_AREA
+returns-then-area-lt-LEAST_AREA c = entry-short _ _ _ c.if-area-lt-LEAST_AREA.true refl refl refl refl
+
+pub returns-then-numbers_for-le-SMALL_NUMBERS : goal.returns-then-numbers_for-le-SMALL_NUMBERS
+returns-then-numbers_for-le-SMALL_NUMBERS c = entry-long _ _ _ (omega (arith, c.if-area-lt-LEAST_AREA.false)) c.plan_with.ensures
+
+pub returns : goal.returns
+returns c = entry-long _ _ _ (omega (arith, c.if-area-lt-LEAST_AREA.false)) c.plan_with-2.ensures
