@@ -15,7 +15,7 @@ use Rattle.ast.specs.Table.{rows_at, root_at}
 use Rattle.ast.specs.Operands.{operands_at}
 use Rattle.ast.specs.Walk.{is_aggregate_call}
 use Rattle.ast.specs.Collect.{rows_of, collect_by, collect_rows, collected}
-use Rattle.ast.specs.Trees.{rows-at}
+use Rattle.ast.proofs.Trees.{rows-at}
 use Rattle.ast.specs.declared.walk.Collected.{Collected}
 use Rattle.ast.specs.declared.walk.Collected.TheVariants.{Rows, NoRoom}
 

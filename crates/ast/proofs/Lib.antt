@@ -1,4 +1,5 @@
 -- Laws that the proofs of several functions use.
+pub mod Trees
 mod Equal
 mod Literals
 mod Roots

@@ -6,5 +6,4 @@ pub mod Aggregates
 pub mod Walk
 pub mod Visits
 pub mod Collect
-pub mod Trees
 pub mod Names

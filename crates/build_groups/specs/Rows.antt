@@ -14,7 +14,7 @@ use Rattle.rules.specs.BuildSelect.{later_of, functions_of}
 use Rattle.appends.specs.Scopes.Stars.{collect_each-append}
 use Rattle.ast.specs.Table.{tree_at}
 use Rattle.ast.specs.Collect.{collect_rows}
-use Rattle.ast.specs.Trees.{collect-trees}
+use Rattle.ast.proofs.Trees.{collect-trees}
 use Rattle.scope.specs.Scopes.{up_to}
 use Rattle.entries.specs.Entries.{Entry}
 use Rattle.sections.specs.Layout.{start_of, section_at}

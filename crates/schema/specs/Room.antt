@@ -9,7 +9,7 @@ use Rattle.rules.specs.Refusals.{catalog}
 use Rattle.rules.specs.Lists.{Bytes, same, named, map_option}
 use Rattle.rules.specs.Lines.{Word, bytes, fields, line_size, onto, empty}
 use Rattle.rules.specs.Schema.{Value, null, Datatype}
-use Rattle.rules.specs.Reader.{line_here, at, key, key_of, rest, rest_of, name, word, no_field, one_field, one_of, apply, literals}
+use Rattle.rules.specs.Reader.{line_here, at, key, key_of, rest, rest_of, name, word, no_field, one_field, apply, literals}
 use Rattle.rules.specs.ReadColumn.{column_fields, datatypes, nullables, ◌>>=◌}
 use Rattle.rules.specs.ReadCatalog.{default_records}
 use Rattle.text.specs.Lines.{line_end}
@@ -42,17 +42,17 @@ never : {A : Type 0} {a : A} → none ≡ some a → ⊥
 never e = let z : ◌≡◌ {A = ℕ} 0 1 = cc in omega arith
 
 -- the bytes of some fields, each with the tab or LF behind it
-unfoldable field_bytes : List Word → ℕ
+unfoldable pub field_bytes : List Word → ℕ
 field_bytes [] = 0
 field_bytes (w ∷ r) = suc (length w.bytes) + field_bytes r
 
-unfoldable last_length : List Word → ℕ
+unfoldable pub last_length : List Word → ℕ
 last_length [] = 0
 last_length (w ∷ []) = length w.bytes
 last_length (w ∷ (v ∷ r)) = last_length (v ∷ r)
 
 -- the fields of a line that has its LF: where the text ends first, two empty ones stand behind the last
-abbrev Closed : List Word → Type 0
+abbrev pub Closed : List Word → Type 0
 Closed r = 3 ≤ length r → 1 ≤ last_length r
 
 -- such a line has at least the bytes of its fields
@@ -77,7 +77,7 @@ line-least o (x ∷ xs) = go (eqb x 10) (eqb x 9) refl refl (fields (suc o) xs) 
         rw (fields, line_size, e, f, h) (omega arith, λ k. omega (arith, i k))
 
 -- the same of the line at p
-line-size : (t : Bytes) (p l m : ℕ) → Closed (line_here (here t p l)) → m ≤ field_bytes (line_here (here t p l)) → p + m ≤ line_end t p
+pub line-size : (t : Bytes) (p l m : ℕ) → Closed (line_here (here t p l)) → m ≤ field_bytes (line_here (here t p l)) → p + m ≤ line_end t p
 unfolding line_end
 line-size t p l m h g =
     let e = place-line catalog t p l 0 0 in
@@ -146,14 +146,14 @@ column-bytes t p l h e = go (at (bytes "column") (here t p l)) refl
 
 -- THE DEFAULT'S LINE
 -- what follows a word of n bytes is at most one field, and with that field's tab there are four bytes
-abbrev Follows : ℕ → List Word → Type 0
+abbrev pub Follows : ℕ → List Word → Type 0
 Follows n r = (length r ≤ 1) × (4 ≤ n + length r)
 
-unfoldable Short : {A : Type 0} → List (Bytes × (List Word → Option A)) → Type 0
+unfoldable pub Short : {A : Type 0} → List (Bytes × (List Word → Option A)) → Type 0
 Short [] = Unit
 Short {A} (e ∷ es) = ((r : List Word) (a : A) → e.1 r ≡ some a → Follows (length e.0) r) × Short es
 
-named-short : {A : Type 0} (table : List (Bytes × (List Word → Option A))) (k : Bytes) (r : List Word) (a : A) → Short table → apply (named table k) r ≡ some a
+pub named-short : {A : Type 0} (table : List (Bytes × (List Word → Option A))) (k : Bytes) (r : List Word) (a : A) → Short table → apply (named table k) r ≡ some a
     → Follows (length k) r
 unfolding named apply Short
 named-short [] k r a g h = absurd (never h)
@@ -180,7 +180,7 @@ module _ (n : ℕ) where
   value-short m f (w ∷ []) a h = (omega arith, omega arith)
   value-short m f (w ∷ (v ∷ r)) a h = absurd (never h)
 
-default-short : Short (default_records literals)
+pub default-short : Short (default_records literals)
 unfolding Short default_records literals bytes
 default-short = (
   null-short 4 (omega arith),
@@ -196,17 +196,7 @@ default-short = (
   ),
 )
 
-field-most : (r : List Word) → length r ≤ field_bytes r
+pub field-most : (r : List Word) → length r ≤ field_bytes r
 unfolding field_bytes
 field-most [] = omega arith
 field-most (w ∷ r) = omega (arith, field-most r)
-
-default-least : (r : List Word) (d : Option Value) → one_of (default_records literals) r ≡ some d → Closed r × (least_default ≤ field_bytes r)
-unfolding one_of key_of rest_of field_bytes
-default-least [] d h = let g = named-short (default_records literals) [] [] d default-short h in absurd (omega (arith, g.1))
-default-least (w ∷ r) d h =
-    let g = named-short (default_records literals) w.bytes r d default-short h in
-    (λ l. absurd (omega (arith, g.0)), omega (arith, g.1, field-most r))
-
-pub default-bytes : (t : Bytes) (p l : ℕ) (d : Option Value) → one_of (default_records literals) (line_here (here t p l)) ≡ some d → p + least_default ≤ line_end t p
-default-bytes t p l d h = let g = default-least (line_here (here t p l)) d h in line-size t p l least_default g.0 g.1

@@ -1,7 +1,7 @@
 -- `read_column`: the rest from here is this column and the rest behind it, or what ends the run.
 use native.Mathlib.Omega.{arith}
 use mathlib.Core.Path.{refl}
-use Rattle.schema.specs.Columns.{column-end, column-wrong, column-next, column-limit, column-default, column-room, column-read}
+use Rattle.schema.proofs.ColumnReads.{column-end, column-wrong, column-next, column-limit, column-default, column-room, column-read}
 use Rattle.schema.proofs.read.read_column.Goals as goal
 
 pub returns-then-index-ge-MOST_TABLE_COLUMNS : goal.returns-then-index-ge-MOST_TABLE_COLUMNS
