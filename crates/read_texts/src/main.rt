@@ -1,16 +1,20 @@
 // Reads `catalog.txt` where it runs and a statement on standard input, and prints what was read or why it is refused.
 #![tactic(auto)]
 
-ghost use Rattle.std.specs.Prelude.{◌≤◌, length, take, ◌≡◌};
+ghost use Rattle.std.specs.Prelude.{◌≤◌, length, take, ◌≡◌, OnOk};
+ghost use Rattle.std.specs.Io.KnownBytes.{Appends};
 ghost use Rattle.io.specs.Counts.{IsPrefixLen};
 ghost use Rattle.schema.specs.Room.{numbers_for};
 ghost use Rattle.reader.specs.Texts.{read_texts};
 ghost use Rattle.read_texts.specs.Line.{printed};
 
-use input::{Input, SIZE};
+use anyhow::{Context, Result};
+use input::SIZE;
 use schema::NUMBERS;
 use schema::read::{SMALL_NUMBERS, numbers_for};
 use statement::{CELL_NUMBERS, FROM_NUMBERS, PART_NUMBERS};
+use std::fs::File;
+use std::io::Write;
 
 mod line; // line.rt: the line that is printed
 
@@ -40,32 +44,21 @@ fn answer(catalog: &[u8], statement: &[u8], out: &mut [u8; 64]) -> usize
     answer_with(catalog, statement, &mut tables, out)
 }
 
-fn print(catalog: &[u8], statement: &[u8]) {
+// Writes what was read or why it is refused.
+fn print<W: Write>(to: &mut W, catalog: &[u8], statement: &[u8]) -> std::io::Result<()>
+    ensures { OnOk result (Appends (W.contents to.old) (W.contents to.new)
+        (printed (read_texts catalog.now statement.now))) }
+{
     let mut out = [0u8; 64];
     let n = answer(catalog, statement, &mut out);
-    if !io::write_all(libc::STDOUT_FILENO, &out[..n]) {
-        os::fail(b"standard output");
-    }
+    to.write_all(&out[..n])
 }
 
-fn main() {
+fn main(rt: HostRuntime) -> Result<()> {
     let mut catalog = [0u8; SIZE];
-    let fd = os::open_read(b"catalog.txt");
-    if fd < 0 {
-        os::fail(b"catalog.txt");
-        return;
-    }
-    let c = input::read_text(fd, &mut catalog);
-    let Input::Bytes(n) = c else {
-        os::fail(b"catalog.txt");
-        return;
-    };
-    libc::close(fd);
+    let mut file = File::open(&rt, "catalog.txt").context("catalog.txt")?;
+    let n = input::read_text(&mut file, &mut catalog).context("catalog.txt")?;
     let mut statement = [0u8; SIZE];
-    let s = input::read_text(libc::STDIN_FILENO, &mut statement);
-    let Input::Bytes(m) = s else {
-        os::fail(b"standard input");
-        return;
-    };
-    print(&catalog[..n], &statement[..m]);
+    let m = input::read_text(&mut rt.stdin(), &mut statement).context("standard input")?;
+    print(&mut rt.stdout(), &catalog[..n], &statement[..m]).context("standard output")
 }

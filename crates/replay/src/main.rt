@@ -2,7 +2,7 @@
 // the answer on the list, byte for byte.
 #![tactic(auto)]
 
-ghost use Rattle.std.specs.Prelude.{◌≡◌, List, ℕ, ◌<◌, length};
+ghost use Rattle.std.specs.Prelude.{◌≡◌, List, ℕ, ◌<◌, length, IfOk};
 ghost use Rattle.rules.specs.Lists.{same};
 ghost use Rattle.rules.specs.Listing.{listing};
 ghost use Rattle.listing.specs.Listed.{Holds};
@@ -10,11 +10,14 @@ ghost use Rattle.input.specs.Input.{Within};
 ghost use Rattle.replay.specs.Cases.{case_at};
 ghost use Rattle.replay.specs.Replay.{Ready, Stepped, replayed};
 
+use anyhow::{Context, Result, bail};
 use answer_list::{Record, record_at};
-use input::Input;
 use listing::{Listed, WINDOW, Window};
 use plan_listing::list_plan;
 use planner::LEAST_AREA;
+use std::fs::File;
+use std::io;
+use std::io::{Read, Write};
 use text::{equal, part};
 
 // Room for the list, and for the byte that makes it too long.
@@ -71,18 +74,6 @@ fn case_at(list: &[u8], at: usize) -> Case
     Case::Differs(a + n)
 }
 
-// A line: words and a number.
-fn print(words: &[u8], n: usize) {
-    if io::write_all(libc::STDOUT_FILENO, words) {
-        if io::print_decimal(libc::STDOUT_FILENO, n as u64) {
-            if io::write_all(libc::STDOUT_FILENO, b"\n") {
-                return;
-            }
-        }
-    }
-    os::fail(b"standard output");
-}
-
 // How far the list is replayed: the position of the next case, how many cases there were, and how many agree.
 #[derive(Clone, Copy)]
 struct Progress {
@@ -92,28 +83,24 @@ struct Progress {
     damaged: bool,
 }
 
-// One case more. The number of a case that differs is printed.
+// One case more.
 fn step(list: &[u8], p: Progress) -> Progress
     requires { Ready list.now p }
     ensures { Stepped list.now p result }
 {
-    let case = case_at(list, p.at);
-    match case {
+    match case_at(list, p.at) {
         Case::Agrees(next) => Progress {
             at: next,
             cases: p.cases + 1,
             agree: p.agree + 1,
             damaged: false,
         },
-        Case::Differs(next) => {
-            print(b"differs: case ", p.cases + 1);
-            Progress {
-                at: next,
-                cases: p.cases + 1,
-                agree: p.agree,
-                damaged: false,
-            }
-        }
+        Case::Differs(next) => Progress {
+            at: next,
+            cases: p.cases + 1,
+            agree: p.agree,
+            damaged: false,
+        },
         Case::Damaged => Progress {
             at: list.len(),
             cases: p.cases,
@@ -123,9 +110,9 @@ fn step(list: &[u8], p: Progress) -> Progress
     }
 }
 
-// All cases of the list, to the first that is damaged.
-fn replay(list: &[u8]) -> Progress
-    ensures { result ≡ replayed list.now }
+// All cases of the list, to the first that is damaged. The number of a case that differs is written.
+fn replay<W: Write>(to: &mut W, list: &[u8]) -> io::Result<Progress>
+    ensures { IfOk result (λ p. p ≡ replayed list.now) }
 {
     let mut p = Progress {
         at: 0,
@@ -134,48 +121,43 @@ fn replay(list: &[u8]) -> Progress
         damaged: false,
     };
     while p.at < list.len() {
+        let agree = p.agree;
         p = step(list, p);
+        if p.agree == agree && !p.damaged {
+            let n = p.cases;
+            writeln!(to, "differs: case {n}")?;
+        }
     }
-    p
+    Ok(p)
 }
 
-// Replays the list and prints what came of it.
-fn report(list: &[u8]) {
-    let p = replay(list);
+// Replays the list and writes what came of it.
+fn report<W: Write>(to: &mut W, list: &[u8]) -> io::Result<()> {
+    let p = replay(to, list)?;
+    let cases = p.cases;
+    let agree = p.agree;
     if p.damaged {
-        print(b"damaged behind case ", p.cases);
-        return;
+        return writeln!(to, "damaged behind case {cases}");
     }
-    if p.cases == 0 {
-        print(b"no cases: ", 0);
-        return;
+    if cases == 0 {
+        return writeln!(to, "no cases: 0");
     }
-    print(b"cases: ", p.cases);
-    print(b"agree: ", p.agree);
+    writeln!(to, "cases: {cases}")?;
+    writeln!(to, "agree: {agree}")
 }
 
-fn read_list(fd: i32, list: &mut List) -> Input
+fn read_list<R: Read>(from: &mut R, list: &mut List) -> io::Result<usize>
     ensures { Within list.new result }
 {
-    input::fill(fd, list)
+    input::fill(from, list)
 }
 
-fn main() {
+fn main(rt: HostRuntime) -> Result<()> {
     let mut list = [0u8; SIZE];
-    let fd = os::open_read(b"list.txt");
-    if fd < 0 {
-        os::fail(b"list.txt");
-        return;
-    }
-    let got = read_list(fd, &mut list);
-    let Input::Bytes(n) = got else {
-        os::fail(b"list.txt");
-        return;
-    };
-    libc::close(fd);
+    let mut file = File::open(&rt, "list.txt").context("list.txt")?;
+    let n = read_list(&mut file, &mut list).context("list.txt")?;
     if n == SIZE {
-        io::write_all(libc::STDERR_FILENO, b"list.txt: too long to be replayed\n");
-        return;
+        bail!("list.txt: too long to be replayed");
     }
-    report(&list[..n]);
+    report(&mut rt.stdout(), &list[..n]).context("standard output")
 }
