@@ -8,7 +8,7 @@ ghost use Rattle.rules.specs.Listing.{listing};
 ghost use Rattle.listing.specs.Listed.{Holds};
 ghost use Rattle.plan_listing.specs.Shown.{shown};
 ghost use Rattle.lines.specs.Spans.{nth_line};
-ghost use Rattle.query_plan.specs.Written.{window_of, shown_line, shown_record};
+ghost use Rattle.query_plan.specs.Written.{window_of, shown_line, shown_record, fault_record};
 
 use anyhow::{Context, Result};
 use input::SIZE;
@@ -97,7 +97,12 @@ fn show_line<W: Write>(to: &mut W, text: &[u8], n: u32) -> io::Result<()>
 }
 
 // Writes the record that a refusal points at, for whoever has to mend it.
-fn show_record<W: Write>(to: &mut W, catalog: &[u8], statement: &[u8], outcome: Outcome) -> io::Result<()>
+fn show_record<W: Write>(
+    to: &mut W,
+    catalog: &[u8],
+    statement: &[u8],
+    outcome: Outcome,
+) -> io::Result<()>
     ensures { OnOk result (Appends (W.contents to.old) (W.contents to.new)
         (shown_record catalog.now statement.now outcome)) }
 {
@@ -117,12 +122,16 @@ fn plan<'t, O: Write, E: Write>(
     catalog: &'t [u8],
     statement: &'t [u8],
 ) -> Result<()>
-    ensures { OnOk result (Appends (O.contents out.old) (O.contents out.new) (listing catalog.now statement.now)) }
+    ensures printed { OnOk result (Appends (O.contents out.old) (O.contents out.new)
+        (listing catalog.now statement.now)) }
+    ensures shown { OnOk result (Appends (E.contents errors.old) (E.contents errors.new)
+        (fault_record catalog.now statement.now)) }
 {
     let mut area = [0u32; LEAST_AREA];
     let outcome = planner_plan(catalog, statement, &mut area);
     print(out, catalog, statement, outcome, &area).context("standard output")?;
-    show_record(errors, catalog, statement, outcome).context("standard error")
+    show_record(errors, catalog, statement, outcome).context("standard error")?;
+    Ok(())
 }
 
 fn main(rt: HostRuntime) -> Result<()> {
