@@ -11,6 +11,8 @@ small n h = rw (lt-ltb n 10 h)
 
 spelled : (k f n : ℕ) (r : Bytes) → k < f → n < 10 ^ suc k → (1 ≤ k → 10 ^ k ≤ n) → digits_of f n r ≡ last_digits 10 (suc k) n ++ r
 unfolding digits_of
+spelled zero zero n r h g l = absurd (omega arith)
+spelled (suc k) zero n r h g l = absurd (omega arith)
 spelled zero (suc f) n r h g l =
     let x : n < 10 = g in
     rw (digits_of, lt-ltb n 10 x, mod-eq_of_lt x, small n x)

@@ -10,8 +10,8 @@ ghost use Rattle.input.specs.Input.{Within};
 ghost use Rattle.replay.specs.Cases.{case_at};
 ghost use Rattle.replay.specs.Replay.{Ready, Stepped, replayed};
 
-use anyhow::{Context, Result, bail};
 use answer_list::{Record, record_at};
+use anyhow::{Context, Result, bail};
 use listing::{Listed, WINDOW, Window};
 use plan_listing::list_plan;
 use planner::LEAST_AREA;
