@@ -1,0 +1,11 @@
+-- `list_plan`: the planner's outcome and area are shown as the rules' listing.
+use borrow.Author.Rules.{rules}
+use Rattle.plan_listing.specs.Shown.{planned-shown}
+use Rattle.plan_listing.proofs.list_plan.Goals as goal
+
+pub returns : goal.returns
+returns c = record {
+   listed = rw (planned-shown c.args.catalog.now c.args.statement.now c.args.area.now (search rules)
+     c.planner_plan-outcome.ensures) at c.list_outcome.ensures;
+   area-is = c.planner_plan-outcome.ensures.area-is;
+  }
