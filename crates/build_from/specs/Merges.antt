@@ -7,7 +7,7 @@ use Rattle.std.proofs.Common.{◌∙◌, length-take-le}
 use Rattle.std.proofs.Math.Bool.{true, false}
 use mathlib.Core.List.{List, [], ◌∷◌}
 use borrow.Author.Tests.{le-ltb, ltb-false}
-use Rattle.rules.specs.Refusals.{ok, refused, refuse, refuse_if, ◌>>=◌, ◌>>◌, refusal_number, limit_passed, duplicate_table}
+use Rattle.rules.specs.Refusals.{ok, refuse, refuse_if, ◌>>=◌, ◌>>◌, refusal_number, limit_passed, duplicate_table}
 use Rattle.rules.specs.Limits.{most_columns, most_from_tables}
 use Rattle.rules.specs.Lists.{Bytes, any}
 use Rattle.rules.specs.Lines.{Word}

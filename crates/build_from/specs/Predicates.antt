@@ -4,7 +4,7 @@ use Rattle.std.proofs.Common.{arith, ◌∙◌, append-nil}
 use Rattle.std.specs.Prelude.{◌≡◌, refl, List, [], ◌++◌, length, take}
 use Rattle.std.proofs.Math.Path.{sym}
 use Rattle.std.proofs.Math.Option.{Option, none, some}
-use Rattle.rules.specs.Refusals.{ok, refused}
+use Rattle.rules.specs.Refusals.{ok}
 use Rattle.rules.specs.Lists.{Bytes, concat}
 use Rattle.rules.specs.Ast.{Expr, size}
 use Rattle.rules.specs.Cells.{Cell}

@@ -1,5 +1,5 @@
 -- A table of FROM: found or not, its scope under its alias or its name, and its scan.
-use Rattle.std.specs.Prelude.{ℕ, zero, suc, ◌+◌, ◌*◌, ◌≤◌, ◌<◌, ◌≡◌, List, [], ◌∷◌, length}
+use Rattle.std.specs.Prelude.{ℕ, zero, suc, ◌+◌, ◌≤◌, ◌<◌, ◌≡◌, List, [], ◌∷◌, length}
 use Rattle.std.proofs.Common.{arith, ◌∙◌, append-nil}
 use Rattle.std.proofs.Math.Path.{refl, sym, ap}
 use Rattle.std.proofs.Math.Option.{Option, none, some}
@@ -13,7 +13,6 @@ use Rattle.rules.specs.Ast as Ast
 use Rattle.rules.specs.Nodes.{scan}
 use Rattle.rules.specs.Area.{span, option_span, option_number, sized, record_numbers}
 use Rattle.rules.specs.Scope as rules
-use Rattle.rules.specs.BuildFrom as building
 use Rattle.claims.specs.Reading.Limits.{from_tables}
 use Rattle.claims.specs.Within.{from-name}
 use Rattle.appends.specs.Area.{cells_numbers}

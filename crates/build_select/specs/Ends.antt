@@ -1,9 +1,9 @@
 -- OFFSET, LIMIT, the last remap and the end of a SELECT's plan.
-use Rattle.std.specs.Prelude.{ℕ, ◌+◌, ◌≤◌, ◌<◌, ◌≡◌, List, [], length}
+use Rattle.std.specs.Prelude.{ℕ, ◌+◌, ◌≤◌, ◌≡◌, List, [], length}
 use Rattle.std.proofs.Common.{arith, ap, ◌∙◌}
 use Rattle.std.proofs.Math.Path.{refl}
 use Rattle.std.proofs.Math.Option.{Option, none, some}
-use Rattle.rules.specs.Refusals.{Answer, ok, refused, invalid_offset, invalid_limit}
+use Rattle.rules.specs.Refusals.{Answer, ok, invalid_offset, invalid_limit}
 use Rattle.rules.specs.Lists.{Bytes}
 use Rattle.rules.specs.Ast.{Select}
 use Rattle.rules.specs.Plan.{Built, Node, Plan}

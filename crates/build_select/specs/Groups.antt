@@ -1,11 +1,11 @@
 -- Groups and the projection of a SELECT, behind WHERE.
-use Rattle.std.specs.Prelude.{ℕ, zero, suc, ◌+◌, ◌-◌, ◌*◌, ◌≤◌, ◌<◌, ◌≡◌, Bool, true, false, ◌⊎◌, length}
+use Rattle.std.specs.Prelude.{ℕ, zero, suc, ◌+◌, ◌*◌, ◌≤◌, ◌≡◌, Bool, true, false, ◌⊎◌, length}
 use Rattle.std.proofs.Common.{arith, ◌∙◌, inl, inr}
 use Rattle.std.proofs.Math.Path.{refl, sym, ap}
 use Rattle.std.proofs.lemmas.Bool.{false≢true}
 use mathlib.Core.List.{List, [], ◌∷◌, ◌++◌, map}
 use Rattle.std.proofs.lemmas.List.{length-map}
-use Rattle.rules.specs.Refusals.{Answer, refused, ◌>>=◌}
+use Rattle.rules.specs.Refusals.{Answer}
 use Rattle.rules.specs.Limits.{most_cells, most_columns, most_entries}
 use Rattle.rules.specs.Lists.{Bytes, is_some, is_empty}
 use Rattle.rules.specs.Ast.{Expr, size, Item, Select}
@@ -45,7 +45,7 @@ use Rattle.build_statement.specs.Plans.{Plans}
 use Rattle.build_projection.specs.Items.{item_of}
 use Rattle.build_select.specs.History.{AfterGroups}
 use Rattle.build_select.specs.Rooms as rooms
-use Rattle.build_select.specs.Held.{Held, HeldOn, held-cells, held-numbers, held-some, held-few, step-on, step-stop}
+use Rattle.build_select.specs.Held.{HeldOn, held-cells, held-numbers, held-some, held-few, step-on, step-stop}
 use Rattle.build_select.specs.Held.{plans-refused, plans-after}
 use Rattle.build_select.specs.States.{Read, WhereState, ProjectionState}
 

@@ -1,5 +1,5 @@
 -- How far the rules have built a SELECT: the stages that were accepted, one clause after the other.
-use Rattle.std.specs.Prelude.{ℕ, ◌≤◌, ◌≡◌, List}
+use Rattle.std.specs.Prelude.{◌≤◌, ◌≡◌, List}
 use Rattle.rules.specs.Refusals.{ok}
 use Rattle.rules.specs.Limits.{most_cells}
 use Rattle.rules.specs.Schema.{Catalog}

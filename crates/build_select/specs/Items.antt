@@ -1,5 +1,5 @@
 -- The items of a SELECT over FROM's scope, stars expanded into rows behind the statement's, and WHERE.
-use Rattle.std.specs.Prelude.{ℕ, ◌+◌, ◌*◌, ◌≤◌, ◌<◌, ◌≡◌, List, map, length, take}
+use Rattle.std.specs.Prelude.{ℕ, ◌*◌, ◌≡◌, List, map, length, take}
 use Rattle.std.proofs.Common.{arith, sym, ap, ◌∙◌}
 use Rattle.std.proofs.Math.Path.{refl}
 use Rattle.rules.specs.Refusals.{Answer, ok, refused}
@@ -36,7 +36,7 @@ use Rattle.build_projection.specs.Terms.{Ready, Answers, ItemsBuilt, outcome_of}
 use Rattle.build_projection.specs.declared.items.Outcome.{Outcome}
 use Rattle.build_projection.specs.declared.items.Outcome.TheVariants as O
 use Rattle.build_select.specs.Rooms as rooms
-use Rattle.build_select.specs.Held.{Held, HeldOn, held-cells, held-numbers, held-follows, step-on, step-stop}
+use Rattle.build_select.specs.Held.{HeldOn, held-cells, held-numbers, held-follows, step-on, step-stop}
 use Rattle.build_select.specs.Held.{plans-refused, plans-after}
 use Rattle.build_select.specs.States.{clause-read, read_kept, FromState, ItemsState, WhereState}
 

@@ -1,5 +1,5 @@
 -- HAVING and ORDER of a SELECT, over the projected scope.
-use Rattle.std.specs.Prelude.{ℕ, ◌+◌, ◌*◌, ◌≤◌, ◌<◌, ◌≡◌, refl, List, length, take}
+use Rattle.std.specs.Prelude.{ℕ, ◌+◌, ◌*◌, ◌≡◌, refl, List, length, take}
 use Rattle.std.proofs.Common.{arith, ap, ◌∙◌}
 use Rattle.rules.specs.Lists.{Bytes}
 use Rattle.rules.specs.Sizes.{clause_size, keys_size}
@@ -26,7 +26,7 @@ use Rattle.build_clauses.specs.Follows.{Follows}
 use Rattle.build_statement.specs.Plans.{Plans}
 use Rattle.build_select.specs.History.{AfterHaving}
 use Rattle.build_select.specs.Rooms as rooms
-use Rattle.build_select.specs.Held.{Held, HeldOn, held-cells, held-numbers, held-follows, step-on, step-stop, plans-refused}
+use Rattle.build_select.specs.Held.{HeldOn, held-cells, held-numbers, held-follows, step-on, step-stop, plans-refused}
 use Rattle.build_select.specs.Held.{plans-after}
 use Rattle.build_select.specs.States.{clause-read, ProjectionState, OrderState}
 

@@ -7,9 +7,8 @@ use Rattle.std.proofs.Common.{◌∙◌}
 use mathlib.Core.List.{List, [], ◌∷◌}
 use Rattle.std.proofs.Math.Option.{Option, none, some}
 use Rattle.std.proofs.Math.ListN.{length}
-use Rattle.rules.specs.Refusals.{Reason, ok, ◌>>=◌, invalid_offset, invalid_limit}
+use Rattle.rules.specs.Refusals.{Reason, ok, invalid_offset, invalid_limit}
 use Rattle.rules.specs.Limits.{most_cells, most_columns, least_area}
-use Rattle.rules.specs.Lists.{given}
 use Rattle.rules.specs.Schema.{Catalog}
 use Rattle.rules.specs.Ast.{size, Item, Clause, Select}
 use Rattle.rules.specs.Plan.{Built, Node, labels}

@@ -1,6 +1,6 @@
 -- FROM of a SELECT: what is known of a SELECT that was read, and what stands behind its FROM.
 use Rattle.std.specs.Prelude.{ℕ, ◌≡◌, refl, List, length}
-use Rattle.std.proofs.Common.{◌∙◌, arith}
+use Rattle.std.proofs.Common.{arith}
 use Rattle.rules.specs.Lists.{Bytes}
 use Rattle.rules.specs.Ast.{Select}
 use Rattle.rules.specs.Ast as Ast

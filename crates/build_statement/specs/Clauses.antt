@@ -1,8 +1,8 @@
 -- A WHERE that may be missing: its cells are the plan's first ones, and the next cell is the number of its root.
-use Rattle.std.specs.Prelude.{ℕ, ◌+◌, ◌*◌, ◌≤◌, pred, ◌≡◌, refl, take}
+use Rattle.std.specs.Prelude.{ℕ, ◌*◌, ◌≤◌, pred, ◌≡◌, refl, take}
 use Rattle.std.proofs.Common.{arith, sym, ◌∙◌}
 use Rattle.std.proofs.Math.Path.{ap}
-use mathlib.Core.List.{List, [], ◌∷◌, ◌++◌, append-nil}
+use mathlib.Core.List.{List, [], append-nil}
 use Rattle.std.proofs.Math.Option.{Option, none, some}
 use Rattle.rules.specs.Refusals.{Refusal, refusal_number, ok, refused}
 use Rattle.rules.specs.Lists.{Bytes, concat, map_option}

@@ -5,7 +5,7 @@ use Rattle.std.proofs.Math.Path.{refl, sym, ap}
 use mathlib.Core.List.{List, [], ◌∷◌, ◌++◌, append_assoc, append-nil}
 use Rattle.std.proofs.Math.Option.{Option, none, some}
 use Rattle.std.proofs.Math.ListN.{length, length-append}
-use Rattle.rules.specs.Refusals.{Reason, refusal_number, Answer, ok, refused, ◌>>=◌, refuse}
+use Rattle.rules.specs.Refusals.{refusal_number, Answer, ok, refused, ◌>>=◌, refuse}
 use Rattle.rules.specs.Refusals.{no_primary_key, multiple_primary_keys}
 use Rattle.rules.specs.Lists.{Bytes, concat}
 use Rattle.rules.specs.Lines.{Word}

@@ -1,7 +1,7 @@
 -- A statement that was read: what is known of it, and what is built of it by its kind.
 use Rattle.std.specs.Prelude.{ℕ, ◌≤◌, ◌≡◌, Bool, true, false, List, leb, length}
 use Rattle.std.proofs.Math.Path.{refl, ap}
-use Rattle.std.proofs.Common.{◌∙◌, leb-true}
+use Rattle.std.proofs.Common.{leb-true}
 use Rattle.std.proofs.lemmas.Bool.{false≢true}
 use Rattle.rules.specs.Refusals.{other_statement, refusal_number}
 use Rattle.rules.specs.Limits.{least_area}

@@ -1,7 +1,7 @@
 -- What the entry answers, and the area at exit: those of the rules.
 use Rattle.std.specs.Prelude.{ℕ, ◌≤◌, ◌<◌, ◌≡◌, refl, List, length, replicate}
 use Rattle.std.proofs.Common.{arith, sym, ap, ◌∙◌, lt-ltb}
-use Rattle.rules.specs.Refusals.{statement, refusal_number, Refusal, Answer, ok, refused, ◌>>=◌}
+use Rattle.rules.specs.Refusals.{refusal_number, Refusal, Answer, ok, refused, ◌>>=◌}
 use Rattle.rules.specs.Limits.{least_area}
 use Rattle.rules.specs.Lists.{Bytes}
 use Rattle.rules.specs.Schema.{Catalog}

@@ -1,10 +1,8 @@
 -- Both texts read: the statement that is then built, or the refusal of a text.
 use Rattle.std.specs.Prelude.{ℕ, ◌≤◌, ◌≡◌, refl, List, length}
-use Rattle.std.proofs.Common.{◌∙◌}
 use Rattle.rules.specs.Limits.{least_area}
 use Rattle.rules.specs.Lists.{Bytes}
 use Rattle.rules.specs.BuildStatement.{build_statement}
-use Rattle.rules.specs.Entry as rules
 use Rattle.rules.specs.Entry.{outcome}
 use Rattle.schema.specs.Layout.{catalog_at}
 use Rattle.statement.specs.Layout.{statement_at}

@@ -105,12 +105,7 @@ fn plan_with<'t>(
 }
 
 // The plan of the statement over the catalog, in the area: whatever the texts are, and whatever the area holds.
-#[unsafe(no_mangle)]
-pub extern "C" fn planner_plan<'t>(
-    catalog: &'t [u8],
-    statement: &'t [u8],
-    area: &mut [u32],
-) -> Outcome
+pub fn planner_plan<'t>(catalog: &'t [u8], statement: &'t [u8], area: &mut [u32]) -> Outcome
     ensures { Answers (plan catalog.now statement.now area.old) result area.new }
 {
     if area.len() < LEAST_AREA {
@@ -130,16 +125,14 @@ pub extern "C" fn planner_plan<'t>(
 }
 
 // The number of the area's layout, which is the first of a plan's numbers.
-#[unsafe(no_mangle)]
-pub extern "C" fn planner_layout() -> u32
+pub fn planner_layout() -> u32
     ensures { result ≡ layout }
 {
     LAYOUT
 }
 
 // The least numbers of an area.
-#[unsafe(no_mangle)]
-pub extern "C" fn planner_area_length() -> usize
+pub fn planner_area_length() -> usize
     ensures { result ≡ least_area }
 {
     LEAST_AREA

@@ -1,6 +1,5 @@
 -- `build_select`: FROM is refused, or all that follows is built over its stage.
 use Rattle.build_select.specs.Sources.{source-room, source-stop, source-state, source-plans}
-use borrow.Author.Rules.{rules}
 use Rattle.build_select.proofs.build_select.Goals as goal
 
 pub build_from_clause-source-requires : goal.build_from_clause-source-requires

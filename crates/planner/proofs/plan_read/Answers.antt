@@ -5,7 +5,7 @@ use borrow.Author.Rules.{rules}
 use Rattle.planner.proofs.plan_read.Goals as goal
 
 pub build-built-requires : goal.build-built-requires
-build-built-requires c = record { statement_ready = c.requires.statement_ready; cells_len = (search rules, c.requires.least_area_in_bounds); }
+build-built-requires c = record { statement_ready = c.requires.statement_ready; cells_len = (search rules, c.requires.least_area_in_bounds) }
 
 pub returns-in-Done : goal.returns-in-Done
 returns-in-Done c = planned-answer _ c.build-built.ensures c.in-Done.is refl refl refl refl

@@ -1,10 +1,9 @@
 -- `plan_with`: a text is refused over a cleared area, or the statement that was read is planned.
 use Rattle.planner.specs.Reads.{statement-ready, statement-answer, text-refused}
-use borrow.Author.Rules.{rules}
 use Rattle.planner.proofs.plan_with.Goals as goal
 
 pub plan_read-requires : goal.plan_read-requires
-plan_read-requires c = record { statement_ready = statement-ready c.read_texts-texts.ensures _ _ _ c.in-Read.is; least_area_in_bounds = c.requires.least_area_in_bounds; }
+plan_read-requires c = record { statement_ready = statement-ready c.read_texts-texts.ensures _ _ _ c.in-Read.is; least_area_in_bounds = c.requires.least_area_in_bounds }
 
 pub returns-in-Refused : goal.returns-in-Refused
 returns-in-Refused c = text-refused c.read_texts-texts.ensures _ _ _ _ c.in-Refused.is c.requires.least_area_in_bounds c.refuse.ensures

@@ -2,7 +2,6 @@
 use native.Mathlib.Omega.{arith}
 use mathlib.Core.Path.{refl}
 use Rattle.planner.specs.Outcomes.{entry-short, entry-long}
-use borrow.Author.Rules.{rules}
 use Rattle.planner.proofs.planner_plan.Goals as goal
 
 pub returns-then-area-lt-LEAST_AREA : goal.returns-then-area-lt-LEAST_AREA

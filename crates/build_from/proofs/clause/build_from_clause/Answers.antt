@@ -1,13 +1,8 @@
 -- `clause::build_from_clause`: in each turn the items behind the first i are left, whatever stood before the first.
-use Prim.Native.Nat.{ℕ, ◌-◌}
-use mathlib.Core.List.{List}
-use lib.ListN.{drop}
-use Rattle.from.specs.Layout.{froms_at}
-use Rattle.build_from.specs.Clause.{ClauseRoom, empty-room}
-use Rattle.build_from.specs.Parts.{PartBuilds, clause-empty, clause-first-room, clause-first}
+use Rattle.build_from.specs.Clause.{empty-room}
+use Rattle.build_from.specs.Parts.{clause-empty, clause-first-room, clause-first}
 use Rattle.build_from.specs.Parts.{clause-next-room, clause-next, part-refused, clause-end}
 use native.Mathlib.Omega.{arith}
-use borrow.Author.Rules.{rules}
 use Rattle.build_from.proofs.clause.build_from_clause.Goals as goal
 
 pub empty_clause-requires : goal.empty_clause-requires
@@ -30,13 +25,13 @@ shape_of-nodes-then-clause-ne0 c = (c.loop-i.invariant _ _ c.requires (clause-fi
 
 pub returns-then-clause-ne0 : goal.returns-then-clause-ne0
 returns-then-clause-ne0 c = part-refused
-  (c.loop-i.invariant _ _ c.requires (clause-first _ _ _ _ _ _ c.requires c.items-count.ensures c.if-count-eq0.false c.root-first.ensures c.build_from-clause.ensures))
-  c.if-clause-ne0.true
+    (c.loop-i.invariant _ _ c.requires (clause-first _ _ _ _ _ _ c.requires c.items-count.ensures c.if-count-eq0.false c.root-first.ensures c.build_from-clause.ensures))
+    c.if-clause-ne0.true
 
 pub join_item-clause-requires : goal.join_item-clause-requires
 join_item-clause-requires c = clause-next-room _ _ _ _ _ _ c.requires c.items-count.ensures
-  (c.loop-i.invariant _ _ c.requires (clause-first _ _ _ _ _ _ c.requires c.items-count.ensures c.if-count-eq0.false c.root-first.ensures c.build_from-clause.ensures))
-  c.loop-i-test.true c.if-clause-ne0.false c.root-r.ensures
+    (c.loop-i.invariant _ _ c.requires (clause-first _ _ _ _ _ _ c.requires c.items-count.ensures c.if-count-eq0.false c.root-first.ensures c.build_from-clause.ensures))
+    c.loop-i-test.true c.if-clause-ne0.false c.root-r.ensures
 
 pub overflow_add-i : goal.overflow_add-i
 overflow_add-i c = record { fits = omega (arith, c.loop-i-test.true, c.items-count.type_inv) }
@@ -46,7 +41,7 @@ loop-i-smaller c = omega (arith, c.loop-i-test.true)
 
 pub loop-i-preserved : goal.loop-i-preserved
 loop-i-preserved c = λ area₁ nodes₁ h p. clause-next _ _ _ _ _ _ h c.items-count.ensures (c.loop-i.invariant area₁ nodes₁ h p) c.loop-i-test.true
-  c.if-clause-ne0.false c.root-r.ensures c.join_item-clause.ensures
+    c.if-clause-ne0.false c.root-r.ensures c.join_item-clause.ensures
 
 pub shape_of-area : goal.shape_of-area
 shape_of-area c = (c.loop-i.invariant _ _ c.requires (clause-first _ _ _ _ _ _ c.requires c.items-count.ensures c.if-count-eq0.false c.root-first.ensures c.build_from-clause.ensures)).kept
@@ -56,5 +51,5 @@ shape_of-nodes c = (c.loop-i.invariant _ _ c.requires (clause-first _ _ _ _ _ _ 
 
 pub returns : goal.returns
 returns c = clause-end _ _ _ _ _ _ c.requires c.items-count.ensures
-  (c.loop-i.invariant _ _ c.requires (clause-first _ _ _ _ _ _ c.requires c.items-count.ensures c.if-count-eq0.false c.root-first.ensures c.build_from-clause.ensures))
-  c.loop-i-test.false
+    (c.loop-i.invariant _ _ c.requires (clause-first _ _ _ _ _ _ c.requires c.items-count.ensures c.if-count-eq0.false c.root-first.ensures c.build_from-clause.ensures))
+    c.loop-i-test.false

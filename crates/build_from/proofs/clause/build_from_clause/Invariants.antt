@@ -3,11 +3,8 @@ use Prim.Native.Nat.{ℕ, ◌-◌}
 use mathlib.Core.List.{List}
 use lib.ListN.{drop}
 use Rattle.from.specs.Layout.{froms_at}
-use Rattle.build_from.specs.Clause.{ClauseRoom, empty-room}
-use Rattle.build_from.specs.Parts.{PartBuilds, clause-empty, clause-first-room, clause-first}
-use Rattle.build_from.specs.Parts.{clause-next-room, clause-next, part-refused, clause-end}
-use native.Mathlib.Omega.{arith}
-use borrow.Author.Rules.{rules}
+use Rattle.build_from.specs.Clause.{ClauseRoom}
+use Rattle.build_from.specs.Parts.{PartBuilds}
 use Rattle.build_from.proofs.clause.build_from_clause.Given as goal
 
 abbrev pub invariant-loop-i : goal.invariant-loop-i

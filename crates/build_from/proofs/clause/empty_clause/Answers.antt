@@ -1,7 +1,6 @@
 -- `clause::empty_clause`: one record, and the empty scope.
 use mathlib.Core.Path.{refl}
 use Rattle.build_from.specs.Clause.{clause-none}
-use borrow.Author.Rules.{rules}
 use Rattle.build_from.proofs.clause.empty_clause.Goals as goal
 
 pub returns : goal.returns

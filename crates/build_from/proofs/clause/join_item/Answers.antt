@@ -2,7 +2,6 @@
 use Rattle.build_from.specs.Later.{later-unbuilt, later-scopes, later-unmerged, later-join-room, later-joined}
 use mathlib.Core.Path.{refl}
 use native.Mathlib.Omega.{arith}
-use borrow.Author.Rules.{rules}
 use Rattle.build_from.proofs.clause.join_item.Goals as goal
 
 pub build_from-b-requires : goal.build_from-b-requires

@@ -2,7 +2,6 @@
 use Rattle.build_from.specs.Joins.{join-unmerged, join-unbuilt, join-swappable, join-remap-room, join-ordered, join-swapped}
 use mathlib.Core.Path.{refl, sym, ◌∙◌}
 use native.Mathlib.Omega.{arith}
-use borrow.Author.Rules.{rules}
 use Rattle.build_from.proofs.joins.build_join.Goals as goal
 
 pub returns-then-both-ne0 : goal.returns-then-both-ne0
@@ -22,7 +21,7 @@ join-k-requires c = omega (arith, c.requires.numbers)
 
 pub push_remap-end-requires : goal.push_remap-end-requires
 push_remap-end-requires c = join-remap-room c.requires c.merge_scopes-both.ensures c.if-both-ne0.false c.build_predicate-p.ensures c.if-p-ne0.false
-  c.join_kind-kind.ensures.0 c.join-k.ensures
+    c.join_kind-kind.ensures.0 c.join-k.ensures
 
 pub swap-t-requires : goal.swap-t-requires
 swap-t-requires c = join-swappable c.requires c.merge_scopes-both.ensures c.if-both-ne0.false
@@ -32,10 +31,10 @@ shape_of-area-then-kind c = c.build_predicate-p.auto.area
 
 pub returns-then-kind : goal.returns-then-kind
 returns-then-kind c = join-swapped c.requires c.merge_scopes-both.ensures c.if-both-ne0.false c.build_predicate-p.ensures c.if-p-ne0.false
-  c.join_kind-kind.ensures.0 c.join-k.ensures _ (sym c.if-kind.true ∙ c.join_kind-kind.ensures.1) c.push_remap-end.ensures
-  c.swap-t.ensures refl c.line-l.ensures refl refl
+    c.join_kind-kind.ensures.0 c.join-k.ensures _ (sym c.if-kind.true ∙ c.join_kind-kind.ensures.1) c.push_remap-end.ensures
+    c.swap-t.ensures refl c.line-l.ensures refl refl
 
 pub returns : goal.returns
 returns c = join-ordered c.requires c.merge_scopes-both.ensures c.if-both-ne0.false c.build_predicate-p.ensures c.if-p-ne0.false
-  c.join_kind-kind.ensures.0 c.join-k.ensures _ (sym c.if-kind.false ∙ c.join_kind-kind.ensures.1) refl refl
-  c.line-l.ensures refl refl refl
+    c.join_kind-kind.ensures.0 c.join-k.ensures _ (sym c.if-kind.false ∙ c.join_kind-kind.ensures.1) refl refl
+    c.line-l.ensures refl refl refl

@@ -1,7 +1,6 @@
 -- `merges::merge_scopes`, by what `may_merge` told.
 use Rattle.build_from.specs.Merges.{mergeable, merges-duplicate, merges-wide, merges-allowed}
 use mathlib.Core.Path.{refl}
-use borrow.Author.Rules.{rules}
 use Rattle.build_from.proofs.merges.merge_scopes.Goals as goal
 
 pub merge-requires : goal.merge-requires

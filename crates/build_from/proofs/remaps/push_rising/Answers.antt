@@ -1,9 +1,8 @@
 -- `remaps::push_rising`: the targets pushed so far.
 use Rattle.build_from.specs.Remaps.{pushing-end}
 use native.Mathlib.Omega.{arith}
-use Prim.Native.Nat.{◌-◌, ◌≤◌}
 use borrow.Author.Rules.{rules}
-use Rattle.build_from.specs.Remaps.{Pushing, pushing-begin, pushing-more, pushing-next, pushing-kept}
+use Rattle.build_from.specs.Remaps.{pushing-begin, pushing-more, pushing-next, pushing-kept}
 use Rattle.build_from.proofs.remaps.push_rising.Goals as goal
 
 pub loop-j-init : goal.loop-j-init

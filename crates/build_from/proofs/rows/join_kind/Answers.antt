@@ -1,7 +1,6 @@
 -- `rows::join_kind`, by the row's kind.
 use Rattle.build_from.specs.Rows.{joining-is}
 use mathlib.Core.Path.{refl, sym, ◌∙◌}
-use borrow.Author.Rules.{rules}
 use Rattle.build_from.proofs.rows.join_kind.Goals as goal
 
 pub returns-in-Table : goal.returns-in-Table

@@ -1,7 +1,6 @@
 -- `rows::rows_of`, by the row's kind.
 use Rattle.build_from.specs.Rows.{table-row, behind, sides-row, right-row}
 use mathlib.Core.Path.{refl, sym, ◌∙◌}
-use borrow.Author.Rules.{rules}
 use Rattle.build_from.proofs.rows.rows_of.Goals as goal
 
 pub overflow_sub-result : goal.overflow_sub-result

@@ -2,12 +2,11 @@
 use Rattle.build_from.specs.Tables.{table-missing, table-accepted, table-room}
 use mathlib.Core.Path.{refl}
 use native.Mathlib.Omega.{arith}
-use borrow.Author.Rules.{rules}
 use Rattle.build_from.proofs.tables.build_table.Goals as goal
 
 pub returns-in_default : goal.returns-in_default
 returns-in_default c = table-missing _ _ _ _ _ _ c.requires c.name_address-a.ensures c.name_length-len.ensures _ c.get_table-found.ensures _
-  c.in_default.is refl c.line-l.ensures
+    c.in_default.is refl c.line-l.ensures
 
 pub scan_row-e-requires : goal.scan_row-e-requires
 scan_row-e-requires c = omega (arith, (table-room c.requires).0)
@@ -17,4 +16,4 @@ overflow_add-result c = record { fits = omega (arith, (table-room c.requires).1)
 
 pub returns : goal.returns
 returns c = table-accepted _ _ _ _ _ _ c.requires c.name_address-a.ensures c.name_length-len.ensures _ c.get_table-found.ensures _
-  c.in-At.is c.named_scope-s.ensures c.scan_row-e.ensures refl c.line-l.ensures refl refl
+    c.in-At.is c.named_scope-s.ensures c.scan_row-e.ensures refl c.line-l.ensures refl refl

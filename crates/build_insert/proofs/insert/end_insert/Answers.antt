@@ -1,7 +1,6 @@
 -- `insert::end_insert`: the own numbers and the end.
 use Rattle.build_insert.specs.Map.{map_of}
 use Rattle.build_insert.specs.Inserts.{insert-room, insert-ends}
-use borrow.Author.Rules.{rules}
 use Rattle.build_insert.proofs.insert.end_insert.Goals as goal
 
 pub put_own-e-requires : goal.put_own-e-requires

@@ -1,6 +1,5 @@
 -- `map::column_map`: no map, or that of the names.
 use Rattle.build_insert.specs.Map.{columns_of, map-missing, names-fit, map-given}
-use borrow.Author.Rules.{rules}
 use Rattle.build_insert.proofs.map.column_map.Goals as goal
 
 pub returns-then-count-eq0 : goal.returns-then-count-eq0

@@ -1,11 +1,7 @@
 -- `map::is_mapped`: the column is in the map where it is in what is left of it.
-use Prim.Native.Nat.{◌-◌}
 use native.Mathlib.Omega.{arith}
-use mathlib.Core.Path.{◌≡◌, sym, ◌∙◌}
-use Rattle.rules.specs.BuildStatement.{mapped}
-use Rattle.rules.specs.Plan.{cindex}
-use Rattle.build_insert.specs.Map.{mappings, mapped-all, mapped-hit, mapped-miss, mapped_end}
-use borrow.Author.Rules.{rules}
+use mathlib.Core.Path.{sym, ◌∙◌}
+use Rattle.build_insert.specs.Map.{mapped-all, mapped-hit, mapped-miss, mapped_end}
 use Rattle.build_insert.proofs.map.is_mapped.Goals as goal
 
 pub loop-i-init : goal.loop-i-init
@@ -19,6 +15,6 @@ loop-i-preserved c = c.loop-i.invariant ∙ mapped-miss c.args.columns.now c.arg
 
 pub returns : goal.returns
 returns c = sym (c.loop-i.invariant ∙ mapped_end c.args.columns.now c.args.column.0 c.loop-i.i c.args.n (omega (
-   arith,
-   c.loop-i-test.false,
-  )))
+  arith,
+  c.loop-i-test.false,
+)))

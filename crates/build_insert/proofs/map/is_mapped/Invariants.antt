@@ -1,11 +1,9 @@
 -- `map::is_mapped`: the column is in the map where it is in what is left of it.
 use Prim.Native.Nat.{◌-◌}
-use native.Mathlib.Omega.{arith}
-use mathlib.Core.Path.{◌≡◌, sym, ◌∙◌}
+use mathlib.Core.Path.{◌≡◌}
 use Rattle.rules.specs.BuildStatement.{mapped}
 use Rattle.rules.specs.Plan.{cindex}
-use Rattle.build_insert.specs.Map.{mappings, mapped-all, mapped-hit, mapped-miss, mapped_end}
-use borrow.Author.Rules.{rules}
+use Rattle.build_insert.specs.Map.{mappings}
 use Rattle.build_insert.proofs.map.is_mapped.Given as goal
 
 abbrev pub invariant-loop-i : goal.invariant-loop-i

@@ -1,10 +1,8 @@
 -- `map::map_names`: the names so far.
-use Prim.Native.Nat.{◌-◌}
 use native.Mathlib.Omega.{arith}
 use mathlib.Core.Path.{refl}
 use Rattle.rules.specs.Refusals.{refusal_number}
-use Rattle.build_insert.specs.Map.{columns_of, MapSoFar, map-none, map-all, name-unknown, name-repeated, name-mapped}
-use borrow.Author.Rules.{rules}
+use Rattle.build_insert.specs.Map.{columns_of, map-none, map-all, name-unknown, name-repeated, name-mapped}
 use Rattle.build_insert.proofs.map.map_names.Goals as goal
 
 pub loop-v-init : goal.loop-v-init
@@ -13,38 +11,38 @@ loop-v-init c = map-none c.args.catalog.now c.args.statement.now c.args.cells.no
 pub returns-in_default : goal.returns-in_default
 unfolding refusal_number
 returns-in_default c = name-unknown c.args.catalog.now c.args.statement.now c.args.cells.now c.args.parts.now (columns_of c.args.catalog.now c.args.statement.now c.args.tables.now c.args.i) c.loop-v.invariant _ c.entry_at-e.ensures (omega (
-   arith,
-   c.loop-v-test.true,
-   c.count-count.ensures c.args.catalog.now c.args.statement.now c.args.cells.now,
-  )) _ c.name_start-a.ensures _ c.column_at-found.ensures _ c.in_default.is refl
+  arith,
+  c.loop-v-test.true,
+  c.count-count.ensures c.args.catalog.now c.args.statement.now c.args.cells.now,
+)) _ c.name_start-a.ensures _ c.column_at-found.ensures _ c.in_default.is refl
 
 pub returns-then-is_mapped : goal.returns-then-is_mapped
 unfolding refusal_number
 returns-then-is_mapped c = name-repeated c.args.catalog.now c.args.statement.now c.args.cells.now c.args.parts.now (columns_of c.args.catalog.now c.args.statement.now c.args.tables.now c.args.i) c.loop-v.invariant _ c.entry_at-e.ensures (omega
-  (arith, c.loop-v-test.true, c.count-count.ensures c.args.catalog.now c.args.statement.now c.args.cells.now)) _
-  c.name_start-a.ensures _ c.column_at-found.ensures _ c.in-At.is _ _ c.is_mapped.ensures c.if-is_mapped.true refl
+    (arith, c.loop-v-test.true, c.count-count.ensures c.args.catalog.now c.args.statement.now c.args.cells.now)) _
+    c.name_start-a.ensures _ c.column_at-found.ensures _ c.in-At.is _ _ c.is_mapped.ensures c.if-is_mapped.true refl
 
 pub map_value-requires : goal.map_value-requires
 map_value-requires c = omega (
-   arith,
-   c.loop-v.invariant.same,
-   c.requires,
-   c.loop-v-test.true,
-   c.count-count.ensures c.args.catalog.now c.args.statement.now
-     c.args.cells.now,
-  )
+  arith,
+  c.loop-v.invariant.same,
+  c.requires,
+  c.loop-v-test.true,
+  c.count-count.ensures c.args.catalog.now c.args.statement.now
+      c.args.cells.now,
+)
 
 pub loop-v-preserved : goal.loop-v-preserved
 loop-v-preserved c = name-mapped c.args.catalog.now c.args.statement.now c.args.cells.now c.args.parts.now (columns_of c.args.catalog.now c.args.statement.now c.args.tables.now c.args.i) c.loop-v.invariant _ c.entry_at-e.ensures (omega
-  (arith, c.loop-v-test.true, c.count-count.ensures c.args.catalog.now c.args.statement.now c.args.cells.now)) _
-  c.name_start-a.ensures _ c.column_at-found.ensures _ c.in-At.is _ c.is_mapped.ensures c.if-is_mapped.false (omega (
-   arith,
-   c.loop-v.invariant.same,
-   c.requires,
-   c.loop-v-test.true,
-   c.count-count.ensures c.args.catalog.now c.args.statement.now c.args.cells.now,
-  )) c.map_value.ensures
+    (arith, c.loop-v-test.true, c.count-count.ensures c.args.catalog.now c.args.statement.now c.args.cells.now)) _
+    c.name_start-a.ensures _ c.column_at-found.ensures _ c.in-At.is _ c.is_mapped.ensures c.if-is_mapped.false (omega (
+      arith,
+      c.loop-v.invariant.same,
+      c.requires,
+      c.loop-v-test.true,
+      c.count-count.ensures c.args.catalog.now c.args.statement.now c.args.cells.now,
+    )) c.map_value.ensures
 
 pub returns : goal.returns
 returns c = map-all c.args.catalog.now c.args.statement.now c.args.cells.now c.args.parts.now (columns_of c.args.catalog.now c.args.statement.now c.args.tables.now c.args.i) c.loop-v.invariant _ (c.count-count.ensures c.args.catalog.now c.args.statement.now c.args.cells.now) (omega (arith, c.loop-v-test.false))
-  c.loop-v.invariant.few
+    c.loop-v.invariant.few

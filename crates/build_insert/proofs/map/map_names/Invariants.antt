@@ -1,10 +1,6 @@
 -- `map::map_names`: the names so far.
 use Prim.Native.Nat.{◌-◌}
-use native.Mathlib.Omega.{arith}
-use mathlib.Core.Path.{refl}
-use Rattle.rules.specs.Refusals.{refusal_number}
-use Rattle.build_insert.specs.Map.{columns_of, MapSoFar, map-none, map-all, name-unknown, name-repeated, name-mapped}
-use borrow.Author.Rules.{rules}
+use Rattle.build_insert.specs.Map.{columns_of, MapSoFar}
 use Rattle.build_insert.proofs.map.map_names.Given as goal
 
 abbrev pub invariant-loop-v : goal.invariant-loop-v

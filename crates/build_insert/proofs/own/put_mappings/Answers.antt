@@ -1,8 +1,6 @@
 -- `own::put_mappings`: value by value.
-use Prim.Native.Nat.{◌-◌, ◌≤◌}
 use native.Mathlib.Omega.{arith}
-use Rattle.build_insert.specs.Own.{PutSoFar, put-none, put-kept, put-room, put-more, put_all}
-use borrow.Author.Rules.{rules}
+use Rattle.build_insert.specs.Own.{put-none, put-kept, put-room, put-more, put_all}
 use Rattle.build_insert.proofs.own.put_mappings.Goals as goal
 
 pub loop-v-init : goal.loop-v-init
@@ -13,9 +11,9 @@ mapping-j-requires c = put-room c.loop-v.invariant.1 _ c.loop-v-test.true c.requ
 
 pub loop-v-preserved : goal.loop-v-preserved
 loop-v-preserved c = (
-   omega (arith, c.loop-v-test.true),
-   put-more c.loop-v.invariant.1 _ c.column_of-column.ensures c.mapping-j.ensures,
-  )
+  omega (arith, c.loop-v-test.true),
+  put-more c.loop-v.invariant.1 _ c.column_of-column.ensures c.mapping-j.ensures,
+)
 
 pub shape_of-nodes : goal.shape_of-nodes
 shape_of-nodes c = put-kept c.loop-v.invariant.1

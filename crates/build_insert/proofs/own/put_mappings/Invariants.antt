@@ -1,8 +1,6 @@
 -- `own::put_mappings`: value by value.
 use Prim.Native.Nat.{◌-◌, ◌≤◌}
-use native.Mathlib.Omega.{arith}
-use Rattle.build_insert.specs.Own.{PutSoFar, put-none, put-kept, put-room, put-more, put_all}
-use borrow.Author.Rules.{rules}
+use Rattle.build_insert.specs.Own.{PutSoFar}
 use Rattle.build_insert.proofs.own.put_mappings.Given as goal
 
 abbrev pub invariant-loop-v : goal.invariant-loop-v

@@ -1,6 +1,5 @@
 -- `own::put_own`: the name, then the map.
 use Rattle.build_insert.specs.Own.{own-missing-room, own-missing, own-small, own-mapped-room, own-mappings-room, own-mapped}
-use borrow.Author.Rules.{rules}
 use Rattle.build_insert.proofs.own.put_own.Goals as goal
 
 pub insert-requires : goal.insert-requires

@@ -1,15 +1,14 @@
 -- `rows::build_row`: how many values there are, then the values.
 use native.Mathlib.Omega.{arith}
 use Rattle.build_insert.specs.Values.{row_room, row-lists}
-use borrow.Author.Rules.{rules}
 use Rattle.build_insert.proofs.rows.build_row.Goals as goal
 
 pub push-j-requires : goal.push-j-requires
 push-j-requires c = omega (arith, c.requires.expressions_in_bounds)
 
 pub build_values-requires : goal.build_values-requires
-build_values-requires c = record { room = c.requires.room; values_in_bounds = row_room c.push-j.ensures c.requires.expressions_in_bounds; }
+build_values-requires c = record { room = c.requires.room; values_in_bounds = row_room c.push-j.ensures c.requires.expressions_in_bounds }
 
 pub returns : goal.returns
 returns c = row-lists c.args.catalog.now c.args.statement.now c.args.cells.now c.args.e.expressions c.args.e.row
-  c.push-j.ensures c.build_values.ensures
+    c.push-j.ensures c.build_values.ensures

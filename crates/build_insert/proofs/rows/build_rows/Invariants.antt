@@ -1,9 +1,6 @@
 -- `rows::build_rows`: row by row.
 use Prim.Native.Nat.{◌-◌}
-use native.Mathlib.Omega.{arith}
-use mathlib.Core.Path.{◌∙◌}
-use Rattle.build_insert.specs.Rows.{RowsSoFar, rows_none, rows-kept, rows_all, rows-room, rows-space, rows-stop, rows_more, rows-done}
-use borrow.Author.Rules.{rules}
+use Rattle.build_insert.specs.Rows.{RowsSoFar}
 use Rattle.build_insert.proofs.rows.build_rows.Given as goal
 
 abbrev pub invariant-loop-i : goal.invariant-loop-i

@@ -1,7 +1,6 @@
 -- `rows::build_value`: the cells of the expression, then its root.
 use native.Mathlib.Omega.{arith}
 use Rattle.build_insert.specs.Values.{value-refused, value-some, value-done}
-use borrow.Author.Rules.{rules}
 use Rattle.build_insert.proofs.rows.build_value.Goals as goal
 
 pub overflow_sub-m : goal.overflow_sub-m

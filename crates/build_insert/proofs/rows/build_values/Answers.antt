@@ -1,15 +1,14 @@
 -- `rows::build_values`: value by value.
 use native.Mathlib.Omega.{arith}
 use mathlib.Core.Path.{◌∙◌}
-use Rattle.build_insert.specs.Values.{ValuesSoFar, values-none, values-kept, values-all, value_room, value-space, values-stop, values-more, values-done}
-use borrow.Author.Rules.{rules}
+use Rattle.build_insert.specs.Values.{values-none, values-kept, values-all, value_room, value-space, values-stop, values-more, values-done}
 use Rattle.build_insert.proofs.rows.build_values.Goals as goal
 
 pub loop-left-init : goal.loop-left-init
 loop-left-init c = values-none _ _ _ _ _ _ _ _ _ c.requires.room c.requires.values_in_bounds
 
 pub build_value-value-requires : goal.build_value-value-requires
-build_value-value-requires c = record { room = value_room c.loop-left.invariant c.loop-left-test.true; k_in_bounds = value-space c.loop-left.invariant c.loop-left-test.true; }
+build_value-value-requires c = record { room = value_room c.loop-left.invariant c.loop-left-test.true; k_in_bounds = value-space c.loop-left.invariant c.loop-left-test.true }
 
 pub shape_of-area-in_default : goal.shape_of-area-in_default
 shape_of-area-in_default c = c.build_value-value.ensures.kept ∙ values-kept c.loop-left.invariant

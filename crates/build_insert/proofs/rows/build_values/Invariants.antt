@@ -1,8 +1,5 @@
 -- `rows::build_values`: value by value.
-use native.Mathlib.Omega.{arith}
-use mathlib.Core.Path.{◌∙◌}
-use Rattle.build_insert.specs.Values.{ValuesSoFar, values-none, values-kept, values-all, value_room, value-space, values-stop, values-more, values-done}
-use borrow.Author.Rules.{rules}
+use Rattle.build_insert.specs.Values.{ValuesSoFar}
 use Rattle.build_insert.proofs.rows.build_values.Given as goal
 
 abbrev pub invariant-loop-left : goal.invariant-loop-left

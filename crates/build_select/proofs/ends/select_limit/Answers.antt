@@ -1,6 +1,5 @@
 -- `ends::select_limit`: LIMIT is refused, or the last remap follows it.
 use Rattle.build_select.specs.Ends.{limit-follows, limit-stop, limit-on, limit-plans}
-use borrow.Author.Rules.{rules}
 use Rattle.build_select.proofs.ends.select_limit.Goals as goal
 
 pub build_limit-limited-requires : goal.build_limit-limited-requires

@@ -1,6 +1,5 @@
 -- `ends::select_offset`: OFFSET is refused, or LIMIT follows it.
 use Rattle.build_select.specs.Ends.{offset-follows, offset-stop, offset-on, offset-plans}
-use borrow.Author.Rules.{rules}
 use Rattle.build_select.proofs.ends.select_offset.Goals as goal
 
 pub build_offset-skipped-requires : goal.build_offset-skipped-requires

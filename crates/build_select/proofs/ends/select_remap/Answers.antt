@@ -1,10 +1,9 @@
 -- `ends::select_remap`: hidden columns are dropped, and the area is that of the plan.
 use Rattle.build_select.specs.Ends.{remap-hidden, remap-follows, remap-stop, remapped-room, remapped-plans}
-use borrow.Author.Rules.{rules}
 use Rattle.build_select.proofs.ends.select_remap.Goals as goal
 
 pub build_remap-remapped-requires : goal.build_remap-remapped-requires
-build_remap-remapped-requires c = record { hidden_le_width = remap-hidden c.requires; follows = remap-follows c.requires; }
+build_remap-remapped-requires c = record { hidden_le_width = remap-hidden c.requires; follows = remap-follows c.requires }
 
 pub finish-requires : goal.finish-requires
 finish-requires c = remapped-room c.requires (c.build_remap-remapped.ensures.is c.requires.scope c.requires.scoped.valid c.requires.width c.requires.hidden _ _ _ _) c.in-Done.is

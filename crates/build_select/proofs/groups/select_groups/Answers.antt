@@ -2,7 +2,6 @@
 use mathlib.Core.Path.{◌∙◌}
 use mathlib.Core.List.{[]}
 use Rattle.build_select.specs.Groups.{groups-ready, groups-stop, projection-ready, projection-stop, projection-state, projection-plans}
-use borrow.Author.Rules.{rules}
 use Rattle.build_select.proofs.groups.select_groups.Goals as goal
 
 pub build_groups-grouped-requires : goal.build_groups-grouped-requires

@@ -1,6 +1,5 @@
 -- `items::list_items`: the items over the columns in use.
 use Rattle.build_select.specs.Items.{built-as}
-use borrow.Author.Rules.{rules}
 use Rattle.build_select.proofs.items.list_items.Goals as goal
 
 pub returns : goal.returns

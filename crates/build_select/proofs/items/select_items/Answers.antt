@@ -1,7 +1,6 @@
 -- `items::select_items`: the items are refused, or WHERE follows them.
 use mathlib.Core.Path.{◌∙◌}
 use Rattle.build_select.specs.Items.{items-stop, items-state, items-plans}
-use borrow.Author.Rules.{rules}
 use Rattle.build_select.proofs.items.select_items.Goals as goal
 
 pub select_where-requires : goal.select_where-requires

@@ -1,14 +1,13 @@
 -- `later::select_later`: HAVING or ORDER is refused, or OFFSET follows them.
 use Rattle.build_select.specs.Later.{having-room, having-follows, having-stop, order-room, order-follows, order-stop, order-state, order-plans}
 use mathlib.Core.Path.{◌∙◌}
-use borrow.Author.Rules.{rules}
 use Rattle.build_select.proofs.later.select_later.Goals as goal
 
 pub build_having-having-requires : goal.build_having-having-requires
-build_having-having-requires c = record { room = having-room c.requires c.clause_at-clause.ensures; follows = having-follows c.requires c.clause_at-clause.ensures; }
+build_having-having-requires c = record { room = having-room c.requires c.clause_at-clause.ensures; follows = having-follows c.requires c.clause_at-clause.ensures }
 
 pub build_order-order-requires : goal.build_order-order-requires
-build_order-order-requires c = record { cells_len = c.requires.read.table; room = order-room c.requires c.clause_at-clause.ensures (c.build_having-having.ensures.is _) c.in-Done.is; follows = order-follows c.requires c.clause_at-clause.ensures (c.build_having-having.ensures.is _) c.in-Done.is; }
+build_order-order-requires c = record { cells_len = c.requires.read.table; room = order-room c.requires c.clause_at-clause.ensures (c.build_having-having.ensures.is _) c.in-Done.is; follows = order-follows c.requires c.clause_at-clause.ensures (c.build_having-having.ensures.is _) c.in-Done.is }
 
 pub select_offset-requires : goal.select_offset-requires
 select_offset-requires c = order-state c.requires c.clause_at-clause.ensures (c.build_having-having.ensures.is _) c.in-Done.is (c.build_order-order.ensures.is _) c.in-Done-order.is

@@ -1,6 +1,5 @@
 -- `clause::build_where`: nothing, or the clause's expression.
 use Rattle.build_statement.specs.Clauses.{filters-none, filters-some, filters-room}
-use borrow.Author.Rules.{rules}
 use Rattle.build_statement.proofs.clause.build_where.Goals as goal
 
 pub build_expression-requires : goal.build_expression-requires

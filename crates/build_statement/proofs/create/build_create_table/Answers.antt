@@ -1,34 +1,33 @@
 -- `create::build_create_table`: no key, two, or one.
 use native.Mathlib.Omega.{arith}
-use mathlib.Core.Path.{refl, ◌∙◌}
+use mathlib.Core.Path.{refl}
 use Rattle.rules.specs.Refusals.{refusal_number, no_primary_key, multiple_primary_keys}
 use Rattle.build_statement.specs.Ends.{not-planned}
 use Rattle.build_statement.specs.Columns.{no_key, second_key, one_key, plans-same}
-use borrow.Author.Rules.{rules}
 use Rattle.build_statement.proofs.create.build_create_table.Goals as goal
 
 pub returns-in_default : goal.returns-in_default
 unfolding refusal_number
 returns-in_default c = not-planned no_primary_key _ _ _ refl refl c.line.ensures
-  (no_key c.args.catalog.now c.args.statement.now c.args.cells.now c.args.parts.now (c.key_column.ensures c.args.catalog.now c.args.statement.now c.args.cells.now) c.in_default.is)
+    (no_key c.args.catalog.now c.args.statement.now c.args.cells.now c.args.parts.now (c.key_column.ensures c.args.catalog.now c.args.statement.now c.args.cells.now) c.in_default.is)
 
 pub overflow_add-key : goal.overflow_add-key
 overflow_add-key c = omega (
-   arith,
-   (c.key_column.ensures c.args.catalog.now c.args.statement.now c.args.cells.now).inside _
-     c.in-At.is,
-   c.requires.few_columns,
-  )
+  arith,
+  (c.key_column.ensures c.args.catalog.now c.args.statement.now c.args.cells.now).inside _
+      c.in-At.is,
+  c.requires.few_columns,
+)
 
 pub returns-in-At-second : goal.returns-in-At-second
 unfolding refusal_number
 returns-in-At-second c = not-planned multiple_primary_keys _ _ _ refl refl refl
-  (second_key c.args.catalog.now c.args.statement.now c.args.cells.now c.args.parts.now (c.key_column.ensures c.args.catalog.now c.args.statement.now c.args.cells.now) _ c.in-At.is
-  (c.key_column-second.ensures c.args.catalog.now c.args.statement.now c.args.cells.now) _ _ c.in-At-second.is
-  c.entry_at-e.ensures)
+    (second_key c.args.catalog.now c.args.statement.now c.args.cells.now c.args.parts.now (c.key_column.ensures c.args.catalog.now c.args.statement.now c.args.cells.now) _ c.in-At.is
+    (c.key_column-second.ensures c.args.catalog.now c.args.statement.now c.args.cells.now) _ _ c.in-At-second.is
+    c.entry_at-e.ensures)
 
 pub returns-in-Missing : goal.returns-in-Missing
 returns-in-Missing c = plans-same (one_key c.args.catalog.now c.args.statement.now c.args.cells.now c.args.parts.now
-  (c.key_column.ensures c.args.catalog.now c.args.statement.now c.args.cells.now) _ c.in-At.is
-  (c.key_column-second.ensures c.args.catalog.now c.args.statement.now c.args.cells.now) c.in-Missing.is)
-  c.create_table.ensures
+    (c.key_column.ensures c.args.catalog.now c.args.statement.now c.args.cells.now) _ c.in-At.is
+    (c.key_column-second.ensures c.args.catalog.now c.args.statement.now c.args.cells.now) c.in-Missing.is)
+    c.create_table.ensures

@@ -1,9 +1,6 @@
 -- `create::columns`: the columns so far.
 use Prim.Native.Nat.{◌-◌}
-use native.Mathlib.Omega.{arith}
-use mathlib.Core.Path.{◌∙◌}
-use Rattle.build_statement.specs.Columns.{SoFar, so-far-none, in_use, still, so-far-step, so-far-stop, so-far-all}
-use borrow.Author.Rules.{rules}
+use Rattle.build_statement.specs.Columns.{SoFar}
 use Rattle.build_statement.proofs.create.columns.Given as goal
 
 abbrev pub invariant-loop-i : goal.invariant-loop-i

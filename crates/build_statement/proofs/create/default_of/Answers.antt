@@ -1,29 +1,28 @@
 -- `create::default_of`: a null, none, or the constant.
 use Rattle.value.specs.Values.{value_of}
 use Rattle.build_statement.specs.Create.{null-given, none-given, literal-given, value-given, refused-given}
-use borrow.Author.Rules.{rules}
 use Rattle.build_statement.proofs.create.default_of.Goals as goal
 
 pub returns-then-nullable : goal.returns-then-nullable
 unfolding value_of
 returns-then-nullable c = null-given c.args.catalog.now c.args.statement.now c.args.cells.now c.args.e c.args.nullable
-  c.if-e-eq0.true c.if-nullable.true _ c.value_numbers.ensures
+    c.if-e-eq0.true c.if-nullable.true _ c.value_numbers.ensures
 
 pub returns-then-e-eq0 : goal.returns-then-e-eq0
 returns-then-e-eq0 c = none-given c.args.catalog.now c.args.statement.now c.args.cells.now c.args.e c.args.nullable
-  c.if-e-eq0.true c.if-nullable.false
+    c.if-e-eq0.true c.if-nullable.false
 
 pub returns-in-Literal : goal.returns-in-Literal
 returns-in-Literal c = literal-given c.args.catalog.now c.args.statement.now c.args.cells.now c.args.e c.args.nullable
-  c.if-e-eq0.false _ c.first_row.ensures _ c.build_constant_value-constant.ensures
-  _ _ _ _ c.in-Literal.is c.literal_numbers.ensures
+    c.if-e-eq0.false _ c.first_row.ensures _ c.build_constant_value-constant.ensures
+    _ _ _ _ c.in-Literal.is c.literal_numbers.ensures
 
 pub returns-in-Value : goal.returns-in-Value
 returns-in-Value c = value-given c.args.catalog.now c.args.statement.now c.args.cells.now c.args.e c.args.nullable
-  c.if-e-eq0.false _ c.first_row.ensures _ c.build_constant_value-constant.ensures
-  _ _ c.in-Value.is c.value_numbers-in-Value.ensures
+    c.if-e-eq0.false _ c.first_row.ensures _ c.build_constant_value-constant.ensures
+    _ _ c.in-Value.is c.value_numbers-in-Value.ensures
 
 pub returns-in-Refused : goal.returns-in-Refused
 returns-in-Refused c = refused-given c.args.catalog.now c.args.statement.now c.args.cells.now c.args.e c.args.nullable
-  c.if-e-eq0.false _ c.first_row.ensures _ c.build_constant_value-constant.ensures
-  _ _ c.in-Refused.is
+    c.if-e-eq0.false _ c.first_row.ensures _ c.build_constant_value-constant.ensures
+    _ _ c.in-Refused.is

@@ -1,16 +1,12 @@
 -- `create::key_column`: the columns given as primary key from the i-th on are those from the k-th on.
-use Prim.Native.Nat.{ℕ, ◌-◌, ◌<◌}
+use Prim.Native.Nat.{◌<◌}
 use native.Mathlib.Omega.{arith}
 use native.Mathlib.Numerals.{add-one}
-use mathlib.Core.Path.{◌≡◌, refl, ◌∙◌}
-use mathlib.Core.List.{List, []}
-use lib.ListN.{length, drop}
-use Rattle.rules.specs.Lists.{Bytes}
-use Rattle.rules.specs.BuildStatement.{key_columns}
+use mathlib.Core.Path.{refl, ◌∙◌}
+use lib.ListN.{length}
 use Rattle.sections.specs.Layout.{section_at}
 use Rattle.sections.specs.Access.{column_kind}
-use Rattle.build_statement.specs.Create.{columns_at, key-hit, key-miss, key-none, at_same, missing_at}
-use borrow.Author.Rules.{rules}
+use Rattle.build_statement.specs.Create.{key-hit, key-miss, key-none, at_same, missing_at}
 use Rattle.build_statement.proofs.create.key_column.Goals as goal
 
 pub loop-i-init : goal.loop-i-init
@@ -18,26 +14,26 @@ loop-i-init c = λ b q cells. refl
 
 pub returns-then-e-eq1 : goal.returns-then-e-eq1
 returns-then-e-eq1 c = λ b q cells.
-  let inside : c.loop-i.i < length (section_at b q cells c.args.parts.now column_kind) =
-  omega (arith, c.loop-i-test.true, c.count-count.ensures b q cells) in
-  record {
-   keys = c.loop-i.invariant b q cells ∙ key-hit b q cells c.args.parts.now c.loop-i.i _ c.entry_at-e.ensures inside c.if-e-eq1.true;
-   inside = λ i e. rw (← at_same e) inside;
-  }
+    let inside : c.loop-i.i < length (section_at b q cells c.args.parts.now column_kind) =
+    omega (arith, c.loop-i-test.true, c.count-count.ensures b q cells) in
+    record {
+      keys = c.loop-i.invariant b q cells ∙ key-hit b q cells c.args.parts.now c.loop-i.i _ c.entry_at-e.ensures inside c.if-e-eq1.true;
+      inside = λ i e. rw (← at_same e) inside;
+    }
 
 pub loop-i-preserved : goal.loop-i-preserved
 loop-i-preserved c = λ b q cells. rw (add-one c.loop-i.i) (c.loop-i.invariant b q cells
-  ∙ key-miss b q cells c.args.parts.now c.loop-i.i _ c.entry_at-e.ensures
-  (omega (arith, c.loop-i-test.true, c.count-count.ensures b q cells)) c.if-e-eq1.false)
+    ∙ key-miss b q cells c.args.parts.now c.loop-i.i _ c.entry_at-e.ensures
+    (omega (arith, c.loop-i-test.true, c.count-count.ensures b q cells)) c.if-e-eq1.false)
 
 pub returns : goal.returns
 returns c = λ b q cells. record {
-   keys = c.loop-i.invariant b q cells
-     ∙ key-none b q cells c.args.parts.now c.loop-i.i (omega (
-      arith,
-      c.loop-i-test.false,
-      c.count-count.ensures b q
-        cells,
-     ));
-   inside = λ i e. missing_at e;
-  }
+  keys = c.loop-i.invariant b q cells
+      ∙ key-none b q cells c.args.parts.now c.loop-i.i (omega (
+        arith,
+        c.loop-i-test.false,
+        c.count-count.ensures b q
+            cells,
+      ));
+  inside = λ i e. missing_at e;
+}

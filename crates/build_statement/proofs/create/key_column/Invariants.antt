@@ -1,16 +1,11 @@
 -- `create::key_column`: the columns given as primary key from the i-th on are those from the k-th on.
-use Prim.Native.Nat.{ℕ, ◌-◌, ◌<◌}
-use native.Mathlib.Omega.{arith}
-use native.Mathlib.Numerals.{add-one}
-use mathlib.Core.Path.{◌≡◌, refl, ◌∙◌}
-use mathlib.Core.List.{List, []}
-use lib.ListN.{length, drop}
+use Prim.Native.Nat.{ℕ, ◌-◌}
+use mathlib.Core.Path.{◌≡◌}
+use mathlib.Core.List.{List}
+use lib.ListN.{drop}
 use Rattle.rules.specs.Lists.{Bytes}
 use Rattle.rules.specs.BuildStatement.{key_columns}
-use Rattle.sections.specs.Layout.{section_at}
-use Rattle.sections.specs.Access.{column_kind}
-use Rattle.build_statement.specs.Create.{columns_at, key-hit, key-miss, key-none, at_same, missing_at}
-use borrow.Author.Rules.{rules}
+use Rattle.build_statement.specs.Create.{columns_at}
 use Rattle.build_statement.proofs.create.key_column.Given as goal
 
 abbrev pub invariant-loop-i : goal.invariant-loop-i

@@ -2,23 +2,22 @@
 use native.Mathlib.Omega.{arith}
 use Rattle.build_statement.specs.Columns.{word, head-in-use, table-pushes}
 use Rattle.build_statement.specs.Create.{word-span}
-use borrow.Author.Rules.{rules}
 use Rattle.build_statement.proofs.create.table.Goals as goal
 
 pub columns-requires : goal.columns-requires
 columns-requires c = omega (
-   arith,
-   c.requires,
-   head-in-use c.args.catalog.now c.args.statement.now c.args.cells.now c.args.parts.now _ _ (c.count-count.ensures c.args.catalog.now c.args.statement.now c.args.cells.now)
-     (c.create-k.ensures (word c.args.catalog.now c.args.statement.now c.args.cells.now c.args.parts.now)
-     (word-span c.args.catalog.now c.args.statement.now c.args.parts.now _ _ _ c.name_address-a.ensures
-     c.name_length.ensures c.length_at-n.ensures)),
-   c.create-k.auto.nodes,
-  )
+  arith,
+  c.requires,
+  head-in-use c.args.catalog.now c.args.statement.now c.args.cells.now c.args.parts.now _ _ (c.count-count.ensures c.args.catalog.now c.args.statement.now c.args.cells.now)
+      (c.create-k.ensures (word c.args.catalog.now c.args.statement.now c.args.cells.now c.args.parts.now)
+      (word-span c.args.catalog.now c.args.statement.now c.args.parts.now _ _ _ c.name_address-a.ensures
+      c.name_length.ensures c.length_at-n.ensures)),
+  c.create-k.auto.nodes,
+)
 
 pub returns : goal.returns
 returns c = table-pushes c.args.catalog.now c.args.statement.now c.args.cells.now c.args.parts.now _ _ (c.count-count.ensures c.args.catalog.now c.args.statement.now c.args.cells.now)
-  (c.create-k.ensures (word c.args.catalog.now c.args.statement.now c.args.cells.now c.args.parts.now)
-  (word-span c.args.catalog.now c.args.statement.now c.args.parts.now _ _ _ c.name_address-a.ensures
-  c.name_length.ensures c.length_at-n.ensures))
-  c.columns.ensures
+    (c.create-k.ensures (word c.args.catalog.now c.args.statement.now c.args.cells.now c.args.parts.now)
+    (word-span c.args.catalog.now c.args.statement.now c.args.parts.now _ _ _ c.name_address-a.ensures
+    c.name_length.ensures c.length_at-n.ensures))
+    c.columns.ensures

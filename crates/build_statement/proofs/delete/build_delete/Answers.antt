@@ -4,41 +4,40 @@ use mathlib.Core.Path.{refl}
 use Rattle.build_statement.specs.Kinds.{free-kept}
 use Rattle.build_statement.specs.Deletes.{delete-unknown, delete-where-room, delete-refused, delete-most}
 use Rattle.build_statement.specs.Deletes.{delete-planned}
-use borrow.Author.Rules.{rules}
 use Rattle.build_statement.proofs.delete.build_delete.Goals as goal
 
 pub returns-in_default : goal.returns-in_default
 returns-in_default c = delete-unknown c.args.catalog.now c.args.statement.now c.args.tables.now c.args.cells.now c.args.parts.now
-  c.requires _ _ c.name_address-a.ensures c.name_length-n.ensures _
-  c.get_table-found.ensures c.in_default.is c.line.ensures
+    c.requires _ _ c.name_address-a.ensures c.name_length-n.ensures _
+    c.get_table-found.ensures c.in_default.is c.line.ensures
 
 pub build_where-filtered-requires : goal.build_where-filtered-requires
 build_where-filtered-requires c = delete-where-room c.args.catalog.now c.args.statement.now c.args.tables.now c.args.cells.now c.args.parts.now
-  c.requires _ _ c.name_address-a.ensures c.name_length-n.ensures _
-  c.get_table-found.ensures c.clause_at-clause.ensures
-  (omega (arith, c.well_formed.1.1.1.0.1))
+    c.requires _ _ c.name_address-a.ensures c.name_length-n.ensures _
+    c.get_table-found.ensures c.clause_at-clause.ensures
+    (omega (arith, c.well_formed.1.1.1.0.1))
 
 pub returns-in_default-filtered : goal.returns-in_default-filtered
 returns-in_default-filtered c = delete-refused c.args.catalog.now c.args.statement.now c.args.tables.now c.args.cells.now c.args.parts.now
-  c.requires _ _ c.name_address-a.ensures c.name_length-n.ensures _
-  c.get_table-found.ensures c.clause_at-clause.ensures
-  (omega (arith, c.well_formed.1.1.1.0.1)) _ c.in-At.is
-  c.from_table-scope.ensures c.build_where-filtered.ensures _ _ c.in_default-filtered.is
+    c.requires _ _ c.name_address-a.ensures c.name_length-n.ensures _
+    c.get_table-found.ensures c.clause_at-clause.ensures
+    (omega (arith, c.well_formed.1.1.1.0.1)) _ c.in-At.is
+    c.from_table-scope.ensures c.build_where-filtered.ensures _ _ c.in_default-filtered.is
 
 pub end_delete-requires : goal.end_delete-requires
 end_delete-requires c = record {
   free = free-kept c.requires.free c.build_where-filtered.auto.area refl;
   m_le_most_plan_cells = delete-most c.args.catalog.now c.args.statement.now c.args.tables.now c.args.cells.now c.args.parts.now
-     c.requires _ _ c.name_address-a.ensures c.name_length-n.ensures _
-     c.get_table-found.ensures c.clause_at-clause.ensures
-     (omega (arith, c.well_formed.1.1.1.0.1)) _ c.in-At.is
-     c.from_table-scope.ensures c.build_where-filtered.ensures _ c.in-Done.is;
+      c.requires _ _ c.name_address-a.ensures c.name_length-n.ensures _
+      c.get_table-found.ensures c.clause_at-clause.ensures
+      (omega (arith, c.well_formed.1.1.1.0.1)) _ c.in-At.is
+      c.from_table-scope.ensures c.build_where-filtered.ensures _ c.in-Done.is;
 }
 
 pub returns : goal.returns
 returns c = delete-planned c.args.catalog.now c.args.statement.now c.args.tables.now c.args.cells.now c.args.parts.now
-  c.requires _ _ c.name_address-a.ensures c.name_length-n.ensures _
-  c.get_table-found.ensures c.clause_at-clause.ensures
-  (omega (arith, c.well_formed.1.1.1.0.1)) _ c.in-At.is
-  c.from_table-scope.ensures c.build_where-filtered.ensures _ c.in-Done.is
-  c.end_delete.auto.area c.end_delete.ensures
+    c.requires _ _ c.name_address-a.ensures c.name_length-n.ensures _
+    c.get_table-found.ensures c.clause_at-clause.ensures
+    (omega (arith, c.well_formed.1.1.1.0.1)) _ c.in-At.is
+    c.from_table-scope.ensures c.build_where-filtered.ensures _ c.in-Done.is
+    c.end_delete.auto.area c.end_delete.ensures

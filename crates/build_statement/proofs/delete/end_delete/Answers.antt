@@ -1,6 +1,5 @@
 -- `delete::end_delete`: the scan, the own numbers and the end.
 use Rattle.build_statement.specs.Deletes.{delete-own-room, delete-room, delete-ends}
-use borrow.Author.Rules.{rules}
 use Rattle.build_statement.proofs.delete.end_delete.Goals as goal
 
 pub delete-e-requires : goal.delete-e-requires

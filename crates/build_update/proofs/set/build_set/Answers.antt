@@ -1,6 +1,5 @@
 -- `set::build_set`: the default, or the expression.
 use Rattle.build_update.specs.Sets.{values-none, values-some, value_room}
-use borrow.Author.Rules.{rules}
 use Rattle.build_update.proofs.set.build_set.Goals as goal
 
 pub returns-then-e-eq0 : goal.returns-then-e-eq0

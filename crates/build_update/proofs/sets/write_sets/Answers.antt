@@ -1,22 +1,20 @@
 -- `sets::write_sets`: the sets so far.
-use Prim.Native.Nat.{ℕ, ◌-◌}
 use native.Mathlib.Omega.{arith}
 use mathlib.Core.Path.{◌∙◌}
-use lib.ListN.{take}
-use Rattle.schema.specs.Layout.{table_at}
-use Rattle.build_expression.specs.Builds.{scope_at}
-use Rattle.build_update.specs.SoFar.{sets_at, set_here_lem, sets-length, SoFar, so-far-none, so-far-step, so-far-stop, so-far-all}
+use Rattle.build_update.specs.SoFar.{set_here_lem, sets-length, so-far-none, so-far-step, so-far-stop, so-far-all}
 use Rattle.build_update.specs.SoFar.{area-kept, nodes-kept, number-room, set_room}
-use borrow.Author.Rules.{rules}
 use Rattle.build_update.proofs.sets.write_sets.Goals as goal
 
 pub loop-v-init : goal.loop-v-init
 loop-v-init c = λ h. so-far-none _ _ _ _ _ _ _ (omega (arith, c.requires.parts_in_bounds))
 
 pub write_set-written-requires : goal.write_set-written-requires
-write_set-written-requires c = record { room = set_room _ _ _ (c.loop-v.invariant 0) _ (set_here_lem c.args.catalog.now c.args.statement.now c.args.cells.now c.args.parts.now _ _ c.entry_at-e.ensures
-     (omega (arith, c.loop-v-test.true, c.count-sets.ensures c.args.catalog.now c.args.statement.now c.args.cells.now))) c.requires.room; set_size_in_bounds = number-room _ _ _ (c.loop-v.invariant 0) c.requires.parts_in_bounds
-     (omega (arith, c.loop-v-test.true, c.count-sets.ensures c.args.catalog.now c.args.statement.now c.args.cells.now, sets-length c.args.catalog.now c.args.statement.now c.args.cells.now c.args.parts.now)); }
+write_set-written-requires c = record {
+  room = set_room _ _ _ (c.loop-v.invariant 0) _ (set_here_lem c.args.catalog.now c.args.statement.now c.args.cells.now c.args.parts.now _ _ c.entry_at-e.ensures
+      (omega (arith, c.loop-v-test.true, c.count-sets.ensures c.args.catalog.now c.args.statement.now c.args.cells.now))) c.requires.room;
+  set_size_in_bounds = number-room _ _ _ (c.loop-v.invariant 0) c.requires.parts_in_bounds
+      (omega (arith, c.loop-v-test.true, c.count-sets.ensures c.args.catalog.now c.args.statement.now c.args.cells.now, sets-length c.args.catalog.now c.args.statement.now c.args.cells.now c.args.parts.now));
+}
 
 pub shape_of-area-in_default : goal.shape_of-area-in_default
 shape_of-area-in_default c = (c.write_set-written.ensures 0).area_kept ∙ area-kept _ _ _ (c.loop-v.invariant 0)
@@ -26,13 +24,13 @@ shape_of-nodes-in_default c = (c.write_set-written.ensures 0).nodes_kept ∙ nod
 
 pub returns-in_default : goal.returns-in_default
 returns-in_default c = λ h. so-far-stop _ _ _ (c.loop-v.invariant h) _ (set_here_lem c.args.catalog.now c.args.statement.now c.args.cells.now c.args.parts.now _ _ c.entry_at-e.ensures
-  (omega (arith, c.loop-v-test.true, c.count-sets.ensures c.args.catalog.now c.args.statement.now c.args.cells.now)))
-  (c.write_set-written.ensures h) _ _ c.in_default.is
+    (omega (arith, c.loop-v-test.true, c.count-sets.ensures c.args.catalog.now c.args.statement.now c.args.cells.now)))
+    (c.write_set-written.ensures h) _ _ c.in_default.is
 
 pub loop-v-preserved : goal.loop-v-preserved
 loop-v-preserved c = λ h. so-far-step _ _ _ (c.loop-v.invariant h) _ (set_here_lem c.args.catalog.now c.args.statement.now c.args.cells.now c.args.parts.now _ _ c.entry_at-e.ensures
-  (omega (arith, c.loop-v-test.true, c.count-sets.ensures c.args.catalog.now c.args.statement.now c.args.cells.now)))
-  (c.write_set-written.ensures h) _ _ c.in-Done.is
+    (omega (arith, c.loop-v-test.true, c.count-sets.ensures c.args.catalog.now c.args.statement.now c.args.cells.now)))
+    (c.write_set-written.ensures h) _ _ c.in-Done.is
 
 pub shape_of-area : goal.shape_of-area
 shape_of-area c = area-kept _ _ _ (c.loop-v.invariant 0)
@@ -42,4 +40,4 @@ shape_of-nodes c = nodes-kept _ _ _ (c.loop-v.invariant 0)
 
 pub returns : goal.returns
 returns c = λ h. so-far-all _ _ _ (c.loop-v.invariant h)
-  (omega (arith, c.loop-v-test.false, c.count-sets.ensures c.args.catalog.now c.args.statement.now c.args.cells.now, sets-length c.args.catalog.now c.args.statement.now c.args.cells.now c.args.parts.now))
+    (omega (arith, c.loop-v-test.false, c.count-sets.ensures c.args.catalog.now c.args.statement.now c.args.cells.now, sets-length c.args.catalog.now c.args.statement.now c.args.cells.now c.args.parts.now))

@@ -1,13 +1,9 @@
 -- `sets::write_sets`: the sets so far.
 use Prim.Native.Nat.{ℕ, ◌-◌}
-use native.Mathlib.Omega.{arith}
-use mathlib.Core.Path.{◌∙◌}
 use lib.ListN.{take}
 use Rattle.schema.specs.Layout.{table_at}
 use Rattle.build_expression.specs.Builds.{scope_at}
-use Rattle.build_update.specs.SoFar.{sets_at, set_here_lem, sets-length, SoFar, so-far-none, so-far-step, so-far-stop, so-far-all}
-use Rattle.build_update.specs.SoFar.{area-kept, nodes-kept, number-room, set_room}
-use borrow.Author.Rules.{rules}
+use Rattle.build_update.specs.SoFar.{sets_at, SoFar}
 use Rattle.build_update.proofs.sets.write_sets.Given as goal
 
 abbrev pub invariant-loop-v : goal.invariant-loop-v

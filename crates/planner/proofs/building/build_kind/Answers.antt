@@ -3,7 +3,6 @@ use mathlib.Core.Path.{sym, ◌∙◌}
 use Rattle.build_statement.specs.Kinds.{drop-built, delete-ready, delete-built, insert-ready, insert-built, update-ready, update-built}
 use Rattle.build_statement.specs.Columns.{create-ready, create-built}
 use Rattle.planner.specs.Kinds.{ready, plans-as, select-any, select-built, other-plans}
-use borrow.Author.Rules.{rules}
 use Rattle.planner.proofs.building.build_kind.Goals as goal
 
 pub build_select-requires : goal.build_select-requires

@@ -1,7 +1,6 @@
 -- `building::has_one_table`: the rows of FROM decide for a SELECT, and no other statement is one.
 use mathlib.Core.Path.{refl, sym, ◌∙◌}
 use Rattle.planner.specs.Kinds.{one_table_of, one-table-by}
-use borrow.Author.Rules.{rules}
 use Rattle.planner.proofs.building.has_one_table.Goals as goal
 
 pub returns-in-Select : goal.returns-in-Select
