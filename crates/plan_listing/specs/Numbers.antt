@@ -1,5 +1,5 @@
 -- No refusal has the number 0, by which the entry tells a plan.
-use Rattle.std.specs.Prelude.{ℕ, ◌≡◌, refl, false, eqb}
+use Rattle.std.specs.Prelude.{◌≡◌, refl, false, eqb}
 use Rattle.rules.specs.Refusals.{Reason, refusal_number, short_area, wrong_record, limit_passed, other_statement}
 use Rattle.rules.specs.Refusals.{unknown_table, duplicate_table, unknown_qualifier, unknown_column, ambiguous_column}
 use Rattle.rules.specs.Refusals.{constant_only, not_aggregated, unsupported_star, unknown_function, argument_count}

@@ -1,7 +1,7 @@
 -- What the program writes.
-use Rattle.std.specs.Prelude.{ℕ, ◌≡◌, Bool, true, false, refl, [], ◌∷◌, ◌++◌, List, take, length, eqb, if◌then◌else◌, ◌==◌}
-use Rattle.std.proofs.Common.{sym, ap, ◌∙◌}
-use Rattle.rules.specs.Refusals.{Text, catalog, statement, refusal_number, Refusal, Answer, ok, refused}
+use Rattle.std.specs.Prelude.{ℕ, ◌≡◌, Bool, true, false, refl, [], ◌∷◌, ◌++◌, List, take, length, if◌then◌else◌, ◌==◌}
+use Rattle.std.proofs.Common.{ap, ◌∙◌}
+use Rattle.rules.specs.Refusals.{Text, catalog, statement, Answer, ok, refused}
 use Rattle.rules.specs.Limits.{least_area}
 use Rattle.rules.specs.Lists.{Bytes}
 use Rattle.rules.specs.Plan.{Built, Plan}

@@ -1,5 +1,4 @@
 -- `list_outcome`: by whether there is a plan.
-use borrow.Author.Rules.{rules}
 use Rattle.plan_listing.specs.Shown.{shown-plan, shown-refusal}
 use Rattle.plan_listing.proofs.list_outcome.Goals as goal
 

@@ -1,6 +1,5 @@
 -- `answered`: the numbers of each case.
 use mathlib.Core.Path.{sym, ap}
-use borrow.Author.Rules.{rules}
 use Rattle.reader_host.specs.Numbers.{answered}
 use Rattle.reader_host.proofs.answered.Goals as goal
 

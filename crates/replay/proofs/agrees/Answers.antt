@@ -1,5 +1,4 @@
 -- `agrees`: the window holds the rules' listing.
-use borrow.Author.Rules.{rules}
 use Rattle.replay.proofs.agrees.Goals as goal
 
 pub returns : goal.returns

@@ -1,5 +1,4 @@
 -- `case_at`: by its record, and whether its listing is its answer.
-use borrow.Author.Rules.{rules}
 use native.Mathlib.Omega.{arith}
 use mathlib.Core.Path.{ap}
 use lib.ListN.{length, length-take}

@@ -1,5 +1,4 @@
 -- `holds`: a full window has more bytes than are expected.
-use borrow.Author.Rules.{rules}
 use Rattle.replay.specs.Cases.{full-differs, bytes_same}
 use Rattle.replay.proofs.holds.Goals as goal
 

@@ -1,5 +1,4 @@
 -- `step`: by what comes of the case.
-use borrow.Author.Rules.{rules}
 use Rattle.replay.specs.Replay.{step-agrees, step-differs, step-damaged}
 use Rattle.replay.proofs.step.Goals as goal
 

@@ -1,8 +1,6 @@
 -- `put_field`: the loop has put as many bytes of the field as it counted.
-use Prim.Native.Nat.{◌-◌}
-use lib.ListN.{length}
 use borrow.Author.Rules.{rules}
-use Rattle.read_texts.specs.Fields.{Putting, put-none, put-more, put-closed}
+use Rattle.read_texts.specs.Fields.{put-none, put-more, put-closed}
 use Rattle.read_texts.proofs.line.put_field.Goals as goal
 
 pub loop-i-init : goal.loop-i-init

@@ -1,8 +1,7 @@
 -- `put_field`: the loop has put as many bytes of the field as it counted.
 use Prim.Native.Nat.{◌-◌}
 use lib.ListN.{length}
-use borrow.Author.Rules.{rules}
-use Rattle.read_texts.specs.Fields.{Putting, put-none, put-more, put-closed}
+use Rattle.read_texts.specs.Fields.{Putting}
 use Rattle.read_texts.proofs.line.put_field.Given as goal
 
 abbrev pub invariant-loop-i : goal.invariant-loop-i

@@ -1,6 +1,5 @@
 -- `put_kind`: the word of each kind.
 use native.Mathlib.Omega.{arith}
-use borrow.Author.Rules.{rules}
 use Rattle.rules.specs.Lines.{bytes}
 use Rattle.read_texts.specs.Line.{kind_word, kind-other}
 use Rattle.read_texts.proofs.line.put_kind.Goals as goal

@@ -1,5 +1,4 @@
 -- `put_read`: four fields, one behind the other.
-use borrow.Author.Rules.{rules}
 use Rattle.rules.specs.Lines.{bytes}
 use Rattle.rules.specs.Print.{decimal_of}
 use Rattle.read_texts.specs.Fields.{four-counted}

@@ -1,6 +1,5 @@
 -- `put_text`: the word of each text.
 use native.Mathlib.Omega.{arith}
-use borrow.Author.Rules.{rules}
 use Rattle.rules.specs.Lines.{bytes}
 use Rattle.read_texts.specs.Line.{text_word, text-other}
 use Rattle.read_texts.proofs.line.put_text.Goals as goal

@@ -1,5 +1,4 @@
 -- `put_texts`: the line of each case.
-use borrow.Author.Rules.{rules}
 use Rattle.read_texts.proofs.line.put_texts.Goals as goal
 
 pub returns-in-Read : goal.returns-in-Read
