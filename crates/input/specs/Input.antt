@@ -1,7 +1,7 @@
 -- How far a text was read into its buffer.
-use Rattle.std.specs.Prelude.{ℕ, ◌≤◌, ◌<◌, List, length, take, Result, Ok, Err, Option}
+use Rattle.std.specs.Prelude.{ℕ, ◌≡◌, ◌≤◌, ◌<◌, List, length, take, Result, Ok, Err, Option}
 use Rattle.std.specs.Io.KnownBytes.{Consumes, IsAtEnd}
-use Rattle.std.proofs.Common.{arith}
+use Rattle.std.proofs.Common.{arith, sym, length-take-le}
 use Rattle.io.specs.Counts.{IsPrefixLen}
 use Rattle.rules.specs.Limits.{most_bytes}
 
@@ -23,3 +23,15 @@ Took before after s (Err e) = Unit {0}
 pub whole : {E : Type 0} (s : List ℕ) (r : Result ℕ E) → most_bytes < length s → Within s r → Whole s r
 whole s (Ok n) l h = (h, λ m. omega arith)
 whole s (Err e) l h = tt
+
+pub within : (E : Type 0) (s : List ℕ) (n : ℕ) → n ≤ length s → Within {E = E} s (Ok n)
+within E s n h = (h, sym (length-take-le n s h))
+
+pub failed : {E : Type 0} (s : List ℕ) (e : E) → Within s (Err e)
+failed s e = tt
+
+pub filled : {E : Type 0} (s : List ℕ) (r : Result ℕ E) {n : ℕ} → Within s r → r ≡ Ok n → IsPrefixLen n s
+filled s r h e = rw e at h
+
+pub counted : {E : Type 0} (s : List ℕ) (r : Result ℕ E) {n : ℕ} → Whole s r → r ≡ Ok n → IsPrefixLen n s
+counted s r h e = (rw e at h).0

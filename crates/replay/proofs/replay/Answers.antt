@@ -18,5 +18,8 @@ loop-p-preserved g c = replay-more _ _ _ c.loop-p.invariant c.loop-p-test.true c
 pub returns : goal.returns
 returns g c = replay-end _ _ c.loop-p.invariant c.loop-p-test.false
 
-pub loop-p-preserved-then-not-p : goal.loop-p-preserved-then-not-p
-loop-p-preserved-then-not-p g c = replay-more _ _ _ c.loop-p.invariant c.loop-p-test.true c.step-p.ensures
+pub loop-p-preserved-then-is_ok : goal.loop-p-preserved-then-is_ok
+loop-p-preserved-then-is_ok g c = replay-more _ _ _ c.loop-p.invariant c.loop-p-test.true c.step-p.ensures
+
+pub loop-p-smaller-then-is_ok : goal.loop-p-smaller-then-is_ok
+loop-p-smaller-then-is_ok g c = omega (arith, c.step-p.ensures.moved, c.loop-p-test.true)
