@@ -9,7 +9,8 @@ use Rattle.rules.specs.Ast as Ast
 use Rattle.rules.specs.BuildFrom.{is_outer, is_right}
 use Rattle.from.specs.Layout.{left_at, from_at}
 use Rattle.from.specs.Roots.{left_by, first-most}
-use Rattle.from.specs.Access.{line_at, kind_at, row_of, left_side, right_side, from-kind, join-behind}
+use Rattle.from.specs.Access.{line_at, kind_at, row_of, left_side, right_side, join-behind}
+use Rattle.from.proofs.RowKinds.{from-kind}
 use Rattle.from.specs.declared.row.Kind.{Kind}
 use Rattle.from.specs.declared.row.Kind.TheVariants as K
 use Rattle.build_from.specs.Tables.{table_row}

@@ -10,9 +10,8 @@ use Rattle.rules.specs.Ast.{Expr, cross, inner, left, right, From, table, join}
 use Rattle.ast.specs.Table.{at, tree_at}
 use Rattle.numbers.specs.Codes.{coded}
 use Rattle.ast.specs.Names.{name_at}
-use Rattle.numbers.specs.Codes.{coded-map, coded-at, coded-below, coded-above}
-use Rattle.from.specs.Layout.{left_at, predicate_at, table_by, row_by, table_at, row_at, from_at}
-use Rattle.from.specs.Roots.{from_first, from_next}
+use Rattle.numbers.specs.Codes.{coded-at, coded-below, coded-above}
+use Rattle.from.specs.Layout.{left_at, predicate_at, from_at}
 use Rattle.from.specs.declared.row.Kind.{Kind}
 use Rattle.from.specs.declared.row.Kind.TheVariants as K
 use Rattle.from.specs.declared.row.Predicate.{Predicate}
@@ -48,7 +47,7 @@ unfoldable pub predicate_of : Bytes → Bytes → List ℕ → Predicate → Opt
 predicate_of b q cells P.Missing = none
 predicate_of b q cells (P.Row r) = some (tree_at b q cells r)
 
-predicate-at : (b q : Bytes) (cells : List ℕ) (x : ℕ) → predicate_at b q cells x ≡ predicate_of b q cells (predicate_row x)
+pub predicate-at : (b q : Bytes) (cells : List ℕ) (x : ℕ) → predicate_at b q cells x ≡ predicate_of b q cells (predicate_row x)
 unfolding predicate_at predicate_of predicate_row
 predicate-at b q cells zero = refl
 predicate-at b q cells (suc r) = refl
@@ -123,21 +122,6 @@ module _ (b q : Bytes) (cells froms : List ℕ) where
 
   abbrev pub right_side : ℕ → From
   right_side r = from_at b q cells froms (r - 1)
-
-  by_number : (r : ℕ) (u v : From) → row_at b q cells froms r u v ≡ row_of (kind_of (at froms r 0)) r u v
-  unfolding row_at row_by table_by kind_of row_of
-  by_number r u v = rw (predicate-at b q cells (at froms r 2))
-      (sym (coded-map (λ (k : Kind). row_of k r u v) _ _ 1 (at froms r 0)))
-
-  by_kind : (r : ℕ) → from_at b q cells froms r ≡ row_of (kind_at froms r) r (left_side r) (right_side r)
-  unfolding kind_at table_at table_by row_of
-  by_kind zero = from_first b q cells froms
-  by_kind (suc r) = from_next b q cells froms r ∙ rw (sub-one (suc r)) (by_number (suc r) _ _)
-
-  -- the tree at a row of the kind k
-  pub from-kind : (r : ℕ) (k : Kind) → k ≡ kind_at froms r
-      → from_at b q cells froms r ≡ row_of k r (left_side r) (right_side r)
-  from-kind r k h = by_kind r ∙ rw (← h)
 
 -- a join is not in the first row
 pub join-behind : (froms : List ℕ) (r : ℕ) → (kind_at froms r ≡ K.Table → ⊥) → 0 < r

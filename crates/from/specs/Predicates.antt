@@ -18,7 +18,7 @@ use Rattle.numbers.specs.Kept.{kept-all}
 use Rattle.ast.specs.Table.{row_size, table_size}
 use Rattle.read_expression.specs.Reading.{here, Position, Given, Took, Rows}
 use Rattle.from.specs.Layout.{predicate_at}
-use Rattle.read_expression.specs.Rows.{rows-kept, tree-back}
+use Rattle.read_expression.proofs.Rows.{rows-kept, tree-back}
 use Rattle.from.specs.Rules.{single, single-no, without}
 use Rattle.from.specs.Rows.{sides_before}
 use Rattle.from.specs.Trees.{line_in, kind_in, on_in, Closed}

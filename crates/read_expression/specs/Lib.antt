@@ -10,7 +10,4 @@ pub mod Reading
 pub mod RecordHere
 pub mod Times
 pub mod Given
-pub mod Built
-pub mod Rows
 pub mod Starred
-pub mod ExpressionRuns

@@ -21,7 +21,7 @@ use Rattle.sections.specs.Layout.{start_of, numbers, entry_at}
 use Rattle.entries.specs.Heads.{last_name, numbers_of, Entered, IsHead}
 use Rattle.numbers.specs.Kept.{Kept, kept-sets-behind}
 use Rattle.numbers.specs.Stores.{Stored, stored-sets, stored-kept}
-use Rattle.read_expression.specs.Rows.{rows-kept, rows_back}
+use Rattle.read_expression.proofs.Rows.{rows-kept, rows_back}
 use Rattle.read_expression.specs.Times.{times-count}
 use Rattle.sections.specs.Kinds.{entry-within, keyword-inside}
 use Rattle.sections.specs.Store.{entry_numbers, entry-twelve, entry-back}

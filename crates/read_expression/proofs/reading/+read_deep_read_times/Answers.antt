@@ -3,8 +3,8 @@
 use native.Mathlib.Omega.{arith}
 use mathlib.Core.Path.{◌∙◌}
 use Rattle.read_expression.specs.Given.{given-done}
-use Rattle.read_expression.specs.Rows.{rows-length}
-use Rattle.read_expression.specs.ExpressionRuns.{loop-start, loop-length, loop-end, loop-wrong, loop-limit, loop-on, no_record, no_room, too-deep, operands-position, operands-wrong, operands-limit, deep-done, deep_is, leaf-done}
+use Rattle.read_expression.proofs.Rows.{rows-length}
+use Rattle.read_expression.proofs.ExpressionRuns.{loop-start, loop-length, loop-end, loop-wrong, loop-limit, loop-on, no_record, no_room, too-deep, operands-position, operands-wrong, operands-limit, deep-done, deep_is, leaf-done}
 use Rattle.read_expression.proofs.reading.+read_deep_read_times.Goals as goal
 
 pub read_deep-returns-then-h-eq-WRONG : goal.read_deep-returns-then-h-eq-WRONG

@@ -2,7 +2,7 @@
 -- what the rest reads, is what the whole reads.
 use Prim.Native.Nat.{ℕ, ◌+◌, ◌*◌}
 use Rattle.rules.specs.ReadExpression.{deep}
-use Rattle.read_expression.specs.ExpressionRuns.{Loop}
+use Rattle.read_expression.proofs.ExpressionRuns.{Loop}
 use Rattle.read_expression.proofs.reading.+read_deep_read_times.Given as goal
 
 abbrev pub decreases-read_deep : goal.decreases-read_deep

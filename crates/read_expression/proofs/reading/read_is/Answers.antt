@@ -1,5 +1,5 @@
 -- `reading::read_is`: the literal and the row of an `is`.
-use Rattle.read_expression.specs.ExpressionRuns.{is-row-wrong, is_row}
+use Rattle.read_expression.proofs.ExpressionRuns.{is-row-wrong, is_row}
 use Rattle.read_expression.proofs.reading.read_is.Goals as goal
 
 pub returns-then-v-eq0 : goal.returns-then-v-eq0

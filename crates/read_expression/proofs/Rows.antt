@@ -8,9 +8,10 @@ use Rattle.rules.specs.Ast.{Expr, Exprs, nil, cons, size_all}
 use Rattle.numbers.specs.Stores.{Stored, stored-sets, stored-kept, sets-append}
 use Rattle.numbers.specs.Kept.{Kept, kept-sets-behind}
 use Rattle.ast.specs.Table.{row_size, table_size, arguments_at, tree_at}
-use Rattle.read_expression.specs.Encode.{count_of, encode, encode_all, encode-all-length}
+use Rattle.read_expression.specs.Encode.{count_of, encode, encode_all}
+use Rattle.read_expression.proofs.Encoded.{encode-all-length}
 use Rattle.read_expression.specs.Fits.{FitsAll}
-use Rattle.read_expression.specs.ReadBack.{read_back, read_all}
+use Rattle.read_expression.proofs.TreesBack.{read_back, read_all}
 use Rattle.read_expression.specs.Reading.{Rows}
 use Rattle.read_expression.specs.Times.{joined, joined-encode, joined-size, joined-fits}
 

@@ -23,15 +23,16 @@ use Rattle.ast.specs.Table.{row_size}
 use Rattle.read_expression.specs.declared.reading.Read as Rd
 use Rattle.read_expression.specs.declared.reading.Read.TheVariants as R
 use Rattle.read_expression.specs.declared.heads.Row.{Row}
-use Rattle.read_expression.specs.Encode.{head_numbers, is_numbers, arity, row_of, encode, encode_all, encode-length}
+use Rattle.read_expression.specs.Encode.{head_numbers, is_numbers, arity, row_of, encode, encode_all}
+use Rattle.read_expression.proofs.Encoded.{encode-length}
 use Rattle.read_expression.specs.Fits.{Fits, FitsAll}
 use Rattle.read_expression.specs.RowOf.{RowOf}
 use Rattle.read_expression.specs.Reading.{here, Position, Took, Given, Rows, IsRow}
 use Rattle.read_expression.specs.RecordHere.{row-of-none, row-of-some, row-of-is, row-of-not-is, head-inside, literal-inside, position-next, line-passed, literal-wrong, literal-read, deep-wrong, deep-full, deep-cut, deep-read}
 use Rattle.read_expression.specs.Times.{joined, joined-none, before, before-none, before-twice, times-end, times-no, times-on, times-count}
 use Rattle.read_expression.specs.Given.{given-done, given-wrong, given-limit, gives-done, gives-wrong, gives-limit}
-use Rattle.read_expression.specs.Rows.{rows_none, rows_join, rows-length}
-use Rattle.read_expression.specs.Built.{build, built, operands-ok, operands-no, is-wrong, is_read, one_ok, is-built}
+use Rattle.read_expression.proofs.Rows.{rows_none, rows_join, rows-length}
+use Rattle.read_expression.proofs.Built.{build, built, operands-ok, operands-no, is-wrong, is_read, one_ok, is-built}
 
 -- EXPRESSIONS IN A ROW
 -- n are to be read from row c₀ on, and those before row c are read

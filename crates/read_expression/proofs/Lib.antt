@@ -1,0 +1,5 @@
+pub mod Encoded
+pub mod TreesBack
+pub mod Rows
+pub mod Built
+pub mod ExpressionRuns
