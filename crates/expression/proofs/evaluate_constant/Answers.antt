@@ -1,4 +1,5 @@
 -- `expression::evaluate_constant` meets its contract.
+use Rattle.std.proofs.Common.{arith}
 use mathlib.Core.Path.{sym, ap, ◌∙◌}
 use Rattle.expression.specs.Answers.{answer_of, constant_of}
 use Rattle.expression.proofs.Rows.{bare, worked-out}
@@ -12,9 +13,9 @@ returns-then-kind-eq8 c = bare _ _ _ _ _ _ _
 pub returns-in-Value : goal.returns-in-Value
 unfolding constant_of answer_of
 returns-in-Value c = ap (answer_of _ _) (sym c.in-Value.is) ∙ worked-out _ _ _ _ _
-    (λ g. c.if-kind-eq8.false (c.kind.ensures ∙ g)) c.evaluate-e.ensures
+    (omega arith) c.evaluate-e.ensures
 
 pub returns-in-Refused : goal.returns-in-Refused
 unfolding constant_of answer_of
 returns-in-Refused c = ap (answer_of _ _) (sym c.in-Refused.is) ∙ worked-out _ _ _ _ _
-    (λ g. c.if-kind-eq8.false (c.kind.ensures ∙ g)) c.evaluate-e.ensures
+    (omega arith) c.evaluate-e.ensures

@@ -1,4 +1,5 @@
 -- `read_texts`: the texts' lengths, the catalog, the statement, each with its refusals; what was read goes through `taken`.
+use Rattle.std.proofs.Common.{arith}
 use Rattle.reader.specs.Cases.{catalog-long, statement-long, catalog-wrong, catalog-limit, statement-wrong, statement-limit, texts-read}
 use Rattle.reader.proofs.read_texts.Goals as goal
 
@@ -10,23 +11,23 @@ returns-then-statement c = statement-long c.if-catalog.false c.if-statement.true
 
 pub returns-in-Wrong : goal.returns-in-Wrong
 returns-in-Wrong c = let k = c in
-    catalog-wrong (record { short = c.if-catalog.false; short_statement = c.if-statement.false; is = k.read_catalog-c.ensures _ }) c.in-Wrong.is
+    catalog-wrong (record { short = c.if-catalog.false; short_statement = omega arith; is = k.read_catalog-c.ensures _ }) c.in-Wrong.is
 
 pub returns-in-Limit : goal.returns-in-Limit
 returns-in-Limit c = let k = c in
-    catalog-limit (record { short = c.if-catalog.false; short_statement = c.if-statement.false; is = k.read_catalog-c.ensures _ }) c.in-Limit.is
+    catalog-limit (record { short = c.if-catalog.false; short_statement = omega arith; is = k.read_catalog-c.ensures _ }) c.in-Limit.is
 
 pub returns-in-Wrong-s : goal.returns-in-Wrong-s
 returns-in-Wrong-s c = let s = c in
     let k = c in
-    statement-wrong (record { short = c.if-catalog.false; short_statement = c.if-statement.false; is = k.read_catalog-c.ensures _ }) c.in-Done.is (record { is = s.read_statement-s.ensures.0 _; size = s.read_statement-s.ensures.1 _; stays = s.read_statement-s.ensures.2 }) c.in-Wrong-s.is
+    statement-wrong (record { short = c.if-catalog.false; short_statement = omega arith; is = k.read_catalog-c.ensures _ }) c.in-Done.is (record { is = s.read_statement-s.ensures.0 _; size = s.read_statement-s.ensures.1 _; stays = s.read_statement-s.ensures.2 }) c.in-Wrong-s.is
 
 pub returns-in-Limit-s : goal.returns-in-Limit-s
 returns-in-Limit-s c = let s = c in
     let k = c in
-    statement-limit (record { short = c.if-catalog.false; short_statement = c.if-statement.false; is = k.read_catalog-c.ensures _ }) c.in-Done.is (record { is = s.read_statement-s.ensures.0 _; size = s.read_statement-s.ensures.1 _; stays = s.read_statement-s.ensures.2 }) c.in-Limit-s.is
+    statement-limit (record { short = c.if-catalog.false; short_statement = omega arith; is = k.read_catalog-c.ensures _ }) c.in-Done.is (record { is = s.read_statement-s.ensures.0 _; size = s.read_statement-s.ensures.1 _; stays = s.read_statement-s.ensures.2 }) c.in-Limit-s.is
 
 pub returns-in-Done-s : goal.returns-in-Done-s
 returns-in-Done-s c = let s = c in
     let k = c in
-    rw c.taken.ensures (texts-read (record { short = c.if-catalog.false; short_statement = c.if-statement.false; is = k.read_catalog-c.ensures _ }) c.in-Done.is (record { is = s.read_statement-s.ensures.0 _; size = s.read_statement-s.ensures.1 _; stays = s.read_statement-s.ensures.2 }) c.in-Done-s.is)
+    rw c.taken.ensures (texts-read (record { short = c.if-catalog.false; short_statement = omega arith; is = k.read_catalog-c.ensures _ }) c.in-Done.is (record { is = s.read_statement-s.ensures.0 _; size = s.read_statement-s.ensures.1 _; stays = s.read_statement-s.ensures.2 }) c.in-Done-s.is)

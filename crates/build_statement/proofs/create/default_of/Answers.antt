@@ -10,7 +10,7 @@ returns-then-nullable c = null-given c.args.catalog.now c.args.statement.now c.a
 
 pub returns-then-e-eq0 : goal.returns-then-e-eq0
 returns-then-e-eq0 c = none-given c.args.catalog.now c.args.statement.now c.args.cells.now c.args.e c.args.nullable
-    c.if-e-eq0.true c.if-nullable.false
+    c.if-e-eq0.true (cc)
 
 pub returns-in-Literal : goal.returns-in-Literal
 returns-in-Literal c = literal-given c.args.catalog.now c.args.statement.now c.args.cells.now c.args.e c.args.nullable

@@ -1,4 +1,5 @@
 -- `access::clause_at`: none, or the first entry.
+use Rattle.std.proofs.Common.{arith}
 use mathlib.Core.Path.{sym, ◌∙◌}
 use mathlib.Core.List.{[]}
 use Rattle.sections.specs.Access.{section-count}
@@ -14,4 +15,4 @@ pub returns : goal.returns
 returns c = let args = c.args in
     clause-by args.parts.now args.kind _ _ _ c.entry_at-e.ensures c.first_row.ensures
     (c.count.ensures [] [] [] ∙ section-count [] [] [] args.parts.now args.kind)
-    c.if-count-eq0.false
+    (omega arith)
