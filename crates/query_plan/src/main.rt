@@ -129,8 +129,10 @@ fn plan<'t, O: Write, E: Write>(
 {
     let mut area = [0u32; LEAST_AREA];
     let outcome = planner_plan(catalog, statement, &mut area);
-    print(out, catalog, statement, outcome, &area).context("standard output")?;
-    show_record(errors, catalog, statement, outcome).context("standard error")?;
+    let printed = print(out, catalog, statement, outcome, &area);
+    let shown = show_record(errors, catalog, statement, outcome);
+    printed.context("standard output")?;
+    shown.context("standard error")?;
     Ok(())
 }
 

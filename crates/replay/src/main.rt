@@ -132,10 +132,8 @@ fn replay<W: Write>(to: &mut W, list: &[u8]) -> (Progress, io::Result<()>)
     (p, written)
 }
 
-// Replays the list and writes what came of it.
-fn report<W: Write>(to: &mut W, list: &[u8]) -> io::Result<()> {
-    let (p, written) = replay(to, list);
-    written?;
+// What came of a replay.
+fn tell<W: Write>(to: &mut W, p: Progress) -> io::Result<()> {
     let cases = p.cases;
     let agree = p.agree;
     if p.damaged {
@@ -146,6 +144,14 @@ fn report<W: Write>(to: &mut W, list: &[u8]) -> io::Result<()> {
     }
     writeln!(to, "cases: {cases}")?;
     writeln!(to, "agree: {agree}")
+}
+
+// Replays the list and writes what came of it.
+fn report<W: Write>(to: &mut W, list: &[u8]) -> io::Result<()> {
+    let (p, written) = replay(to, list);
+    let told = tell(to, p);
+    written?;
+    told
 }
 
 fn read_list<R: Read>(from: &mut R, list: &mut List) -> io::Result<usize>

@@ -14,8 +14,8 @@ listing-shown : (c q a : List ℕ) {area : List ℕ} {o : Outcome} → Answers (
     → shown c q o area ≡ listing c q
 listing-shown c q a h l = planned-shown c q a l h
 
-pub print-requires : goal.print-requires
-print-requires g c = listing-shown _ _ _ c.planner_plan-outcome.ensures (search rules)
+pub print-printed-requires : goal.print-printed-requires
+print-printed-requires g c = listing-shown _ _ _ c.planner_plan-outcome.ensures (search rules)
 
 pub returns-clause-shown : goal.returns-clause-shown
-returns-clause-shown g c = subst (Appends _ _) (fault-shown _ _ _ c.planner_plan-outcome.ensures (search rules)) (rw c.in_ok-context-2.ensures at c.show_record.ensures)
+returns-clause-shown g c = subst (Appends _ _) (fault-shown _ _ _ c.planner_plan-outcome.ensures (search rules)) (rw c.in_ok-context-2.ensures at c.show_record-shown.ensures)
