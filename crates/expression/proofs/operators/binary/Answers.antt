@@ -11,7 +11,7 @@ pub returns-in-18 : goal.returns-in-18
 returns-in-18 c = binary-arm _ _ _ _ 1 c.in-18.is c.eq.ensures
 
 pub returns-in-19 : goal.returns-in-19
-returns-in-19 c = binary-arm _ _ _ _ 2 c.in-19.is c.gt.ensures
+returns-in-19 c = binary-arm _ _ _ _ 2 c.in-19.is (cc)
 
 pub returns-in-20 : goal.returns-in-20
 returns-in-20 c = binary-arm _ _ _ _ 3 c.in-20.is c.lt.ensures
@@ -45,7 +45,7 @@ unfolding binary_of
 returns-in-27 c = binary-arm _ _ _ _ 10 c.in-27.is (c.like.ensures _ _)
 
 pub returns-in-28 : goal.returns-in-28
-returns-in-28 c = binary-arm _ _ _ _ 11 c.in-28.is c.ge.ensures
+returns-in-28 c = binary-arm _ _ _ _ 11 c.in-28.is (cc)
 
 pub returns-in-29 : goal.returns-in-29
 returns-in-29 c = binary-arm _ _ _ _ 12 c.in-29.is c.le.ensures
