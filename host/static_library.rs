@@ -1,4 +1,4 @@
-//! For build scripts: links the static library of a Rattle crate, which `rt staticlib NAME` writes into the repository's
+//! For build scripts: links the static library of a Rattle crate, which `tools/build NAME` writes into the repository's
 //! `target/`. Where it is missing, the crate is built without it.
 
 use std::env;
@@ -17,7 +17,7 @@ pub fn link(name: &str, cfg: &str, what: &str) {
     println!("cargo::rerun-if-changed={}", folder.display());
     println!("cargo::rerun-if-changed={}", library.display());
     if !library.is_file() {
-        return missing(what, &format!("`rt staticlib {name}` was not run"));
+        return missing(what, &format!("`tools/build {name}` was not run"));
     }
     let of_target = |name| env::var(name).unwrap_or_default();
     if of_target("CARGO_CFG_TARGET_ARCH") != "x86_64" || of_target("CARGO_CFG_TARGET_OS") != "linux" {

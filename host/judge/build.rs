@@ -7,7 +7,7 @@ mod checksum;
 use std::path::Path;
 use std::{env, fs};
 
-/// The programs, for x86-64 Linux, which `rt check read_texts query_plan` writes into the repository's `target/`.
+/// The programs, for x86-64 Linux, which `tools/build read_texts query_plan` writes into the repository's `target/`.
 const READING_PROGRAM: &str = "../../target/bin/read_texts";
 const PLANNING_PROGRAM: &str = "../../target/bin/query_plan";
 

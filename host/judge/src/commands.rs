@@ -159,7 +159,7 @@ fn compare_plans(numbers: Numbers, cases: &Cases) -> Result<bool, String> {
 /// The library of a Rattle crate was linked, and is the one that its sources give.
 fn linked(name: &str, is_linked: bool) -> Result<(), String> {
     if !is_linked {
-        return Err(format!("`rt staticlib {name}` was not run"));
+        return Err(format!("`tools/build {name}` was not run"));
     }
     stale::check(name)
 }

@@ -16,8 +16,8 @@ const LINKED: [(&str, Option<&str>); 3] = [
     ("value_host", option_env!("LINKED_VALUE_HOST")),
 ];
 
-/// The library of a crate, as it stands in `target/`, is the one that was linked, and no source of the crate or of those
-/// that it uses is newer. The error says what is to be done. Of a library from elsewhere there is nothing to say.
+/// A library, as it stands in `target/`, is the one that was linked, and no source of its crate or of those that this uses is
+/// newer. The error says what is to be done. Of a library from elsewhere there is nothing to say.
 pub fn check(name: &str) -> Result<(), String> {
     match LINKED.iter().find(|(known, _)| *known == name) {
         Some((_, Some(linked))) => check_in(Path::new(REPOSITORY), name, linked),
@@ -33,15 +33,20 @@ fn check_in(repository: &Path, name: &str, linked: &str) -> Result<(), String> {
         return Err(format!("another {} was linked than stands there: build again", library.display()));
     }
     let made = modified(&library)?;
-    for source in sources(repository, name)? {
+    for source in sources(repository, crate_of(name))? {
         if modified(&source)? > made {
             let (library, source) = (library.display(), source.display());
             return Err(format!(
-                "{library} is older than {source}: run `rt staticlib {name}`, and build again"
+                "{library} is older than {source}: run `tools/build {name}`, and build again"
             ));
         }
     }
     Ok(())
+}
+
+/// The crate that a library is built of.
+fn crate_of(name: &str) -> &str {
+    if name == "planner" { "planner_c" } else { name }
 }
 
 fn modified(path: &Path) -> Result<SystemTime, String> {
@@ -56,7 +61,9 @@ fn sources(repository: &Path, name: &str) -> Result<Vec<PathBuf>, String> {
     let (mut found, mut next) = (BTreeSet::new(), vec![name]);
     while let Some(name) = next.pop() {
         if found.insert(name) {
-            let line = text.lines().find_map(|line| line.split_once(':').filter(|(of, _)| of.trim() == name));
+            // Behind the name there may stand what kind of crate it is.
+            let is_named = |of: &str| of.split_whitespace().next() == Some(name);
+            let line = text.lines().find_map(|line| line.split_once(':').filter(|(of, _)| is_named(of)));
             next.extend(
                 line.iter().flat_map(|(_, used)| used.split('#').next()).flat_map(str::split_whitespace),
             );
@@ -124,6 +131,10 @@ mod tests {
             write(&source, "", 1);
         }
         assert_eq!(check_in(&repository, "high", &linked), Ok(()));
+        write(&repository.join("crates.txt"), "low:\nmiddle: low\nhigh staticlib: middle\n", 0);
+        assert_eq!(check_in(&repository, "high", &linked), Ok(()));
+        write(&repository.join("crates/low/src/lib.rt"), "", 3);
+        assert!(check_in(&repository, "high", &linked).is_err());
         fs::remove_dir_all(&repository).expect("the folder is removed");
     }
 }

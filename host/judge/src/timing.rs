@@ -13,7 +13,7 @@ pub const ROUNDS: u64 = 3_000;
 fn linked() -> Result<(), String> {
     match (planner::AVAILABLE, reader::AVAILABLE) {
         (false, _) => Err("the planner's library is not linked".to_string()),
-        (_, false) => Err("`rt staticlib reader_host` was not run".to_string()),
+        (_, false) => Err("`tools/build reader_host` was not run".to_string()),
         _ => Ok(()),
     }
 }

@@ -99,7 +99,7 @@ fn printed(arguments: &[&str]) -> (Option<i32>, String) {
 #[test]
 #[cfg_attr(
     not(all(planning, reading)),
-    ignore = "`rt staticlib planner` or `rt staticlib reader_host` was not run"
+    ignore = "`tools/build planner` or `tools/build reader_host` was not run"
 )]
 fn bench_prints_a_line_a_question() {
     for which in [&["bench", "--rounds", "1"][..], &["bench", "--rounds", "1", "--median"]] {

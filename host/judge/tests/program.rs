@@ -14,7 +14,7 @@ const PIECE: usize = 4_000;
 
 fn program() -> Program {
     let path = concat!(env!("CARGO_MANIFEST_DIR"), "/../../target/bin/read_texts");
-    Program::new(Path::new(path), Duration::from_secs(60)).expect("`rt check read_texts` was run")
+    Program::new(Path::new(path), Duration::from_secs(60)).expect("`tools/build read_texts` was run")
 }
 
 /// Both texts make the program print the line, from a file and through a pipe. A blank stands for a tab.
@@ -51,7 +51,7 @@ fn statement(cells: usize, bytes: usize) -> Vec<u8> {
 const SHORT: usize = 100;
 
 #[test]
-#[cfg_attr(not(program), ignore = "`rt check read_texts` was not run")]
+#[cfg_attr(not(program), ignore = "`tools/build read_texts` was not run")]
 fn texts_of_the_most_bytes_are_read() {
     for bytes in [TEXT_BYTES - 1, TEXT_BYTES] {
         prints(&catalog(1, bytes), &statement(1, SHORT), "read insert 1 1");
@@ -63,7 +63,7 @@ fn texts_of_the_most_bytes_are_read() {
 }
 
 #[test]
-#[cfg_attr(not(program), ignore = "`rt check read_texts` was not run")]
+#[cfg_attr(not(program), ignore = "`tools/build read_texts` was not run")]
 fn a_text_of_more_bytes_is_refused() {
     let (short_catalog, short_statement) = (catalog(1, SHORT), statement(1, SHORT));
     for more in [1, 2, TEXT_BYTES] {
@@ -86,7 +86,7 @@ fn a_text_of_more_bytes_is_refused() {
 }
 
 #[test]
-#[cfg_attr(not(program), ignore = "`rt check read_texts` was not run")]
+#[cfg_attr(not(program), ignore = "`tools/build read_texts` was not run")]
 fn texts_of_the_most_bytes_are_refused_for_what_they_hold() {
     let (short_catalog, short_statement) = (catalog(1, SHORT), statement(1, SHORT));
     let no_line = vec![b'x'; TEXT_BYTES];
@@ -103,7 +103,7 @@ fn texts_of_the_most_bytes_are_refused_for_what_they_hold() {
 }
 
 #[test]
-#[cfg_attr(not(program), ignore = "`rt check read_texts` was not run")]
+#[cfg_attr(not(program), ignore = "`tools/build read_texts` was not run")]
 fn special_texts_are_printed_as_the_host_reads_them() {
     for known in limits::all().into_iter().chain(pairs::all()).chain(edges::all()) {
         let line = match expected(&known.case) {

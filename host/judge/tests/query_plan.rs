@@ -12,7 +12,7 @@ use judge::program::Program;
 fn program() -> Program {
     let path = concat!(env!("CARGO_MANIFEST_DIR"), "/../tools/query_plan");
     let program = Program::new(Path::new(path), Duration::from_secs(60));
-    program.expect("`rt check query_plan` was run").showing_records()
+    program.expect("`tools/build query_plan` was run").showing_records()
 }
 
 fn printed(case: &Case) -> String {
@@ -52,7 +52,7 @@ const STORED: [(&str, &str, &str); 7] = [
 ];
 
 #[test]
-#[cfg_attr(not(planning_program), ignore = "`rt check query_plan` was not run")]
+#[cfg_attr(not(planning_program), ignore = "`tools/build query_plan` was not run")]
 fn stored_answers_are_printed() {
     for (catalog, statement, answer) in STORED {
         let case = Case { catalog: bytes(catalog), statement: bytes(statement) };
@@ -62,7 +62,7 @@ fn stored_answers_are_printed() {
 
 /// Beside the refusal on standard output, the record that it points at is on standard error.
 #[test]
-#[cfg_attr(not(planning_program), ignore = "`rt check query_plan` was not run")]
+#[cfg_attr(not(planning_program), ignore = "`tools/build query_plan` was not run")]
 fn the_record_at_fault_is_shown() {
     let run = |catalog: &str, statement: &str| {
         let folder = std::env::temp_dir().join(format!("query_plan-{}", std::process::id()));
@@ -83,7 +83,7 @@ fn the_record_at_fault_is_shown() {
 }
 
 #[test]
-#[cfg_attr(not(planning_program), ignore = "`rt check query_plan` was not run")]
+#[cfg_attr(not(planning_program), ignore = "`tools/build query_plan` was not run")]
 fn the_examples_are_printed() {
     let examples = Path::new(env!("CARGO_MANIFEST_DIR")).join("../../examples");
     let read = |name: String| std::fs::read(examples.join(name)).expect("the example is there");
@@ -95,7 +95,7 @@ fn the_examples_are_printed() {
 }
 
 #[test]
-#[cfg_attr(not(planning_program), ignore = "`rt check query_plan` was not run")]
+#[cfg_attr(not(planning_program), ignore = "`tools/build query_plan` was not run")]
 fn special_and_generated_cases_are_printed_as_predicted() {
     let special = limits::all().into_iter().chain(pairs::all()).chain(edges::all()).map(|known| known.case);
     for case in special.chain((0..200).map(|number| case(31, number))) {
@@ -106,7 +106,7 @@ fn special_and_generated_cases_are_printed_as_predicted() {
 
 /// A listing of two windows: a text of the catalog and one of the statement, 60,000 bytes each.
 #[test]
-#[cfg_attr(not(planning_program), ignore = "`rt check query_plan` was not run")]
+#[cfg_attr(not(planning_program), ignore = "`tools/build query_plan` was not run")]
 fn a_long_listing_is_printed_whole() {
     let long = "x".repeat(60_000);
     let catalog = bytes(&format!("table t 0/column a text null/text {long}/column b text null/nodefault/"));

@@ -8,7 +8,7 @@ const DAMAGED: u64 = 60_000;
 const WHOLE: u64 = 20_000;
 
 #[test]
-#[cfg_attr(not(reading), ignore = "`rt staticlib reader_host` was not run")]
+#[cfg_attr(not(reading), ignore = "`tools/build reader_host` was not run")]
 fn texts_are_read_as_the_host_reads_them() {
     let mut reader = Reader::default();
     let mut tally = Tally::default();
@@ -36,7 +36,7 @@ fn texts_are_read_as_the_host_reads_them() {
 }
 
 #[test]
-#[cfg_attr(not(reading), ignore = "`rt staticlib reader_host` was not run")]
+#[cfg_attr(not(reading), ignore = "`tools/build reader_host` was not run")]
 fn special_texts_are_read_as_the_host_reads_them() {
     let mut reader = Reader::default();
     let mut tally = Tally::default();
@@ -47,7 +47,7 @@ fn special_texts_are_read_as_the_host_reads_them() {
 }
 
 #[test]
-#[cfg_attr(not(reading), ignore = "`rt staticlib reader_host` was not run")]
+#[cfg_attr(not(reading), ignore = "`tools/build reader_host` was not run")]
 fn edges_are_read_as_they_are_made() {
     let mut reader = Reader::default();
     for Known { what, case, refusal } in edges::all() {

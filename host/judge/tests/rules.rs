@@ -25,7 +25,7 @@ impl Tree {
         tree.write("host/tools/rules", &fs::read_to_string(tool).expect("the tool is read"));
         tree.write(
             "bin/rt",
-            &format!("#!/bin/sh\ncat crates/rules/specs/Listing.antt >>../../asked\n{says}\n"),
+            &format!("#!/bin/sh\ncat ../rules/specs/Listing.antt >>\"$(dirname \"$0\")/../asked\"\n{says}\n"),
         );
         fs::set_permissions(tree.path("bin/rt"), fs::Permissions::from_mode(0o755)).expect("it may be run");
         tree

@@ -9,13 +9,13 @@ fn the_planner_is_not_stale() {
 }
 
 #[test]
-#[cfg_attr(not(reading), ignore = "`rt staticlib reader_host` was not run")]
+#[cfg_attr(not(reading), ignore = "`tools/build reader_host` was not run")]
 fn the_reading_is_not_stale() {
     assert_eq!(check("reader_host"), Ok(()));
 }
 
 #[test]
-#[cfg_attr(not(operators), ignore = "`rt staticlib value_host` was not run")]
+#[cfg_attr(not(operators), ignore = "`tools/build value_host` was not run")]
 fn the_operators_are_not_stale() {
     assert_eq!(check("value_host"), Ok(()));
 }

@@ -5,7 +5,7 @@ use judge::values::{Tally, compare_all, edge_pairs, pair};
 const PAIRS: u64 = 20_000;
 
 #[test]
-#[cfg_attr(not(operators), ignore = "`rt staticlib value_host` was not run")]
+#[cfg_attr(not(operators), ignore = "`tools/build value_host` was not run")]
 #[cfg_attr(all(operators, not(planner)), ignore = "the Rust planner's sources are not at hand")]
 fn operators_agree_with_the_rust() {
     let mut tally = Tally::default();

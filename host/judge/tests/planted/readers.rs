@@ -41,7 +41,7 @@ const FAULTS: [Named<Fault>; 8] = [
 ];
 
 #[test]
-#[cfg_attr(not(reading), ignore = "`rt staticlib reader_host` was not run")]
+#[cfg_attr(not(reading), ignore = "`tools/build reader_host` was not run")]
 fn faults_of_reading_are_noticed() {
     let mut cases = cases(300);
     cases.extend((0..1_000).map(|number| damaged(45, number)));

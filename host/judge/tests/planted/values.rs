@@ -41,7 +41,7 @@ const FAULTS: [Named<Fault>; 9] = [
 ];
 
 #[test]
-#[cfg_attr(not(operators), ignore = "`rt staticlib value_host` was not run")]
+#[cfg_attr(not(operators), ignore = "`tools/build value_host` was not run")]
 #[cfg_attr(all(operators, not(planner)), ignore = "the Rust planner's sources are not at hand")]
 fn faults_of_the_operators_are_noticed() {
     let pairs: Vec<Pair> = edge_pairs().step_by(37).chain((0..300).map(|number| pair(48, number))).collect();
