@@ -48,7 +48,7 @@ impl Operation {
         .into()
     }
 
-    /// The rules' code of an operator other than `is` (Equality.antt, unaryCode and binaryCode).
+    /// The rules' code of an operator other than `is` (Codes.antt, `unary_code` and `binary_code`).
     #[cfg(operators)]
     pub(crate) fn code(self) -> Option<u32> {
         Some(match self {
