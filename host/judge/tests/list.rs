@@ -5,7 +5,7 @@ use judge::list::{self, Answered};
 use judge::predict::predict;
 
 fn answers() -> Vec<Answered> {
-    let path = concat!(env!("CARGO_MANIFEST_DIR"), "/../answers/list.txt");
+    let path = concat!(env!("CARGO_MANIFEST_DIR"), "/../../crates/replay/data/list.txt");
     let bytes = std::fs::read(path).expect("the fixed list is in the repository");
     list::read(&bytes).expect("the fixed list is well formed")
 }

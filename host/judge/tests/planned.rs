@@ -79,7 +79,7 @@ fn damaged_texts_are_answered_as_predicted() {
 #[test]
 #[cfg_attr(not(planning), ignore = "the planner's library is not linked")]
 fn the_fixed_list_is_answered() {
-    let path = concat!(env!("CARGO_MANIFEST_DIR"), "/../answers/list.txt");
+    let path = concat!(env!("CARGO_MANIFEST_DIR"), "/../../crates/replay/data/list.txt");
     let bytes = std::fs::read(path).expect("the fixed list is in the repository");
     let answers = list::read(&bytes).expect("the fixed list is well formed");
     for (i, answer) in answers.iter().enumerate() {

@@ -1,0 +1,151 @@
+// The planning program: reads `catalog.txt` where it runs and a statement on standard input, and prints the listing of the
+// plan, or the refusal. The record that a refusal points at is shown on standard error.
+#![tactic(auto)]
+
+ghost use Rattle.std.specs.Prelude.{◌≡◌, drop, IfOk, OnOk};
+ghost use Rattle.std.specs.Io.KnownBytes.{Appends};
+ghost use Rattle.rules.specs.Listing.{listing};
+ghost use Rattle.listing.specs.Listed.{Holds};
+ghost use Rattle.plan_listing.specs.Shown.{shown};
+ghost use Rattle.lines.specs.Spans.{nth_line};
+ghost use Rattle.query_plan.specs.Written.{window_of, shown_line, shown_record, fault_record};
+
+use anyhow::{Context, Result};
+use input::SIZE;
+use lines::line_at;
+use listing::{Listed, WINDOW, Window};
+use plan_listing::list_outcome;
+use planner::{LEAST_AREA, Outcome, planner_plan};
+use reader::CATALOG;
+use std::fs::File;
+use std::io;
+use std::io::Write;
+
+// Most windows that are printed: a listing of 4 GiB. No plan in an area has as much.
+const MOST_WINDOWS: u32 = 65536;
+
+// The rules' listing of both texts from its byte `from` on, as much of it as the window has room for.
+fn list(
+    catalog: &[u8],
+    statement: &[u8],
+    outcome: Outcome,
+    area: &[u32],
+    from: u32,
+    out: &mut Window,
+) -> Listed
+    requires { shown catalog.now statement.now outcome area.now ≡ listing catalog.now statement.now }
+    ensures { Holds (drop from (listing catalog.now statement.now)) out.new result }
+{
+    list_outcome(catalog, statement, outcome, area, from, out)
+}
+
+// Writes a window of the listing; whether another is to follow.
+fn print_window<W: Write>(
+    to: &mut W,
+    catalog: &[u8],
+    statement: &[u8],
+    outcome: Outcome,
+    area: &[u32],
+    from: u32,
+) -> io::Result<bool>
+    requires { shown catalog.now statement.now outcome area.now ≡ listing catalog.now statement.now }
+    ensures { IfOk result (λ more. Appends (W.contents to.old) (W.contents to.new)
+        (window_of more (drop from (listing catalog.now statement.now)))) }
+{
+    let mut out = [0u8; WINDOW];
+    match list(catalog, statement, outcome, area, from, &mut out) {
+        Listed::Full => {
+            to.write_all(&out)?;
+            Ok(true)
+        }
+        Listed::Bytes(n) => {
+            to.write_all(&out[..n])?;
+            Ok(false)
+        }
+    }
+}
+
+// Writes the listing, window after window.
+fn print<W: Write>(
+    to: &mut W,
+    catalog: &[u8],
+    statement: &[u8],
+    outcome: Outcome,
+    area: &[u32],
+) -> io::Result<()>
+    requires { shown catalog.now statement.now outcome area.now ≡ listing catalog.now statement.now }
+    ensures { OnOk result (Appends (W.contents to.old) (W.contents to.new) (listing catalog.now statement.now)) }
+{
+    for k in 0..MOST_WINDOWS {
+        if !print_window(to, catalog, statement, outcome, area, k * 65536)? {
+            return Ok(());
+        }
+    }
+    Err(io::Error::other("the listing is too long"))
+}
+
+// Writes the n-th line of a text; nothing where there is none.
+fn show_line<W: Write>(to: &mut W, text: &[u8], n: u32) -> io::Result<()>
+    ensures { OnOk result (Appends (W.contents to.old) (W.contents to.new) (shown_line (nth_line text.now n))) }
+{
+    let line = line_at(text, n);
+    if line.is_empty() {
+        return Ok(());
+    }
+    to.write_all(line)?;
+    to.write_all(b"\n")
+}
+
+// Writes the record that a refusal points at, for whoever has to mend it.
+fn show_record<W: Write>(
+    to: &mut W,
+    catalog: &[u8],
+    statement: &[u8],
+    outcome: Outcome,
+) -> io::Result<()>
+    ensures { OnOk result (Appends (W.contents to.old) (W.contents to.new)
+        (shown_record catalog.now statement.now outcome)) }
+{
+    if outcome.number == 0 {
+        return Ok(());
+    }
+    if outcome.text == CATALOG {
+        return show_line(to, catalog, outcome.line);
+    }
+    show_line(to, statement, outcome.line)
+}
+
+// Plans both texts and writes the listing; of a refusal also the record that it points at.
+fn plan<'t, O: Write, E: Write>(
+    out: &mut O,
+    errors: &mut E,
+    catalog: &'t [u8],
+    statement: &'t [u8],
+) -> Result<()>
+    ensures printed { OnOk result (Appends (O.contents out.old) (O.contents out.new)
+        (listing catalog.now statement.now)) }
+    ensures shown { OnOk result (Appends (E.contents errors.old) (E.contents errors.new)
+        (fault_record catalog.now statement.now)) }
+{
+    let mut area = [0u32; LEAST_AREA];
+    let outcome = planner_plan(catalog, statement, &mut area);
+    let printed = print(out, catalog, statement, outcome, &area);
+    let shown = show_record(errors, catalog, statement, outcome);
+    printed.context("standard output")?;
+    shown.context("standard error")?;
+    Ok(())
+}
+
+fn main(rt: HostRuntime) -> Result<()> {
+    let mut catalog = [0u8; SIZE];
+    let mut file = File::open(&rt, "catalog.txt").context("catalog.txt")?;
+    let n = input::read_text(&mut file, &mut catalog).context("catalog.txt")?;
+    let mut statement = [0u8; SIZE];
+    let m = input::read_text(&mut rt.stdin(), &mut statement).context("standard input")?;
+    plan(
+        &mut rt.stdout(),
+        &mut rt.stderr(),
+        &catalog[..n],
+        &statement[..m],
+    )
+}
