@@ -65,10 +65,16 @@ module _ (c q : Bytes) (t : List ℕ) where
   pub rows-at : (r : ℕ) → collect_rows c q t r ≡ collect_by (collect_rows c q t) c q t r
   unfolding collect_rows collect_by
   rows-at r = behind-step (λ g. collect_by g c q t) [] (length t)
-      (λ f g r same. ap (λ (x : List ℕ). elim (is_aggregate_call (root_at c q t r)) [ true ↦ r ∷ [] | false ↦ x ])
+      (λ f g r same. same-by f g r (is_aggregate_call (root_at c q t r)) refl
       (rows_behind f g t (operands_at t r) (suc r) (λ p l. same p (omega arith))))
       (λ g r h. rows-outside g r h)
       r
+    where
+      same-by : (f g : ℕ → List ℕ) (r : ℕ) (b : Bool) → is_aggregate_call (root_at c q t r) ≡ b
+          → rows_of f t (operands_at t r) (suc r) ≡ rows_of g t (operands_at t r) (suc r)
+          → collect_by f c q t r ≡ collect_by g c q t r
+      same-by f g r true e h = rw (e, collect_by) (cc)
+      same-by f g r false e h = rw (e, collect_by) (cc)
 
   collect-all : (f h : ℕ → Expr) (g : ℕ → List ℕ) (n r : ℕ) → ((p : ℕ) → r ≤ p → map f (g p) ≡ collect (h p))
       → map f (rows_of g t n r) ≡ collect_all (arguments_at h t n r)
