@@ -73,7 +73,7 @@ pub fn rem(a: Value, b: Value) -> Worked
     let p = operands::numbers_of(a, b);
     match p {
         Numbers::Ints(x, y) => of_checked(ints::rem(x, y)),
-        Numbers::Floats(x, y) => Worked::Value(Value::Float(x % y)),
+        Numbers::Floats(x, y) => Worked::Value(Value::Float(remainder::remainder(x, y))),
         Numbers::Null => Worked::Value(Value::Null),
         Numbers::Other => Worked::WrongOperand,
     }

@@ -16,7 +16,7 @@ returns-in-Ints c = λ t q. at-ints remainder_of (c.numbers_of-p.ensures t q) _ 
 
 pub returns-in-Floats : goal.returns-in-Floats
 unfolding plain_of remainder_of arithmetic worked_of value_of pair_of floating
-returns-in-Floats c = λ t q. at-arm remainder_of (c.numbers_of-p.ensures t q) _ c.in-Floats.is
+returns-in-Floats c = λ t q. rw c.remainder.ensures (at-arm remainder_of (c.numbers_of-p.ensures t q) _ c.in-Floats.is)
 
 pub returns-in-Null : goal.returns-in-Null
 unfolding plain_of remainder_of arithmetic worked_of value_of pair_of floating

@@ -1,0 +1,6 @@
+pub mod Values
+pub mod Steps
+pub mod Numbers
+pub mod Floats
+pub mod Signs
+pub mod Sizes
