@@ -51,7 +51,7 @@
 //!
 //! `std`, on by default, adds the listing as a vector ([`Plan::listing`]). Without it the crate needs neither the standard
 //! library nor memory beyond the area and the stack; `docs/DECISIONS.md` says how much of the stack the library takes. The
-//! library calls `memcpy`, `memset` and `fmod`.
+//! library calls `memcpy` and `memset`.
 
 #![no_std]
 #![deny(missing_docs, unsafe_code)]
