@@ -1,4 +1,3 @@
-pub mod Values
 pub mod Steps
 pub mod Numbers
 pub mod Floats

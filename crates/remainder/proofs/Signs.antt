@@ -14,7 +14,7 @@ use lib.Ieee.Fits.{up_pos}
 use Rattle.std.specs.Float.{float_is_finite, float_with_sign, is_sign_negative}
 use Rattle.remainder.specs.Steps.{steps, is_size, IsSize}
 use Rattle.remainder.proofs.Steps.{sized}
-use Rattle.remainder.proofs.Values.{signed_round}
+use Rattle.core.proofs.num.FloatSigns.{signed_round}
 
 nan_is : of_bits binary64 9221120237041090560 ≡ nan
 unfolding of_bits

@@ -10,7 +10,7 @@ use lib.Pow.{pow-add, pow_pos, pow-lt}
 use lib.Ieee.{Float, nan, inf, fin, binary64, up, down, round, fits}
 use lib.Ieee.Fits.{down_pos, round-fits, and_l, and_r}
 use lib.Ieee.Exact.{HasValue, round_exact}
-use Rattle.remainder.proofs.Values.{same_value}
+use Rattle.core.proofs.num.Values.{same_value}
 use Rattle.remainder.specs.Steps.{steps, is_size, IsSize}
 
 -- n steps, with no more digits than the format has
@@ -106,7 +106,7 @@ exact n h =
     round_exact binary64 false n (2 ^ 1074) h.0 h.1 (pow_pos 1074) h.3 (subst (λ (z : ℕ). z < 2 ^ 2098) h.2 h.4) (ap (λ (z : ℕ). z * 2 ^ 1074) h.2)
 
 pub itself : (x : Float) (n : ℕ) → T (fits binary64 x) → Held n → Is x n → x ≡ at n
-itself x n f h v = same_value x (at n) false n f (round-fits binary64 false n (2 ^ 1074)) v (exact n h)
+itself x n f h v = same_value binary64 x (at n) false n f (round-fits binary64 false n (2 ^ 1074)) v (exact n h)
 
 pub sized : (x : Float) → fits binary64 x ≡ true → IsSize x → Is x (steps x) × Held (steps x)
 sized x f s = size x (subst T (sym f) tt) s
