@@ -1,5 +1,6 @@
 pub mod Bits
 pub mod Codes
 pub mod Kept
+pub mod Reasons
 pub mod Stores
 pub mod Values

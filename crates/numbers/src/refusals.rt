@@ -1,4 +1,59 @@
-// Document 01's numbers of the refusals.
+// Why a statement is refused, and where.
+ghost use Rattle.std.specs.Prelude.{◌≡◌};
+ghost use Rattle.rules.specs.Refusals.{refusal_number};
+ghost use Rattle.numbers.specs.Reasons.{reason_of};
+
+// Document 01's refusals, in the order of their numbers.
+#[derive(Clone, Copy, Debug, PartialEq, Eq)]
+pub enum Reason {
+    ShortArea = 1,
+    WrongRecord,
+    LimitPassed,
+    OtherStatement,
+    UnknownTable,
+    DuplicateTable,
+    UnknownQualifier,
+    UnknownColumn,
+    AmbiguousColumn,
+    ConstantOnly,
+    NotAggregated,
+    UnsupportedStar,
+    UnknownFunction,
+    ArgumentCount,
+    NestedAggregate,
+    StarWithoutFrom,
+    HavingWithoutAggregate,
+    InvalidOffset,
+    InvalidLimit,
+    NoPrimaryKey,
+    MultiplePrimaryKeys,
+    UnknownInsertColumn,
+    RepeatedInsertColumn,
+    NoDefault,
+    IntegerOverflow,
+    DivisionByZero,
+    WrongOperand,
+    NotWorkedOut,
+    InvalidIs,
+}
+
+impl Reason {
+    // Document 01's number.
+    pub fn number(self) -> u32
+        ensures { result ≡ refusal_number (reason_of self) }
+    {
+        self as u32
+    }
+}
+
+// A refusal of the statement: why, and the line of the record where it arose.
+#[derive(Clone, Copy, Debug, PartialEq, Eq)]
+pub struct Refusal {
+    pub reason: Reason,
+    pub line: u32,
+}
+
+// The numbers.
 pub const SHORT_AREA: u32 = 1;
 
 pub const WRONG_RECORD: u32 = 2;
