@@ -68,6 +68,10 @@ named rules.wrong_operand = Re.WrongOperand
 named rules.not_worked_out = Re.NotWorkedOut
 named rules.invalid_is = Re.InvalidIs
 
+-- a refusal of the code as the rules have it: in this text
+abbrev pub told : rules.Text → Refusal → rules.Refusal
+told t w = record { reason = reason_of w.reason; text = t; line = w.line }
+
 -- a refusal of the rules as the code has it: the reason and the line
 abbrev pub noted : rules.Refusal → Refusal
 noted w = record { reason = named w.reason; line = w.line }
