@@ -107,3 +107,35 @@ reason-named rules.division_by_zero = refl
 reason-named rules.wrong_operand = refl
 reason-named rules.not_worked_out = refl
 reason-named rules.invalid_is = refl
+
+pub named-reason : (r : Reason) → named (reason_of r) ≡ r
+unfolding reason_of named
+named-reason Re.ShortArea = refl
+named-reason Re.WrongRecord = refl
+named-reason Re.LimitPassed = refl
+named-reason Re.OtherStatement = refl
+named-reason Re.UnknownTable = refl
+named-reason Re.DuplicateTable = refl
+named-reason Re.UnknownQualifier = refl
+named-reason Re.UnknownColumn = refl
+named-reason Re.AmbiguousColumn = refl
+named-reason Re.ConstantOnly = refl
+named-reason Re.NotAggregated = refl
+named-reason Re.UnsupportedStar = refl
+named-reason Re.UnknownFunction = refl
+named-reason Re.ArgumentCount = refl
+named-reason Re.NestedAggregate = refl
+named-reason Re.StarWithoutFrom = refl
+named-reason Re.HavingWithoutAggregate = refl
+named-reason Re.InvalidOffset = refl
+named-reason Re.InvalidLimit = refl
+named-reason Re.NoPrimaryKey = refl
+named-reason Re.MultiplePrimaryKeys = refl
+named-reason Re.UnknownInsertColumn = refl
+named-reason Re.RepeatedInsertColumn = refl
+named-reason Re.NoDefault = refl
+named-reason Re.IntegerOverflow = refl
+named-reason Re.DivisionByZero = refl
+named-reason Re.WrongOperand = refl
+named-reason Re.NotWorkedOut = refl
+named-reason Re.InvalidIs = refl
