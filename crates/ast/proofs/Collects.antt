@@ -16,15 +16,14 @@ use Rattle.ast.specs.Operands.{operands_at}
 use Rattle.ast.specs.Walk.{is_aggregate_call}
 use Rattle.ast.specs.Collect.{rows_of, collect_by, collect_rows, collected}
 use Rattle.ast.proofs.Trees.{rows-at}
-use Rattle.ast.specs.declared.walk.Collected.{Collected}
-use Rattle.ast.specs.declared.walk.Collected.TheVariants.{Rows, NoRoom}
+use Rattle.std.specs.Prelude.{Option, Some, None}
 
 -- PLACES
-unfoldable Full : Collected → Type 0
-Full (Rows n) = ⊥
-Full NoRoom = Unit {0}
+unfoldable Full : Option ℕ → Type 0
+Full (Some n) = ⊥
+Full None = Unit {0}
 
-not_full : (n : ℕ) → Rows n ≡ NoRoom → ⊥
+not_full : (n : ℕ) → Some n ≡ None → ⊥
 unfolding Full
 not_full n e = subst Full (sym e) tt
 
@@ -38,7 +37,7 @@ module _ (places : ℕ) where
   unfolding collected
   one_more x n xs h = rw (lt-ltb n places h, collected)
 
-  pub no_place : (x n : ℕ) (xs : List ℕ) → places ≤ n → collected places n (x ∷ xs) ≡ NoRoom
+  pub no_place : (x n : ℕ) (xs : List ℕ) → places ≤ n → collected places n (x ∷ xs) ≡ None
   unfolding collected
   no_place x n xs h = rw (le-ltb n places h, collected)
 
@@ -50,28 +49,28 @@ module _ (places : ℕ) where
       pick true e = inl (ltb-true n places e, one_more x n xs (ltb-true n places e))
       pick false e = inr (ltb-false n places e)
 
-  pub collected-more : (xs ys : List ℕ) (n m : ℕ) → collected places n xs ≡ Rows m → collected places n (xs ++ ys) ≡ collected places m ys
+  pub collected-more : (xs ys : List ℕ) (n m : ℕ) → collected places n xs ≡ Some m → collected places n (xs ++ ys) ≡ collected places m ys
   unfolding collected
   collected-more [] ys n m h = ap (λ (k : ℕ). collected places k ys) (cc)
   collected-more (x ∷ xs) ys n m h =
       let rest = collected-more xs ys (suc n) m in
       ⊎_elim (λ l. one_more x n (xs ++ ys) l.0 ∙ rest (sym l.1 ∙ h)) (λ l. absurd (not_full m (sym h ∙ no_place x n xs l))) (first x n xs)
 
-  pub collected-full : (xs ys : List ℕ) (n : ℕ) → collected places n xs ≡ NoRoom → collected places n (xs ++ ys) ≡ NoRoom
+  pub collected-full : (xs ys : List ℕ) (n : ℕ) → collected places n xs ≡ None → collected places n (xs ++ ys) ≡ None
   unfolding collected
   collected-full [] ys n h = absurd (not_full n h)
   collected-full (x ∷ xs) ys n h =
       let rest = collected-full xs ys (suc n) in
       ⊎_elim (λ l. one_more x n (xs ++ ys) l.0 ∙ rest (sym l.1 ∙ h)) (λ l. no_place x n (xs ++ ys) l) (first x n xs)
 
-  pub sets_more : (xs ys s : List ℕ) (n m : ℕ) → collected places n xs ≡ Rows m → sets s n (xs ++ ys) ≡ sets (sets s n xs) m ys
+  pub sets_more : (xs ys s : List ℕ) (n m : ℕ) → collected places n xs ≡ Some m → sets s n (xs ++ ys) ≡ sets (sets s n xs) m ys
   unfolding collected
   sets_more [] ys s n m h = ap (λ (k : ℕ). sets s k ys) (cc)
   sets_more (x ∷ xs) ys s n m h =
       let rest = sets_more xs ys (set s n x) (suc n) m in
       ⊎_elim (λ l. rest (sym l.1 ∙ h)) (λ l. absurd (not_full m (sym h ∙ no_place x n xs l))) (first x n xs)
 
-  pub sets-full : (xs ys s : List ℕ) (n : ℕ) → length s ≤ places → collected places n xs ≡ NoRoom → sets s n (xs ++ ys) ≡ sets s n xs
+  pub sets-full : (xs ys s : List ℕ) (n : ℕ) → length s ≤ places → collected places n xs ≡ None → sets s n (xs ++ ys) ≡ sets s n xs
   unfolding collected
   sets-full [] ys s n l h = absurd (not_full n h)
   sets-full (x ∷ xs) ys s n l h =
@@ -79,7 +78,7 @@ module _ (places : ℕ) where
       ⊎_elim (λ r. rest (sym r.1 ∙ h)) (λ r. sets-outside (set s n x) (suc n) (xs ++ ys) (omega (arith, length-set s n x)) ∙ sym (sets-outside (set s n x) (suc n) xs (omega (arith, length-set s n x)))) (first x n xs)
 
   -- one row
-  pub one-row : (x n : ℕ) → n < places → collected places n (x ∷ []) ≡ Rows (n + 1)
+  pub one-row : (x n : ℕ) → n < places → collected places n (x ∷ []) ≡ Some (n + 1)
   unfolding collected
   one-row x n h = one_more x n [] h ∙ rw (add-one n)
 
@@ -107,15 +106,15 @@ rows_on c q t r n h e = sym (rows-at c q t r ∙ rw (h, collect_by, e, add-one r
 -- THE LOOP
 -- of the operands left, those at p were written behind n others into s, and s₁ came of it
 module _ (g : ℕ → List ℕ) (t s s₁ : List ℕ) (places left p n : ℕ) (more : 0 < left) (long : length s ≡ places) (wrote : s₁ ≡ sets s n (g p)) where
-  module _ (m : ℕ) (h : collected (length s) n (g p) ≡ Rows m) where
+  module _ (m : ℕ) (h : collected (length s) n (g p) ≡ Some m) where
     pub loop-answer : collected places m (rows_of g t (left - 1) (p + rows_at t p)) ≡ collected places n (rows_of g t left p)
     loop-answer = rw (← long, rows_more g t left p more) (sym (collected-more (length s) (g p) (rows_of g t (left - 1) (p + rows_at t p)) n m h))
 
     pub loop-rows : sets s₁ m (rows_of g t (left - 1) (p + rows_at t p)) ≡ sets s n (rows_of g t left p)
     loop-rows = rw (wrote, rows_more g t left p more) (sym (sets_more (length s) (g p) (rows_of g t (left - 1) (p + rows_at t p)) s n m h))
 
-  module _ (h : collected (length s) n (g p) ≡ NoRoom) where
-    pub full-answer : collected places n (rows_of g t left p) ≡ NoRoom
+  module _ (h : collected (length s) n (g p) ≡ None) where
+    pub full-answer : collected places n (rows_of g t left p) ≡ None
     full-answer = rw (← long, rows_more g t left p more) (collected-full (length s) (g p) (rows_of g t (left - 1) (p + rows_at t p)) n h)
 
     pub full-rows : sets s n (rows_of g t left p) ≡ s₁

@@ -1,15 +1,15 @@
 -- What the answers about a function's name mean.
-use Rattle.std.specs.Prelude.{ℕ, ◌≡◌, refl}
+use Rattle.std.specs.Prelude.{ℕ, ◌≡◌, refl, Option, Some, None, is_some}
 use Rattle.std.proofs.Common.{arith}
-use Rattle.std.proofs.Math.Option.{Option, none, some}
+use Rattle.std.proofs.Math.Option as rules
 use Rattle.rules.specs.Lists.{Bytes, named}
+use Rattle.rules.specs.Lists.{is_some as rules_some}
 use Rattle.rules.specs.Lines.{bytes}
 use Rattle.rules.specs.BuildAggregate.{aggregates}
 use Rattle.rules.specs.Plan as P
 use Rattle.text.specs.Words.{find, words_of, push, keys, nth, named_by, nth-none}
 use Rattle.ast.specs.declared.aggregates.Aggregate.{Aggregate}
 use Rattle.ast.specs.declared.aggregates.Aggregate.TheVariants.{Avg, Count, Max, Min, Sum}
-use Rattle.ast.specs.declared.aggregates.Named.{Named}
 
 -- the rules' aggregate
 unfoldable pub aggregate_of : Aggregate → P.Aggregate
@@ -19,15 +19,20 @@ aggregate_of Max = P.max
 aggregate_of Min = P.min
 aggregate_of Sum = P.sum
 
-unfoldable pub named_of : Named → Option P.Aggregate
-named_of (Named.Aggregate a) = some (aggregate_of a)
-named_of Named.Other = none
+unfoldable pub named_of : Option Aggregate → rules.Option P.Aggregate
+named_of (Some a) = rules.some (aggregate_of a)
+named_of None = rules.none
+
+pub named-some : (o : Option Aggregate) → is_some o ≡ rules_some (named_of o)
+unfolding named_of rules_some
+named-some (Some a) = refl
+named-some None = refl
 
 -- the aggregate by the number of its name among the five
 pub aggregate-named : (k : Bytes) (n : ℕ) → n ≡ find (words_of (bytes "avg count max min sum ")) k → named aggregates k ≡ nth aggregates n
 unfolding aggregates keys words_of push bytes
 aggregate-named k n h = named_by aggregates (bytes "avg count max min sum ") k n refl h
 
-pub aggregate_not : (n : ℕ) → (n ≡ 0 → ⊥) → (n ≡ 1 → ⊥) → (n ≡ 2 → ⊥) → (n ≡ 3 → ⊥) → (n ≡ 4 → ⊥) → nth aggregates n ≡ none
+pub aggregate_not : (n : ℕ) → (n ≡ 0 → ⊥) → (n ≡ 1 → ⊥) → (n ≡ 2 → ⊥) → (n ≡ 3 → ⊥) → (n ≡ 4 → ⊥) → nth aggregates n ≡ rules.none
 unfolding aggregates
 aggregate_not n a b c d e = nth-none aggregates n (omega arith)

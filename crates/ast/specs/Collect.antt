@@ -2,14 +2,12 @@
 --
 -- The rows are found by the same recursion as `tree_at`; Trees has the law that the trees at them are what the rules'
 -- `collect` gives (`collect-trees`), and that they lie inside the table (`rows_Inside`).
-use Rattle.std.specs.Prelude.{ℕ, zero, suc, ◌+◌, true, false, List, [], ◌∷◌, ◌++◌, ltb, length}
+use Rattle.std.specs.Prelude.{ℕ, zero, suc, ◌+◌, true, false, List, [], ◌∷◌, ◌++◌, ltb, length, Option, Some, None}
 use Rattle.rules.specs.Lists.{Bytes}
 use Rattle.ast.specs.Table.{rows_at, root_at}
 use Rattle.ast.specs.Behind.{behind}
 use Rattle.ast.specs.Operands.{operands_at}
 use Rattle.ast.specs.Walk.{is_aggregate_call}
-use Rattle.ast.specs.declared.walk.Collected.{Collected}
-use Rattle.ast.specs.declared.walk.Collected.TheVariants.{Rows, NoRoom}
 
 -- what g gives of n operands from row r on, one behind the other
 unfoldable pub rows_of : (ℕ → List ℕ) → List ℕ → ℕ → ℕ → List ℕ
@@ -25,6 +23,6 @@ unfoldable pub collect_rows : Bytes → Bytes → List ℕ → ℕ → List ℕ
 collect_rows c q t r = behind (λ g. collect_by g c q t) [] (length t) r
 
 -- the answer of rows written behind n others into as many places
-unfoldable pub collected : ℕ → ℕ → List ℕ → Collected
-collected places n [] = Rows n
-collected places n (r ∷ rs) = elim (ltb n places) [ true ↦ collected places (suc n) rs | false ↦ NoRoom ]
+unfoldable pub collected : ℕ → ℕ → List ℕ → Option ℕ
+collected places n [] = Some n
+collected places n (r ∷ rs) = elim (ltb n places) [ true ↦ collected places (suc n) rs | false ↦ None ]

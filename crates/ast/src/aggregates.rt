@@ -5,7 +5,7 @@ ghost use Rattle.rules.specs.Places.{bytes_at};
 ghost use Rattle.rules.specs.BuildAggregate.{aggregates};
 ghost use Rattle.ast.specs.Aggregates.{named_of};
 
-#[derive(Clone, Copy)]
+#[derive(Clone, Copy, Debug, PartialEq, Eq)]
 pub enum Aggregate {
     Avg,
     Count,
@@ -14,30 +14,23 @@ pub enum Aggregate {
     Sum,
 }
 
-// What a function's name says: an aggregate, or another function.
-#[derive(Clone, Copy)]
-pub enum Named {
-    Aggregate(Aggregate),
-    Other,
-}
-
 // Which aggregate the n bytes at a of a text name.
-fn named_in(t: &[u8], a: u32, n: u32) -> Named
+fn named_in(t: &[u8], a: u32, n: u32) -> Option<Aggregate>
     ensures { named_of result ≡ named aggregates (take n (drop a t.now)) }
 {
     let k = text::which(b"avg count max min sum ", t, a as usize, n as usize);
     match k {
-        0 => Named::Aggregate(Aggregate::Avg),
-        1 => Named::Aggregate(Aggregate::Count),
-        2 => Named::Aggregate(Aggregate::Max),
-        3 => Named::Aggregate(Aggregate::Min),
-        4 => Named::Aggregate(Aggregate::Sum),
-        _ => Named::Other,
+        0 => Some(Aggregate::Avg),
+        1 => Some(Aggregate::Count),
+        2 => Some(Aggregate::Max),
+        3 => Some(Aggregate::Min),
+        4 => Some(Aggregate::Sum),
+        _ => None,
     }
 }
 
 // Which aggregate the name at a place is.
-pub fn is_aggregate(catalog: &[u8], statement: &[u8], address: u32, length: u32) -> Named
+pub fn is_aggregate(catalog: &[u8], statement: &[u8], address: u32, length: u32) -> Option<Aggregate>
     ensures { named_of result ≡ named aggregates (bytes_at catalog.now statement.now address length) }
 {
     if address < text::MOST_BYTES {

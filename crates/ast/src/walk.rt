@@ -6,7 +6,7 @@ ghost use Rattle.ast.specs.Table.{root_at, tree_at};
 ghost use Rattle.ast.specs.Walk.{is_aggregate_call};
 ghost use Rattle.ast.specs.Collect.{collect_rows, collected};
 
-use crate::aggregates::{Named, is_aggregate};
+use crate::aggregates::is_aggregate;
 use crate::rows::{at, kind, next, operands};
 
 // Whether the record at a row is a call of an aggregate function.
@@ -18,11 +18,7 @@ pub fn is_aggregate_call(catalog: &[u8], statement: &[u8], table: &[u32], r: usi
     }
     let address = at(table, r, 4);
     let length = at(table, r, 5);
-    let named = is_aggregate(catalog, statement, address, length);
-    match named {
-        Named::Aggregate(_) => true,
-        Named::Other => false,
-    }
+    is_aggregate(catalog, statement, address, length).is_some()
 }
 
 // `walk` by a visitor that is false at an aggregate: whether it comes to the end. An operator's operands are walked until
@@ -56,14 +52,8 @@ pub fn contains(catalog: &[u8], statement: &[u8], table: &[u32], r: usize) -> bo
     !walk_free(catalog, statement, table, r)
 }
 
-// Rows collected: how many there are now, or no room for the next.
-#[derive(Clone, Copy)]
-pub enum Collected {
-    Rows(usize),
-    NoRoom,
-}
-
-// The rows of the aggregate calls in the tree at a row, left to right and not into one, written behind `count` others.
+// The rows of the aggregate calls in the tree at a row, left to right and not into one, written behind `count` others:
+// how many there are then, or none where the next has no room.
 pub fn collect(
     catalog: &[u8],
     statement: &[u8],
@@ -71,31 +61,27 @@ pub fn collect(
     r: usize,
     rows: &mut [usize],
     count: usize,
-) -> Collected
+) -> Option<usize>
     ensures value { result ≡ collected (length rows.old) count (collect_rows catalog.now statement.now table.now r) }
     ensures rows_after { rows.new ≡ sets rows.old count (collect_rows catalog.now statement.now table.now r) }
 {
     if is_aggregate_call(catalog, statement, table, r) {
         if count < rows.len() {
             rows[count] = r;
-            return Collected::Rows(count + 1);
+            return Some(count + 1);
         }
-        return Collected::NoRoom;
+        return None;
     }
     let mut left = operands(table, r);
     if left == 0 {
-        return Collected::Rows(count);
+        return Some(count);
     }
     let mut p = r + 1;
     let mut n = count;
     while 0 < left {
-        let next_count = collect(catalog, statement, table, p, rows, n);
-        let Collected::Rows(m) = next_count else {
-            return Collected::NoRoom;
-        };
-        n = m;
+        n = collect(catalog, statement, table, p, rows, n)?;
         p = next(table, p);
         left -= 1;
     }
-    Collected::Rows(n)
+    Some(n)
 }

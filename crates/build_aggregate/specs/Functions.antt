@@ -1,6 +1,7 @@
 -- One aggregate function: which one a record calls, and what its argument appends or is refused for.
 use Prim.Native.Nat.{ℕ, zero, suc, ◌+◌, ◌*◌, ◌<◌}
 use Rattle.std.proofs.Common.{arith, add-one, sym, ◌∙◌, eqb-true}
+use Rattle.std.specs.Prelude as std
 use Rattle.std.specs.Prelude.{◌≡◌, Bool, true, false, ◌&&◌, List, [], ◌∷◌, length, eqb}
 use Rattle.std.proofs.Math.Path.{refl, ap}
 use Rattle.std.proofs.Math.Option.{Option, none, some}
@@ -30,7 +31,6 @@ use Rattle.ast.specs.Row.{line_at, row_name, first_operand, number_of, call-row}
 use Rattle.ast.specs.Aggregates as names
 use Rattle.ast.specs.Aggregates.{named_of}
 use Rattle.ast.specs.declared.aggregates.Aggregate as A
-use Rattle.ast.specs.declared.aggregates.Named.{Named}
 use Rattle.ast.specs.declared.row.Kind.TheVariants as K
 use Rattle.plan.specs.Cells.{Room, room-less, Puts}
 use Rattle.plan.specs.Emits.{Emitting, Emits, accepts, refuses, emits-same}
@@ -99,13 +99,13 @@ module _ (c q : Bytes) (t : List ℕ) (r : ℕ) where
   called-some a n o h ha hn e = e ∙ (λ i. named aggregates (bytes_at c q (ha i) (hn i))) ∙ rw (call-tree h)
 
 -- by the answer of `called`
-pub calls : (c q : Bytes) (t : List ℕ) (r : ℕ) (x : Named) (a : A.Aggregate) → named_of x ≡ called_of (tree_at c q t r)
-    → x ≡ Named.Aggregate a → Calls c q t r (names.aggregate_of a)
+pub calls : (c q : Bytes) (t : List ℕ) (r : ℕ) (x : std.Option A.Aggregate) (a : A.Aggregate) → named_of x ≡ called_of (tree_at c q t r)
+    → x ≡ std.Some a → Calls c q t r (names.aggregate_of a)
 unfolding named_of
 calls c q t r x a e f = record { is = sym e ∙ rw f }
 
-pub calls-none : (c q : Bytes) (t : List ℕ) (r : ℕ) (x : Named) → named_of x ≡ called_of (tree_at c q t r)
-    → x ≡ Named.Other → called_of (tree_at c q t r) ≡ none
+pub calls-none : (c q : Bytes) (t : List ℕ) (r : ℕ) (x : std.Option A.Aggregate) → named_of x ≡ called_of (tree_at c q t r)
+    → x ≡ std.None → called_of (tree_at c q t r) ≡ none
 unfolding named_of
 calls-none c q t r x e f = sym e ∙ rw f
 

@@ -8,7 +8,7 @@ ghost use Rattle.ast.specs.Aggregates.{aggregate_of, named_of};
 ghost use Rattle.plan.specs.Cells.{Room};
 ghost use Rattle.build_aggregate.specs.Functions.{called_of, Calls, starred, OperandBuilds, FunctionBuilds};
 
-use ast::aggregates::{Aggregate, Named, is_aggregate};
+use ast::aggregates::{Aggregate, is_aggregate};
 use ast::{row, rows, walk};
 use build_expression::build_expression;
 use numbers::refusals::{ARGUMENT_COUNT, NESTED_AGGREGATE};
@@ -22,12 +22,12 @@ const BOOL: u32 = 2;
 const COUNT: u32 = 2;
 
 // Which aggregate the record at row r calls, if any.
-pub fn called(catalog: &[u8], statement: &[u8], table: &[u32], r: usize) -> Named
+pub fn called(catalog: &[u8], statement: &[u8], table: &[u32], r: usize) -> Option<Aggregate>
     ensures { named_of result
         ≡ called_of (tree_at catalog.now statement.now table.now r) }
 {
     if rows::kind(table, r) != rows::CALL {
-        return Named::Other;
+        return None;
     }
     let a = row::name_address(table, r);
     let n = row::name_length(table, r);

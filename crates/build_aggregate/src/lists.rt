@@ -10,7 +10,6 @@ ghost use Rattle.build_aggregate.specs.Entries.{Adds, AddsAll};
 ghost use Rattle.build_aggregate.specs.Kinds.{groups_listing, functions_listing};
 
 use crate::function::{build_function, called, code};
-use ast::aggregates::Named;
 use ast::row;
 use build_expression::build_expression;
 use numbers::refusals::UNKNOWN_FUNCTION;
@@ -77,8 +76,7 @@ fn add_function<'t, 'a>(
         (tree_at catalog.now statement.now table.now r)
         n k area.old area.new nodes.old nodes.new result }
 {
-    let named = called(catalog, statement, table, r);
-    let Named::Aggregate(aggregate) = named else {
+    let Some(aggregate) = called(catalog, statement, table, r) else {
         let line = row::line(table, r);
         return Written::Refused(UNKNOWN_FUNCTION, line);
     };

@@ -11,12 +11,13 @@ use Rattle.rules.specs.Scope as rules
 use Rattle.ast.specs.Row.{line_at, name_address, name_length, qualifier_address, qualifier_length, row_name, row_qualifier}
 use Rattle.scope.specs.Scopes.{scope_from}
 use Rattle.scope.specs.Lookup.{found_of, Looked}
-use Rattle.scope.specs.declared.lookup.Found.{Found}
+use Rattle.std.specs.Prelude.{Result}
+use Rattle.numbers.specs.declared.refusals.Reason.{Reason}
 use Rattle.plan.specs.Emits.{Emits}
 use Rattle.plan.specs.declared.cells.Written.{Written}
 use Rattle.build_expression.specs.Rows.{column_step}
 
-pub resolved : {c q : Bytes} {xs ms ts : List ℕ} {o : Option Word} {f : Found} {area area' : List ℕ} {x : Written}
+pub resolved : {c q : Bytes} {xs ms ts : List ℕ} {o : Option Word} {f : Result ℕ Reason} {area area' : List ℕ} {x : Written}
     (t : List ℕ) (r a b l n : ℕ) → a ≡ name_address t r → b ≡ name_length t r → l ≡ line_at t r
     → Looked c q xs ms ts o (word_at c q a b) f → Emits (column_step n l (found_of f)) n area area' x
     → (e : ℕ → Expr) (h : ℕ)

@@ -1,5 +1,6 @@
 -- What is built of a record before its operands, by its kind.
 use Rattle.std.specs.Prelude.{ℕ, suc, ◌+◌, ◌*◌, ◌<◌, ◌≡◌, true, false, List, [], ◌∷◌, length}
+use Rattle.std.specs.Prelude as std
 use Rattle.std.proofs.Common.{arith, ◌∙◌}
 use Rattle.std.proofs.Math.Path.{refl, sym, ap}
 use Rattle.std.proofs.Math.Option.{Option, none, some}
@@ -19,9 +20,8 @@ use Rattle.ast.specs.Row.{column-row, qualified-row, call-row, unary-row, binary
 use Rattle.ast.specs.declared.row.Kind.{Kind}
 use Rattle.ast.specs.declared.row.Kind.TheVariants as K
 use Rattle.scope.specs.Scopes.{matches_of}
-use Rattle.scope.specs.Matches.{matched_of, matched-from}
-use Rattle.scope.specs.declared.matches.Matched.{Matched}
-use Rattle.scope.specs.declared.matches.Matched.TheVariants as M
+use Rattle.numbers.specs.Options.{option_of}
+use Rattle.scope.specs.Matches.{matched-from}
 use Rattle.plan.specs.Cells.{Puts}
 use Rattle.plan.specs.Emits.{Emits, accepts, refuses, emits-same}
 use Rattle.plan.specs.declared.cells.Written.{Written}
@@ -36,10 +36,9 @@ use Rattle.build_expression.specs.declared.Operator.TheVariants as O
 has-operands : (t : List ℕ) (r n : ℕ) → operands_at t r ≡ suc n → row_size * r < length t
 has-operands t r n e = operands-inside t r (λ z. omega arith)
 
-pub not-matched : (c q : Bytes) (t ms : List ℕ) (r : ℕ) (m : Matched)
-    → matched_of m ≡ match_at (matches_of (tree_at c q t) 0 ms) (tree_at c q t r) → m ≡ M.Nothing → Unmatched c q t ms r
-unfolding matched_of
-not-matched c q t ms r m e f = record { is = sym e ∙ ap matched_of f }
+pub not-matched : (c q : Bytes) (t ms : List ℕ) (r : ℕ) (m : std.Option ℕ)
+    → option_of m ≡ match_at (matches_of (tree_at c q t) 0 ms) (tree_at c q t r) → m ≡ std.None → Unmatched c q t ms r
+not-matched c q t ms r m e f = record { is = sym e ∙ ap option_of f }
 
 module _ (c q : Bytes) (t xs ms ts : List ℕ) (r n : ℕ) (area area' : List ℕ) where
   pub begins-whole : (x : Written) → Builds c q t xs ms ts r n area area' x → Begins c q t xs ms ts r n area area' (B.Whole x)
@@ -47,14 +46,14 @@ module _ (c q : Bytes) (t xs ms ts : List ℕ) (r n : ℕ) (area area' : List �
   begins-whole x b = record { is = b }
 
   -- a match is one column
-  pub begins-matched : (m : Matched) (i : ℕ)
-      → matched_of m ≡ match_at (matches_of (tree_at c q t) 0 ms) (tree_at c q t r) → m ≡ M.At i
+  pub begins-matched : (m : std.Option ℕ) (i : ℕ)
+      → option_of m ≡ match_at (matches_of (tree_at c q t) 0 ms) (tree_at c q t r) → m ≡ std.Some i
       → Puts n (C.column i ∷ []) area area' → Begins c q t xs ms ts r n area area' (B.Whole (W.Done (n + 1)))
-  unfolding BeginsAs matched_of
+  unfolding BeginsAs
   begins-matched m i e f p = record {
     is = record {
       is = λ h. accepts (n + 1) p refl (match-step _ n _ i
-          (matched-from (tree_at c q t) c q xs ms ts h (tree_at c q t r) ∙ sym e ∙ ap matched_of f));
+          (matched-from (tree_at c q t) c q xs ms ts h (tree_at c q t r) ∙ sym e ∙ ap option_of f));
     };
   }
 

@@ -16,18 +16,18 @@ use crate::position::{Position, position_of};
 use crate::{Begun, Operator};
 use ast::row;
 use ast::row::Kind;
-use numbers::refusals::{UNKNOWN_FUNCTION, UNSUPPORTED_STAR};
+use numbers::refusals::{Reason, UNKNOWN_FUNCTION, UNSUPPORTED_STAR};
 use plan::cells;
 use plan::cells::Written;
-use scope::lookup::{Found, Qualifier, lookup};
-use scope::matches::{Matched, lookup_aggregate};
-use text::places::holds_at;
+use scope::lookup::lookup;
+use scope::matches::lookup_aggregate;
+use text::places::{Place, holds_at};
 
 // The code of `sqrt`.
 const SQRT: u32 = 12;
 
 // A column that was looked up, in a record at a line.
-fn found(f: Found, line: u32, area: &mut [u32], n: u32) -> Written
+fn found(f: Result<u32, Reason>, line: u32, area: &mut [u32], n: u32) -> Written
     requires { Room n 1 area.old }
     ensures { Emits (column_step n line (found_of f)) n area.old area.new result }
 {
@@ -52,7 +52,7 @@ fn column<'t, 'a>(
     width: u32,
     tables: &'a [u32],
     count: u32,
-    qualifier: Qualifier,
+    qualifier: Option<Place>,
     area: &mut [u32],
     n: u32,
 ) -> Written
@@ -94,8 +94,10 @@ pub fn qualified<'t, 'a>(
         (take width labels.now) (take width matches.now) (take count tables.now)
         r n area.old area.new result }
 {
-    let b = row::qualifier_address(table, r);
-    let m = row::qualifier_length(table, r);
+    let qualifier = Place {
+        address: row::qualifier_address(table, r),
+        length: row::qualifier_length(table, r),
+    };
     column(
         catalog,
         statement,
@@ -106,7 +108,7 @@ pub fn qualified<'t, 'a>(
         width,
         tables,
         count,
-        Qualifier::Table(b, m),
+        Some(qualifier),
         area,
         n,
     )
@@ -191,7 +193,7 @@ fn unmatched<'t, 'a>(
             width,
             tables,
             count,
-            Qualifier::Nothing,
+            None,
             area,
             n,
         )),
@@ -227,11 +229,11 @@ pub fn begin<'t, 'a>(
 {
     let matched = lookup_aggregate(catalog, statement, table, matches, width, r);
     match matched {
-        Matched::At(i) => {
+        Some(i) => {
             cells::column(area, n, i);
             Begun::Whole(Written::Done(n + 1))
         }
-        Matched::Nothing => unmatched(
+        None => unmatched(
             catalog, statement, table, r, labels, matches, width, tables, count, area, n,
         ),
     }

@@ -1,6 +1,6 @@
 -- The scopes of a join's sides merged, or refused: 6 a table name held by both, then 3 too many columns. Merged into the
 -- empty scope, a scope stays as it is.
-use Rattle.std.specs.Prelude.{ℕ, ◌+◌, ◌≤◌, ◌≡◌, Bool, ltb, take}
+use Rattle.std.specs.Prelude.{ℕ, ◌+◌, ◌≤◌, ◌≡◌, Bool, ltb, take, ⊤, Result, Ok, Err}
 use native.Mathlib.Omega.{arith}
 use Rattle.std.proofs.Math.Path.{refl, sym, ap}
 use Rattle.std.proofs.Common.{◌∙◌, length-take-le}
@@ -25,8 +25,9 @@ use Rattle.scope.specs.Scopes.{scope_of, scope_from, Valid, Plain, plain-scope, 
 use Rattle.scope.specs.Merge.{Mergeable, Merged}
 use Rattle.scope.specs.Merging.{MayMerge, merging_of}
 use Rattle.scope.specs.declared.Scope.{Scope}
-use Rattle.scope.specs.declared.merging.Merging.{Merging}
-use Rattle.scope.specs.declared.merging.Merging.TheVariants.{Allowed, DuplicateTable, LimitPassed}
+use Rattle.numbers.specs.Reasons.{reason_of}
+use Rattle.numbers.specs.declared.refusals.Reason.{Reason}
+use Rattle.numbers.specs.declared.refusals.Reason.TheVariants as Re
 use Rattle.plan.specs.Steps.{Refuses, refuses-at}
 use Rattle.build_from.specs.declared.merges.Both.{Both}
 
@@ -72,8 +73,41 @@ pub record Merges (c q : Bytes) (s t : Scope) (r : Both) : Type 0 where
       → Refuses (merge_at (scope_of e c q s) (scope_of e c q t) l) r.number l
   pub accepted : r.number ≡ 0 → MergedScope c q s t r.scope
 
+-- no refusal has the number 0
+numbered : (reason : Reason) → refusal_number (reason_of reason) ≡ 0 → ⊥
+unfolding reason_of refusal_number
+numbered Re.ShortArea e = absurd (omega (arith, e))
+numbered Re.WrongRecord e = absurd (omega (arith, e))
+numbered Re.LimitPassed e = absurd (omega (arith, e))
+numbered Re.OtherStatement e = absurd (omega (arith, e))
+numbered Re.UnknownTable e = absurd (omega (arith, e))
+numbered Re.DuplicateTable e = absurd (omega (arith, e))
+numbered Re.UnknownQualifier e = absurd (omega (arith, e))
+numbered Re.UnknownColumn e = absurd (omega (arith, e))
+numbered Re.AmbiguousColumn e = absurd (omega (arith, e))
+numbered Re.ConstantOnly e = absurd (omega (arith, e))
+numbered Re.NotAggregated e = absurd (omega (arith, e))
+numbered Re.UnsupportedStar e = absurd (omega (arith, e))
+numbered Re.UnknownFunction e = absurd (omega (arith, e))
+numbered Re.ArgumentCount e = absurd (omega (arith, e))
+numbered Re.NestedAggregate e = absurd (omega (arith, e))
+numbered Re.StarWithoutFrom e = absurd (omega (arith, e))
+numbered Re.HavingWithoutAggregate e = absurd (omega (arith, e))
+numbered Re.InvalidOffset e = absurd (omega (arith, e))
+numbered Re.InvalidLimit e = absurd (omega (arith, e))
+numbered Re.NoPrimaryKey e = absurd (omega (arith, e))
+numbered Re.MultiplePrimaryKeys e = absurd (omega (arith, e))
+numbered Re.UnknownInsertColumn e = absurd (omega (arith, e))
+numbered Re.RepeatedInsertColumn e = absurd (omega (arith, e))
+numbered Re.NoDefault e = absurd (omega (arith, e))
+numbered Re.IntegerOverflow e = absurd (omega (arith, e))
+numbered Re.DivisionByZero e = absurd (omega (arith, e))
+numbered Re.WrongOperand e = absurd (omega (arith, e))
+numbered Re.NotWorkedOut e = absurd (omega (arith, e))
+numbered Re.InvalidIs e = absurd (omega (arith, e))
+
 -- what was told, of the rules' merge
-module _ (c q : Bytes) (s t : Scope) (h : TwoScopes s t) {m : Merging}
+module _ (c q : Bytes) (s t : Scope) (h : TwoScopes s t) {m : Result ⊤ Reason}
     (g : MayMerge c q (take s.count s.tables) s.width (take t.count t.tables) t.width m) where
   told : (e : ℕ → Expr) (l : ℕ) → merge_at (scope_of e c q s) (scope_of e c q t) l
       ≡ merging_of m (scope_of e c q s) (source_of (P.values []) (scope_of e c q t) l)
@@ -82,18 +116,11 @@ module _ (c q : Bytes) (s t : Scope) (h : TwoScopes s t) {m : Merging}
       ∙ g.is (scope_of e c q s) (source_of (P.values []) (scope_of e c q t) l) refl (scope-width e c q s h.valid)
       refl (scope-width e c q t h.other)
 
-  pub merges-duplicate : (r : Both) → m ≡ DuplicateTable → r.number ≡ 6 → Merges c q s t r
-  unfolding merging_of refusal_number
-  merges-duplicate r e n = record {
-    refused = λ z x l. refuses-at duplicate_table l r.number l (told x l ∙ rw e) n refl;
-    accepted = λ z. absurd (omega (arith, z, n));
-  }
-
-  pub merges-wide : (r : Both) → m ≡ LimitPassed → r.number ≡ 3 → Merges c q s t r
-  unfolding merging_of refusal_number
-  merges-wide r e n = record {
-    refused = λ z x l. refuses-at limit_passed l r.number l (told x l ∙ rw e) n refl;
-    accepted = λ z. absurd (omega (arith, z, n));
+  pub merges-refused : (r : Both) (reason : Reason) → m ≡ Err reason → r.number ≡ refusal_number (reason_of reason) → Merges c q s t r
+  unfolding merging_of
+  merges-refused r reason e n = record {
+    refused = λ z x l. refuses-at (reason_of reason) l r.number l (told x l ∙ rw e) n refl;
+    accepted = λ z. absurd (numbered reason (sym n ∙ z));
   }
 
   -- they fit where they may be merged
@@ -109,7 +136,7 @@ module _ (c q : Bytes) (s t : Scope) (h : TwoScopes s t) {m : Merging}
       go false true k = unfold refuse_if refuse ◌>>=◌ in (ok-not-refused _ _ (sym k))
       go false false k = refl
 
-  pub mergeable : m ≡ Allowed → Mergeable s t
+  pub mergeable : {u : ⊤} → m ≡ Ok u → Mergeable s t
   unfolding merging_of
   mergeable f = let e = tree_at c q [] in record {
     valid = h.valid;
@@ -125,7 +152,7 @@ module _ (c q : Bytes) (s t : Scope) (h : TwoScopes s t) {m : Merging}
     tables = h.tables;
   }
 
-  pub merges-allowed : (r : Both) → m ≡ Allowed → r.number ≡ 0 → Merged s t r.scope → Merges c q s t r
+  pub merges-allowed : (r : Both) {u : ⊤} → m ≡ Ok u → r.number ≡ 0 → Merged s t r.scope → Merges c q s t r
   unfolding merging_of
   merges-allowed r f n d = let e = tree_at c q [] in record {
     refused = λ z. absurd (z n);

@@ -1,9 +1,8 @@
 // The scopes of a join's sides, merged.
 ghost use Rattle.build_from.specs.Merges.{TwoScopes, Merges};
 
-use numbers::refusals::{DUPLICATE_TABLE, LIMIT_PASSED};
 use scope::Scope;
-use scope::merging::{Merging, may_merge};
+use scope::merging::may_merge;
 
 // The scope of both, or document 01's number, which is 0 where they are merged.
 #[derive(Clone, Copy)]
@@ -20,17 +19,13 @@ pub fn merge_scopes(catalog: &[u8], statement: &[u8], a: Scope, b: Scope) -> Bot
         catalog, statement, &a.tables, a.count, a.width, &b.tables, b.count, b.width,
     );
     match may {
-        Merging::Allowed => Both {
+        Ok(()) => Both {
             scope: a.merge(b),
             number: 0,
         },
-        Merging::DuplicateTable => Both {
+        Err(reason) => Both {
             scope: a,
-            number: DUPLICATE_TABLE,
-        },
-        Merging::LimitPassed => Both {
-            scope: a,
-            number: LIMIT_PASSED,
+            number: reason.number(),
         },
     }
 }

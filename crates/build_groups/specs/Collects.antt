@@ -1,11 +1,9 @@
 -- Rows appended behind others, a few at a time.
-use Rattle.std.specs.Prelude.{ℕ, suc, ◌+◌, ◌-◌, ◌≤◌, ◌<◌, ◌≡◌, refl, List, [], ◌∷◌, ◌++◌, length, set}
+use Rattle.std.specs.Prelude.{ℕ, suc, ◌+◌, ◌-◌, ◌≤◌, ◌<◌, ◌≡◌, refl, List, [], ◌∷◌, ◌++◌, length, set, Option, Some, None}
 use Rattle.std.proofs.Common.{arith, sym, ap, ◌∙◌, append_assoc, append-nil, length-append, lt-ltb}
 use Rattle.std.proofs.lemmas.List.Edits.{sets}
 use Rattle.rules.specs.Lists.{Bytes}
 use Rattle.ast.specs.Collect.{collect_rows, collected}
-use Rattle.ast.specs.declared.walk.Collected.{Collected}
-use Rattle.ast.specs.declared.walk.Collected.TheVariants.{Rows, NoRoom}
 use Rattle.sections.specs.Access.{item_kind, having_kind, order_kind, numbers_at}
 use Rattle.sections.specs.Expressions.{first_row}
 use Rattle.sections.specs.declared.entry.Entry.{Entry}
@@ -17,27 +15,27 @@ use Rattle.build_groups.specs.Rows.{entry_rows, entries_none, entries-more, sect
 use Rattle.build_groups.specs.Rows.{collect_each_rows, function_rows}
 
 -- COLLECTED, with room for all
-fits : (places n : ℕ) (xs : List ℕ) → n + length xs ≤ places → collected places n xs ≡ Rows (n + length xs)
+fits : (places n : ℕ) (xs : List ℕ) → n + length xs ≤ places → collected places n xs ≡ Some (n + length xs)
 unfolding collected
-fits places n [] h = let z : n ≡ n + 0 = omega arith in ap Rows z
+fits places n [] h = let z : n ≡ n + 0 = omega arith in ap Some z
 fits places n (x ∷ xs) h =
     let z : suc n + length xs ≡ n + suc (length xs) = omega arith in
-    rw (collected, lt-ltb n places (omega arith)) (fits places (suc n) xs (omega arith) ∙ ap Rows z)
+    rw (collected, lt-ltb n places (omega arith)) (fits places (suc n) xs (omega arith) ∙ ap Some z)
 
-module _ (xs s : List ℕ) (k : ℕ) {s' : List ℕ} {r : Collected} (a : r ≡ collected (length s) k xs) (e : s' ≡ sets s k xs)
+module _ (xs s : List ℕ) (k : ℕ) {s' : List ℕ} {r : Option ℕ} (a : r ≡ collected (length s) k xs) (e : s' ≡ sets s k xs)
     (h : k + length xs ≤ length s) where
-  pub collected-rows : (k' : ℕ) → r ≡ Rows k' → Appended xs k s k' s'
+  pub collected-rows : (k' : ℕ) → r ≡ Some k' → Appended xs k s k' s'
   collected-rows k' g =
-      let z : Rows k' ≡ Rows (k + length xs) = sym g ∙ a ∙ fits (length s) k xs h in
+      let z : Some k' ≡ Some (k + length xs) = sym g ∙ a ∙ fits (length s) k xs h in
       let y : k' ≡ k + length xs = rows_same z in
       rw e (appended-sets xs s k k' y (omega (arith, y)))
     where
-      rows_same : {i j : ℕ} → Rows i ≡ Rows j → i ≡ j
+      rows_same : {i j : ℕ} → Some i ≡ Some j → i ≡ j
       rows_same f = cc
 
-  pub collected-full : {X : Type 0} → r ≡ NoRoom → X
+  pub collected-full : {X : Type 0} → r ≡ None → X
   collected-full g =
-      let z : Rows (k + length xs) ≡ NoRoom = sym (fits (length s) k xs h) ∙ sym a ∙ g in
+      let z : Some (k + length xs) ≡ None = sym (fits (length s) k xs h) ∙ sym a ∙ g in
       absurd (let y : ◌≡◌ {A = ℕ} 0 1 = cc in omega arith)
 
 -- A FEW AT A TIME: of the rows xs behind k₀ others, ys are still to come

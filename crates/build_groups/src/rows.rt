@@ -5,7 +5,7 @@ ghost use Rattle.ast.specs.Collect.{collect_rows};
 ghost use Rattle.plan.specs.Appended.{Appended};
 ghost use Rattle.build_groups.specs.Rows.{section_rows, clause_rows, collect_each_rows, function_rows};
 
-use ast::walk::{Collected, collect};
+use ast::walk::collect;
 use sections::entry::{GROUP, HAVING, ITEM, ORDER, count, entry_at, first_row};
 use statement::access::{Clause, clause_at};
 
@@ -39,8 +39,8 @@ fn collect_at(
 {
     let collected = collect(catalog, statement, cells, r, rows, k);
     match collected {
-        Collected::Rows(x) => x,
-        Collected::NoRoom => k,
+        Some(x) => x,
+        None => k,
     }
 }
 

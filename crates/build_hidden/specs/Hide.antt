@@ -1,4 +1,5 @@
 -- The columns of visited rows, hidden one behind the other.
+use Rattle.std.specs.Prelude as std
 use Rattle.std.specs.Prelude.{ℕ, suc, ◌+◌, ◌≤◌, ◌<◌, false, get_or, take, drop, set}
 use Rattle.std.proofs.Common.{arith, ◌∙◌, drop_of_length-le, drop-cons, get_or-take, length-take-le}
 use Rattle.std.proofs.Math.Numerals.{add-one}
@@ -19,11 +20,9 @@ use Rattle.ast.specs.Row.{line_at, line-of}
 use Rattle.scope.specs.Slots.{below_at}
 use Rattle.scope.specs.Scopes.{scope_from, scope_of, labels_of, table_numbers, Valid}
 use Rattle.scope.specs.Project.{label-found}
-use Rattle.scope.specs.Matches.{matched_of}
+use Rattle.numbers.specs.Options.{option_of}
 use Rattle.scope.specs.Hide.{HiddenFits, HiddenAdded}
 use Rattle.scope.specs.declared.Scope.{Scope}
-use Rattle.scope.specs.declared.matches.Matched.{Matched}
-use Rattle.scope.specs.declared.matches.Matched.TheVariants as M
 use Rattle.build_expression.specs.Builds.{scope_at}
 use Rattle.build_hidden.specs.Terms.{Passable, HiddenAs, shown_of}
 use Rattle.build_hidden.specs.Visits.{hidden_by, trees_at}
@@ -139,9 +138,9 @@ module _ {c q : Bytes} {t labels matches : List ℕ} {w : ℕ} {tables : List �
   unfolding scope_of
   scope-is = rw same_tables
 
-  module _ {r : ℕ} {x : Matched} (l : i < length rows) (e : r ≡ get_or rows i 0)
+  module _ {r : ℕ} {x : std.Option ℕ} (l : i < length rows) (e : r ≡ get_or rows i 0)
       (k : Lacking c q t (take w labels) (take w matches) (take n tables) (labels_of s) (take s.width s.matches) r x) where
-    asked : (h : ℕ) → matched_of x ≡ to_hide (parent h) (scope_of (tree_at c q t) c q s) (tree_at c q t r)
+    asked : (h : ℕ) → option_of x ≡ to_hide (parent h) (scope_of (tree_at c q t) c q s) (tree_at c q t r)
     asked h = rw scope-is (k.is h s.hidden)
 
     -- the row is visited next
@@ -150,9 +149,8 @@ module _ {c q : Bytes} {t labels matches : List ℕ} {w : ℕ} {tables : List �
     unfolding hidden_by
     next_row h = rw (drop-cons rows i 0 l, ← e) at (v.reached h).rest
 
-    pub hiding-skip : x ≡ M.Nothing
+    pub hiding-skip : x ≡ std.None
         → HidingRows c q t (take w labels) (take w matches) (take n tables) rows child positions (i + 1) s positions'
-    unfolding matched_of
     hiding-skip z = record {
       valid = v.valid;
       width = v.width;
@@ -161,20 +159,19 @@ module _ {c q : Bytes} {t labels matches : List ℕ} {w : ℕ} {tables : List �
       kept = v.kept;
       reached = λ h. record {
         columns = (v.reached h).columns;
-        rest = rw (add-one i) (rw (visit-none _ _ (state h) (sym (ap matched_of z) ∙ asked h)) at (next_row h));
+        rest = rw (add-one i) (rw (visit-none _ _ (state h) (sym (ap option_of z) ∙ asked h)) at (next_row h));
         numbers = (v.reached h).numbers;
         count = (v.reached h).count;
       };
     }
 
-    module _ {j : ℕ} (z : x ≡ M.At j) where
+    module _ {j : ℕ} (z : x ≡ std.Some j) where
       -- what is hidden with its column
       abbrev added : ℕ → Hidden
       added h = add_hidden (parent h) (line_of (tree_at c q t r)) j (state h)
 
       added-row : (h : ℕ) → hidden_by (parent h) (trees_at c q t (drop (suc i) rows)) (added h) ≡ whole h
-      unfolding matched_of
-      added-row h = rw (visit-some _ _ (state h) j (sym (ap matched_of z) ∙ asked h)) at (next_row h)
+      added-row h = rw (visit-some _ _ (state h) j (sym (ap option_of z) ∙ asked h)) at (next_row h)
 
       long : length (take w matches) ≡ length (take w labels)
       long = length-take-le w matches f.matches-long ∙ sym (length-take-le w labels f.labels-long)

@@ -1,6 +1,8 @@
 -- The column to hide for an expression: of the parent's with the labels xs and the matches ms, which a child with the
 -- labels ys and the matches ns lacks, both over the tables ts.
-use Rattle.std.specs.Prelude.{ℕ, ◌<◌, List}
+use Rattle.std.specs.Prelude as std
+use Rattle.std.specs.Prelude.{ℕ, ◌<◌, List, Result, Ok, Err}
+use Rattle.std.specs.Result.{result_ok}
 use native.Mathlib.Omega.{arith}
 use Rattle.std.proofs.Math.Path.{◌≡◌, refl, sym, ap}
 use Rattle.std.proofs.Common.{◌∙◌}
@@ -23,27 +25,26 @@ use Rattle.ast.specs.declared.row.Kind.TheVariants as K
 use Rattle.scope.specs.Labels.{columns-length}
 use Rattle.scope.specs.Scopes.{matches_of, scope_from}
 use Rattle.scope.specs.Lookup.{found_of, qualifier_of, Looked, lookup-below}
-use Rattle.scope.specs.Matches.{matched_of, matched-from, matched-below}
-use Rattle.scope.specs.declared.lookup.Found.{Found}
-use Rattle.scope.specs.declared.lookup.Qualifier.TheVariants as Q
-use Rattle.scope.specs.declared.matches.Matched.{Matched}
-use Rattle.scope.specs.declared.matches.Matched.TheVariants as M
+use Rattle.numbers.specs.Options.{option_of}
+use Rattle.scope.specs.Matches.{matched-from, matched-below}
+use Rattle.numbers.specs.declared.refusals.Reason.{Reason}
+use Rattle.text.specs.declared.places.Place.{Place}
 use Rattle.build_expression.specs.Builds.{scope_at}
 
 -- CONTRACTS
 module _ (c q : Bytes) (xs ms ts ys ns : List ℕ) where
   -- for a name w, under a table's o or not
-  pub record NameLacking (o : Option Word) (w : Word) (x : Matched) : Type 0 where
-    pub is : (e : ℕ → Expr) (h k : ℕ) → matched_of x ≡ lacking
+  pub record NameLacking (o : Option Word) (w : Word) (x : std.Option ℕ) : Type 0 where
+    pub is : (e : ℕ → Expr) (h k : ℕ) → option_of x ≡ lacking
         (position (rules.lookup (scope_from e c q xs ms ts h) o w)) (position (rules.lookup (scope_from e c q ys ns ts k) o w))
 
   -- for an expression that may be a column's name
-  pub record ColumnLacking (a : Expr) (x : Matched) : Type 0 where
+  pub record ColumnLacking (a : Expr) (x : std.Option ℕ) : Type 0 where
     pub is : (e : ℕ → Expr) (h k : ℕ)
-        → matched_of x ≡ lacking_column (scope_from e c q xs ms ts h) (scope_from e c q ys ns ts k) (as_column a)
+        → option_of x ≡ lacking_column (scope_from e c q xs ms ts h) (scope_from e c q ys ns ts k) (as_column a)
 
-pub record Lacking (c q : Bytes) (t xs ms ts ys ns : List ℕ) (r : ℕ) (x : Matched) : Type 0 where
-  pub is : (h k : ℕ) → matched_of x ≡ to_hide (scope_at c q t xs ms ts h) (scope_at c q t ys ns ts k) (tree_at c q t r)
+pub record Lacking (c q : Bytes) (t xs ms ts ys ns : List ℕ) (r : ℕ) (x : std.Option ℕ) : Type 0 where
+  pub is : (h k : ℕ) → option_of x ≡ to_hide (scope_at c q t xs ms ts h) (scope_at c q t ys ns ts k) (tree_at c q t r)
 
 -- WHAT THE CHILD LACKS
 lacking-nothing : (o : Option ℕ) → none ≡ lacking none o
@@ -52,52 +53,50 @@ lacking-nothing none = refl
 lacking-nothing (some j) = refl
 
 -- nothing in the parent; something, and nothing in the child; something in both
-pub lacks-nothing : (x : Matched) (o p : Option ℕ) → matched_of x ≡ o → x ≡ M.Nothing → matched_of M.Nothing ≡ lacking o p
-unfolding matched_of
-lacks-nothing x o p e g = lacking-nothing p ∙ ap (λ (u : Option ℕ). lacking u p) (sym (ap matched_of g) ∙ e)
+pub lacks-nothing : {x : std.Option ℕ} (o p : Option ℕ) → option_of x ≡ o → x ≡ std.None → none ≡ lacking o p
+lacks-nothing o p e g = lacking-nothing p ∙ ap (λ (u : Option ℕ). lacking u p) (sym (ap option_of g) ∙ e)
 
-pub lacks-at : (x y : Matched) (o p : Option ℕ) (i : ℕ) → matched_of x ≡ o → matched_of y ≡ p → x ≡ M.At i → y ≡ M.Nothing
-    → matched_of (M.At i) ≡ lacking o p
-unfolding matched_of lacking
-lacks-at x y o p i e f g z =
-    sym (ap matched_of g) ∙ e ∙ ap (λ (u : Option ℕ). lacking o u) (sym (ap matched_of z) ∙ f)
+pub lacks-at : {x y : std.Option ℕ} (o p : Option ℕ) (i : ℕ) → option_of x ≡ o → option_of y ≡ p → x ≡ std.Some i
+    → y ≡ std.None → some i ≡ lacking o p
+unfolding lacking
+lacks-at o p i e f g z =
+    sym (ap option_of g) ∙ e ∙ ap (λ (u : Option ℕ). lacking o u) (sym (ap option_of z) ∙ f)
 
-pub lacks-known : (y : Matched) (o p : Option ℕ) (j : ℕ) → matched_of y ≡ p → y ≡ M.At j
-    → matched_of M.Nothing ≡ lacking o p
-unfolding matched_of lacking
-lacks-known y o p j f z = ap (λ (u : Option ℕ). lacking o u) (sym (ap matched_of z) ∙ f)
+pub lacks-known : {y : std.Option ℕ} (o p : Option ℕ) (j : ℕ) → option_of y ≡ p → y ≡ std.Some j → none ≡ lacking o p
+unfolding lacking
+lacks-known o p j f z = ap (λ (u : Option ℕ). lacking o u) (sym (ap option_of z) ∙ f)
 
 -- NAMES
-looked-at : (c q : Bytes) (xs ms ts : List ℕ) (o : Option Word) (w : Word) (u : Found) (x : Matched)
-    → Looked c q xs ms ts o w u → matched_of x ≡ position (found_of u) → (e : ℕ → Expr) (h : ℕ)
-    → matched_of x ≡ position (rules.lookup (scope_from e c q xs ms ts h) o w)
-looked-at c q xs ms ts o w u x l p e h = p ∙ ap position (sym (l.is e h))
-
-module _ {c q : Bytes} {xs ms ts : List ℕ} {o : Option Word} {w : Word} {u : Found}
+module _ {c q : Bytes} {xs ms ts : List ℕ} {o : Option Word} {w : Word} {u : Result ℕ Reason}
     (l : Looked c q xs ms ts o w u) where
-  pub name-nothing : {x : Matched} {ys ns : List ℕ} → matched_of x ≡ position (found_of u) → x ≡ M.Nothing
-      → NameLacking c q xs ms ts ys ns o w M.Nothing
-  name-nothing {x} p g = record {
-    is = λ e h k. lacks-nothing x _ _ (looked-at c q xs ms ts o w u x l p e h) g;
-  }
+  -- where the name stands, if it does
+  looked-at : (e : ℕ → Expr) (h : ℕ) → option_of (result_ok u) ≡ position (rules.lookup (scope_from e c q xs ms ts h) o w)
+  unfolding position found_of
+  looked-at e h = go u ∙ ap position (sym (l.is e h))
+    where
+      go : (r : Result ℕ Reason) → option_of (result_ok r) ≡ position (found_of r)
+      go (Ok i) = refl
+      go (Err r) = refl
 
-  module _ {ys ns : List ℕ} {v : Found} (m : Looked c q ys ns ts o w v) where
-    pub name-lacking : {x y : Matched} {i : ℕ} → matched_of x ≡ position (found_of u)
-        → matched_of y ≡ position (found_of v) → x ≡ M.At i → y ≡ M.Nothing
-        → NameLacking c q xs ms ts ys ns o w (M.At i)
-    name-lacking {x} {y} {i} p r g z = record {
-      is = λ e h k. lacks-at x y _ _ i (looked-at c q xs ms ts o w u x l p e h)
-          (looked-at c q ys ns ts o w v y m r e k) g z;
+module _ {c q : Bytes} {xs ms ts : List ℕ} {o : Option Word} {w : Word} {u : Result ℕ Reason}
+    (l : Looked c q xs ms ts o w u) where
+  pub name-nothing : {ys ns : List ℕ} → result_ok u ≡ std.None → NameLacking c q xs ms ts ys ns o w std.None
+  name-nothing g = record { is = λ e h k. lacks-nothing _ _ (looked-at l e h) g }
+
+  module _ {ys ns : List ℕ} {v : Result ℕ Reason} (m : Looked c q ys ns ts o w v) where
+    pub name-lacking : {i : ℕ} {reason : Reason} → result_ok u ≡ std.Some i → v ≡ Err reason
+        → NameLacking c q xs ms ts ys ns o w (std.Some i)
+    name-lacking {i} g z = record {
+      is = λ e h k. lacks-at _ _ i (looked-at l e h) (looked-at m e k) g (ap result_ok z);
     }
 
-    pub name-known : {y : Matched} {j : ℕ} → matched_of y ≡ position (found_of v) → y ≡ M.At j
-        → NameLacking c q xs ms ts ys ns o w M.Nothing
-    name-known {y} {j} r z = record { is = λ e h k. lacks-known y _ _ j (looked-at c q ys ns ts o w v y m r e k) z }
+    pub name-known : {j : ℕ} → v ≡ Ok j → NameLacking c q xs ms ts ys ns o w std.None
+    name-known {j} z = record { is = λ e h k. lacks-known _ _ j (looked-at m e k) (ap result_ok z) }
 
 -- BY THE KIND OF A ROW
 module _ {c q : Bytes} {xs ms ts ys ns : List ℕ} (t : List ℕ) (r : ℕ) (k : Kind) (h : number_of k ≡ kind_at t r) where
-  module _ {a n : ℕ} {x : Matched} (ea : a ≡ name_address t r) (en : n ≡ name_length t r) where
-    pub column-plain : k ≡ K.Column → NameLacking c q xs ms ts ys ns (qualifier_of c q Q.Nothing) (word_at c q a n) x
+  module _ {a n : ℕ} {x : std.Option ℕ} (ea : a ≡ name_address t r) (en : n ≡ name_length t r) where
+    pub column-plain : k ≡ K.Column → NameLacking c q xs ms ts ys ns (qualifier_of c q std.None) (word_at c q a n) x
         → ColumnLacking c q xs ms ts ys ns (tree_at c q t r) x
     unfolding lacking_column as_column qualifier_of
     column-plain e f = record {
@@ -106,8 +105,8 @@ module _ {c q : Bytes} {xs ms ts ys ns : List ℕ} (t : List ℕ) (r : ℕ) (k :
           (column-row c q t r k h e));
     }
 
-    pub column-qualified : {b m : ℕ} → b ≡ qualifier_address t r → m ≡ qualifier_length t r → k ≡ K.Qualified
-        → NameLacking c q xs ms ts ys ns (qualifier_of c q (Q.Table b m)) (word_at c q a n) x
+    pub column-qualified : {p : Place} → p.address ≡ qualifier_address t r → p.length ≡ qualifier_length t r → k ≡ K.Qualified
+        → NameLacking c q xs ms ts ys ns (qualifier_of c q (std.Some p)) (word_at c q a n) x
         → ColumnLacking c q xs ms ts ys ns (tree_at c q t r) x
     unfolding lacking_column as_column qualifier_of
     column-qualified eb em e f = record {
@@ -118,8 +117,8 @@ module _ {c q : Bytes} {xs ms ts ys ns : List ℕ} (t : List ℕ) (r : ℕ) (k :
 
   -- anything else
   pub column-none : (v : Kind) → k ≡ v → as_column (tree_of (tree_at c q t) v c q t r) ≡ none
-      → ColumnLacking c q xs ms ts ys ns (tree_at c q t r) M.Nothing
-  unfolding lacking_column matched_of
+      → ColumnLacking c q xs ms ts ys ns (tree_at c q t r) std.None
+  unfolding lacking_column
   column-none v e o =
       let w : tree_at c q t r ≡ tree_of (tree_at c q t) v c q t r =
       row-tree c q t r k h ∙ ap (λ (i : Kind). tree_of (tree_at c q t) i c q t r) e in
@@ -139,20 +138,20 @@ matches-both c q t xs ms ts ys ns r h k o m = rw (
 ) (sym m)
 
 module _ {c q : Bytes} {t xs ms ts ys ns : List ℕ} {r : ℕ} where
-  pub lacking-match : {x : Matched} {i : ℕ} → matched_of x
+  pub lacking-match : {x : std.Option ℕ} {i : ℕ} → option_of x
       ≡ lacking (match_at (matches_of (tree_at c q t) 0 ms) (tree_at c q t r))
       (match_at (matches_of (tree_at c q t) 0 ns) (tree_at c q t r))
-      → x ≡ M.At i → Lacking c q t xs ms ts ys ns r (M.At i)
-  unfolding to_hide matched_of
-  lacking-match {x} {i} m g = record { is = λ h k. rw (to_hide, matches-both c q t xs ms ts ys ns r h k (some i) (sym (ap matched_of g) ∙ m)) }
+      → x ≡ std.Some i → Lacking c q t xs ms ts ys ns r (std.Some i)
+  unfolding to_hide
+  lacking-match {x} {i} m g = record { is = λ h k. rw (to_hide, matches-both c q t xs ms ts ys ns r h k (some i) (sym (ap option_of g) ∙ m)) }
 
-  pub lacking-column : {x y : Matched} → matched_of x
+  pub lacking-column : {x y : std.Option ℕ} → option_of x
       ≡ lacking (match_at (matches_of (tree_at c q t) 0 ms) (tree_at c q t r))
       (match_at (matches_of (tree_at c q t) 0 ns) (tree_at c q t r))
-      → x ≡ M.Nothing → ColumnLacking c q xs ms ts ys ns (tree_at c q t r) y → Lacking c q t xs ms ts ys ns r y
-  unfolding to_hide matched_of
+      → x ≡ std.None → ColumnLacking c q xs ms ts ys ns (tree_at c q t r) y → Lacking c q t xs ms ts ys ns r y
+  unfolding to_hide
   lacking-column {x} {y} m g f = record {
-    is = λ h k. rw (to_hide, matches-both c q t xs ms ts ys ns r h k none (sym (ap matched_of g) ∙ m)) (f.is (tree_at c q t) h k);
+    is = λ h k. rw (to_hide, matches-both c q t xs ms ts ys ns r h k none (sym (ap option_of g) ∙ m)) (f.is (tree_at c q t) h k);
   }
 
 -- THE COLUMN IS ONE OF THE PARENT'S
@@ -175,7 +174,7 @@ module _ (c q : Bytes) (xs ms ts : List ℕ) (e : ℕ → Expr) (child : rules.S
       (position_at _ i (lacking-own _ _ i g)))
 
   hide-below : length ms ≡ length xs → to_hide (scope_from e c q xs ms ts 0) child a ≡ some i → i < length xs
-  unfolding to_hide matched_of
+  unfolding to_hide
   hide-below l = go (lacking (matched (scope_from e c q xs ms ts 0) a) (matched child a)) refl
     where
       go : (o : Option ℕ) → lacking (matched (scope_from e c q xs ms ts 0) a) (matched child a) ≡ o
@@ -191,13 +190,12 @@ module _ (c q : Bytes) (xs ms ts : List ℕ) (e : ℕ → Expr) (child : rules.S
             arith,
             l,
             y,
-            matched-below e a ms {r = M.At j} j
+            matched-below e a ms {r = std.Some j} j
                 (sym (sym (matched-from e c q xs ms ts 0 a) ∙ lacking-own _ _ j z)) refl,
           )
 
-pub lacking-below : {c q : Bytes} {t xs ms ts ys ns : List ℕ} {r : ℕ} {x : Matched} {i : ℕ}
-    → Lacking c q t xs ms ts ys ns r x → x ≡ M.At i → length ms ≡ length xs → i < length xs
-unfolding matched_of
+pub lacking-below : {c q : Bytes} {t xs ms ts ys ns : List ℕ} {r : ℕ} {x : std.Option ℕ} {i : ℕ}
+    → Lacking c q t xs ms ts ys ns r x → x ≡ std.Some i → length ms ≡ length xs → i < length xs
 lacking-below {c} {q} {t} {xs} {ms} {ts} {ys} {ns} {r} k e l =
     hide-below c q xs ms ts (tree_at c q t) (scope_at c q t ys ns ts 0) (tree_at c q t r) l
-    (sym (k.is 0 0) ∙ ap matched_of e)
+    (sym (k.is 0 0) ∙ ap option_of e)

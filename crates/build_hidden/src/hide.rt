@@ -6,7 +6,6 @@ ghost use Rattle.build_hidden.specs.Hide.{RowsHidden};
 use super::Hiding;
 use super::lacking::to_hide;
 use ast::row::line;
-use scope::matches::Matched;
 use scope::{COLUMNS, Scope};
 
 // One row after the other, until the child is full.
@@ -46,7 +45,7 @@ pub fn hide_rows<'t, 'a>(
             &scope.matches,
             scope.width,
         );
-        let Matched::At(j) = wanted else {
+        let Some(j) = wanted else {
             i += 1;
             continue;
         };

@@ -6,13 +6,14 @@ ghost use Rattle.rules.specs.Scope.{match_at};
 ghost use Rattle.rules.specs.Hidden as hidden;
 ghost use Rattle.ast.specs.Table.{tree_at};
 ghost use Rattle.scope.specs.Scopes.{matches_of};
-ghost use Rattle.scope.specs.Lookup.{found_of, qualifier_of};
-ghost use Rattle.scope.specs.Matches.{matched_of};
+ghost use Rattle.scope.specs.Lookup.{qualifier_of};
+ghost use Rattle.numbers.specs.Options.{option_of};
 ghost use Rattle.build_hidden.specs.Lacking.{NameLacking, ColumnLacking, Lacking};
 
 use ast::row::{Kind, kind_of, name_address, name_length, qualifier_address, qualifier_length};
-use scope::lookup::{Found, Qualifier, lookup};
-use scope::matches::{Matched, lookup_aggregate};
+use scope::lookup::lookup;
+use scope::matches::lookup_aggregate;
+use text::places::Place;
 
 // The parent's column that the expression at row r is matched to, where the child matches it to none.
 fn lacking_match(
@@ -24,8 +25,8 @@ fn lacking_match(
     width: u32,
     child_matches: &[u16],
     child_width: u32,
-) -> Matched
-    ensures { matched_of result ≡ hidden.lacking
+) -> Option<u32>
+    ensures { option_of result ≡ hidden.lacking
         (match_at (matches_of (tree_at catalog.now statement.now cells.now) 0
         (take width matches.now))
         (tree_at catalog.now statement.now cells.now r))
@@ -33,30 +34,10 @@ fn lacking_match(
         (take child_width child_matches.now))
         (tree_at catalog.now statement.now cells.now r)) }
 {
-    let here = lookup_aggregate(catalog, statement, cells, matches, width, r);
-    match here {
-        Matched::Nothing => Matched::Nothing,
-        Matched::At(i) => {
-            let there = lookup_aggregate(catalog, statement, cells, child_matches, child_width, r);
-            match there {
-                Matched::Nothing => Matched::At(i),
-                Matched::At(_) => Matched::Nothing,
-            }
-        }
-    }
-}
-
-// The position of what was found, if any.
-fn position(found: Found) -> Matched
-    ensures { matched_of result ≡ hidden.position (found_of found) }
-{
-    match found {
-        Found::At(i) => Matched::At(i),
-        Found::UnknownQualifier => Matched::Nothing,
-        Found::UnknownColumn => Matched::Nothing,
-        Found::Ambiguous => Matched::Nothing,
-        Found::ConstantOnly => Matched::Nothing,
-        Found::NotAggregated => Matched::Nothing,
+    let i = lookup_aggregate(catalog, statement, cells, matches, width, r)?;
+    match lookup_aggregate(catalog, statement, cells, child_matches, child_width, r) {
+        Some(_) => None,
+        None => Some(i),
     }
 }
 
@@ -72,10 +53,10 @@ fn lacking_name<'t, 'a>(
     child_labels: &'a [u32],
     child_matches: &'a [u16],
     child_width: u32,
-    qualifier: Qualifier,
+    qualifier: Option<Place>,
     a: u32,
     n: u32,
-) -> Matched
+) -> Option<u32>
     ensures { NameLacking catalog.now statement.now
         (take width labels.now) (take width matches.now) (take count tables.now)
         (take child_width child_labels.now) (take child_width child_matches.now)
@@ -85,28 +66,22 @@ fn lacking_name<'t, 'a>(
     let found = lookup(
         catalog, statement, labels, matches, width, tables, count, qualifier, a, n,
     );
-    let here = position(found);
-    match here {
-        Matched::Nothing => Matched::Nothing,
-        Matched::At(i) => {
-            let known = lookup(
-                catalog,
-                statement,
-                child_labels,
-                child_matches,
-                child_width,
-                tables,
-                count,
-                qualifier,
-                a,
-                n,
-            );
-            let there = position(known);
-            match there {
-                Matched::Nothing => Matched::At(i),
-                Matched::At(_) => Matched::Nothing,
-            }
-        }
+    let i = found.ok()?;
+    let known = lookup(
+        catalog,
+        statement,
+        child_labels,
+        child_matches,
+        child_width,
+        tables,
+        count,
+        qualifier,
+        a,
+        n,
+    );
+    match known {
+        Ok(_) => None,
+        Err(_) => Some(i),
     }
 }
 
@@ -124,7 +99,7 @@ fn lacking_column<'t, 'a>(
     child_labels: &'a [u32],
     child_matches: &'a [u16],
     child_width: u32,
-) -> Matched
+) -> Option<u32>
     ensures { ColumnLacking catalog.now statement.now
         (take width labels.now) (take width matches.now) (take count tables.now)
         (take child_width child_labels.now) (take child_width child_matches.now)
@@ -135,7 +110,6 @@ fn lacking_column<'t, 'a>(
         Kind::Column => {
             let a = name_address(cells, r);
             let n = name_length(cells, r);
-            let plain = Qualifier::Nothing;
             lacking_name(
                 catalog,
                 statement,
@@ -147,7 +121,7 @@ fn lacking_column<'t, 'a>(
                 child_labels,
                 child_matches,
                 child_width,
-                plain,
+                None,
                 a,
                 n,
             )
@@ -155,7 +129,10 @@ fn lacking_column<'t, 'a>(
         Kind::Qualified => {
             let a = name_address(cells, r);
             let n = name_length(cells, r);
-            let named = Qualifier::Table(qualifier_address(cells, r), qualifier_length(cells, r));
+            let qualifier = Some(Place {
+                address: qualifier_address(cells, r),
+                length: qualifier_length(cells, r),
+            });
             lacking_name(
                 catalog,
                 statement,
@@ -167,17 +144,17 @@ fn lacking_column<'t, 'a>(
                 child_labels,
                 child_matches,
                 child_width,
-                named,
+                qualifier,
                 a,
                 n,
             )
         }
-        Kind::Star => Matched::Nothing,
-        Kind::Call => Matched::Nothing,
-        Kind::Unary => Matched::Nothing,
-        Kind::Binary => Matched::Nothing,
-        Kind::Is => Matched::Nothing,
-        Kind::Literal => Matched::Nothing,
+        Kind::Star => None,
+        Kind::Call => None,
+        Kind::Unary => None,
+        Kind::Binary => None,
+        Kind::Is => None,
+        Kind::Literal => None,
     }
 }
 
@@ -195,7 +172,7 @@ pub fn to_hide<'t, 'a>(
     child_labels: &'a [u32],
     child_matches: &'a [u16],
     child_width: u32,
-) -> Matched
+) -> Option<u32>
     ensures { Lacking catalog.now statement.now cells.now
         (take width labels.now) (take width matches.now) (take count tables.now)
         (take child_width child_labels.now) (take child_width child_matches.now) r result }
@@ -211,8 +188,8 @@ pub fn to_hide<'t, 'a>(
         child_width,
     );
     match matched {
-        Matched::At(i) => Matched::At(i),
-        Matched::Nothing => lacking_column(
+        Some(i) => Some(i),
+        None => lacking_column(
             catalog,
             statement,
             cells,

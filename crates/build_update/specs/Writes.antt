@@ -1,5 +1,5 @@
 -- Sets appended: the cells of what each column is set to, and its position and root among the numbers of the nodes.
-use Rattle.std.specs.Prelude.{ℕ, ◌+◌, ◌-◌, ◌≤◌, pred, List, [], ◌∷◌, ◌++◌, length, take}
+use Rattle.std.specs.Prelude.{ℕ, ◌+◌, ◌-◌, ◌≤◌, pred, List, [], ◌∷◌, ◌++◌, length, take, Result, None}
 use Rattle.std.proofs.Common.{arith, sub-one, ◌∙◌}
 use Rattle.std.proofs.Math.Path.{◌≡◌, refl, sym, ap}
 use Rattle.std.proofs.Math.Option.{none}
@@ -22,8 +22,7 @@ use Rattle.appends.specs.Lists.Loops.{seconds-step, seconds-stop, seconds-done}
 use Rattle.appends.specs.Statements.Update.{set-column}
 use Rattle.ast.specs.Table.{tree_at}
 use Rattle.scope.specs.Lookup.{found_of, qualifier_of, Looked}
-use Rattle.scope.specs.declared.lookup.Found as L
-use Rattle.scope.specs.declared.lookup.Qualifier.TheVariants as Q
+use Rattle.numbers.specs.declared.refusals.Reason.{Reason}
 use Rattle.sections.specs.declared.entry.Entry.{Entry}
 use Rattle.statement.specs.EntryAccess.{name_start, word_of, given_of}
 use Rattle.plan.specs.Layout.{cells_end}
@@ -214,7 +213,7 @@ module _ (s : Scope) (cs : List Column) (n : ℕ) (x : Ast.Set) where
 
 -- over a scope whose arrays are lent: its column is looked up, and its value is built
 module _ (c q : Bytes) (t xs ms ts : List ℕ) (cs : List Column) (e : Entry) (n : ℕ) {a : ℕ} (ha : a ≡ name_start e)
-    {f : L.Found} (hf : Looked c q xs ms ts (qualifier_of c q Q.Nothing) (word_at c q a e.length) f)
+    {f : Result ℕ Reason} (hf : Looked c q xs ms ts (qualifier_of c q None) (word_at c q a e.length) f)
     {p : Position} (hp : p ≡ position_of (found e.line (found_of f))) where
   looked : (h : ℕ) → lookup (scope_at c q t xs ms ts h) none (set_of c q t e).name ≡ found_of f
   unfolding qualifier_of

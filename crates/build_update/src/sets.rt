@@ -16,7 +16,7 @@ use crate::set::build_set;
 use build_expression::position::{Position, position_of};
 use plan::cells::Written;
 use plan::own;
-use scope::lookup::{Qualifier, lookup};
+use scope::lookup::lookup;
 use sections::entry;
 use sections::entry::Entry;
 use statement::access::name_start;
@@ -66,7 +66,7 @@ fn write_set<'t, 'a>(
         width,
         names,
         count,
-        Qualifier::Nothing,
+        None,
         a,
         e.length,
     );

@@ -2,5 +2,6 @@ pub mod Bits
 pub mod Codes
 pub mod Kept
 pub mod Reasons
+pub mod Options
 pub mod Stores
 pub mod Values

@@ -1,10 +1,10 @@
 -- The label that an expression passes on: that of a column name which is found, else none.
-use Rattle.std.specs.Prelude.{ℕ, ◌≤◌, ◌<◌, ◌≡◌, refl, List, length, get_or, take}
+use Rattle.std.specs.Prelude.{ℕ, ◌≤◌, ◌<◌, ◌≡◌, refl, List, length, get_or, take, Result, Ok, Err}
+use Rattle.std.specs.Prelude as std
 use Rattle.std.proofs.Common.{arith, ◌∙◌, get_or-take}
 use Rattle.std.proofs.Math.Path.{ap, sym}
 use Rattle.std.proofs.Math.Option.{Option, none, some}
 use Rattle.std.proofs.Math.ListN.{length-take}
-use Rattle.rules.specs.Refusals.{Reason}
 use Rattle.rules.specs.Lists.{Bytes}
 use Rattle.rules.specs.Lines.{Word}
 use Rattle.rules.specs.Places.{word_at}
@@ -24,9 +24,9 @@ use Rattle.scope.specs.Slots.{Below, below_at}
 use Rattle.scope.specs.Scopes.{scope_from}
 use Rattle.scope.specs.Lookup.{found_of, qualifier_of, Looked, found_below}
 use Rattle.scope.specs.Project.{label-found}
-use Rattle.scope.specs.declared.lookup.Found.{Found}
-use Rattle.scope.specs.declared.lookup.Found.TheVariants as F
-use Rattle.scope.specs.declared.lookup.Qualifier.TheVariants.{Nothing, Table}
+use Rattle.numbers.specs.Reasons.{reason_of}
+use Rattle.numbers.specs.declared.refusals.Reason.{Reason}
+use Rattle.text.specs.declared.places.Place.{Place}
 
 -- the label of what was found among the labels xs, 0 for nothing
 unfoldable pub found_number : List ℕ → rules.Found → ℕ
@@ -97,23 +97,23 @@ unfolding item_label
 item-alias c q s ts x a n f l = sym (label-alias c q ts a n f l)
 
 -- WHAT WAS FOUND
-module _ {c q : Bytes} (n : ℕ) (ls : List ℕ) {ms ts : List ℕ} {o : Option Word} {w : Word} {r : Found}
+module _ {c q : Bytes} (n : ℕ) (ls : List ℕ) {ms ts : List ℕ} {o : Option Word} {w : Word} {r : Result ℕ Reason}
     (k : Looked c q (take n ls) ms ts o w r) where
-  pub found_at : {i x : ℕ} → r ≡ F.At i → x ≡ get_or ls i 0 → LabelFound c q (take n ls) ms ts o w x
+  pub found_at : {i x : ℕ} → r ≡ Ok i → x ≡ get_or ls i 0 → LabelFound c q (take n ls) ms ts o w x
   unfolding found_number found_of
   found_at {i} {x} e g =
       let l : i < n = omega (arith, found_below i k e, length-take n ls) in
       record { is = λ f h. g ∙ sym (get_or-take n ls i 0 l) ∙ sym (ap (found_number (take n ls)) (k.is f h ∙ ap found_of e)) }
 
-  pub found_none : (i : Reason) → found_of r ≡ rules.missing i → LabelFound c q (take n ls) ms ts o w 0
-  unfolding found_number
-  found_none i e = record { is = λ f h. sym (ap (found_number (take n ls)) (k.is f h ∙ e)) }
+  pub found_none : {reason : Reason} → r ≡ Err reason → LabelFound c q (take n ls) ms ts o w 0
+  unfolding found_number found_of
+  found_none e = record { is = λ f h. sym (ap (found_number (take n ls)) (k.is f h ∙ ap found_of e)) }
 
 -- BY THE KIND OF A ROW
 module _ {c q : Bytes} {xs ms ts : List ℕ} (t : List ℕ) (r : ℕ) (k : Kind) (h : number_of k ≡ kind_at t r) where
   -- a name, or a name under a table's, whose label l is
   module _ {a n l : ℕ} (ea : a ≡ name_address t r) (en : n ≡ name_length t r) where
-    pub passed-column : k ≡ K.Column → LabelFound c q xs ms ts (qualifier_of c q Nothing) (word_at c q a n) l
+    pub passed-column : k ≡ K.Column → LabelFound c q xs ms ts (qualifier_of c q std.None) (word_at c q a n) l
         → Passed c q xs ms ts (tree_at c q t r) l
     unfolding passed_number as_column qualifier_of
     passed-column e f = record {
@@ -121,8 +121,8 @@ module _ {c q : Bytes} {xs ms ts : List ℕ} (t : List ℕ) (r : ℕ) (k : Kind)
           ∙ sym (ap (passed_number xs (scope_from g c q xs ms ts j)) (column-row c q t r k h e));
     }
 
-    pub passed-qualified : {b m : ℕ} → b ≡ qualifier_address t r → m ≡ qualifier_length t r → k ≡ K.Qualified
-        → LabelFound c q xs ms ts (qualifier_of c q (Table b m)) (word_at c q a n) l → Passed c q xs ms ts (tree_at c q t r) l
+    pub passed-qualified : {p : Place} → p.address ≡ qualifier_address t r → p.length ≡ qualifier_length t r → k ≡ K.Qualified
+        → LabelFound c q xs ms ts (qualifier_of c q (std.Some p)) (word_at c q a n) l → Passed c q xs ms ts (tree_at c q t r) l
     unfolding passed_number as_column qualifier_of
     passed-qualified eb em e f = record {
       is = λ g j. (rw (ea, en, eb, em) at (f.is g j))

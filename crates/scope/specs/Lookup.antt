@@ -1,5 +1,6 @@
 -- A column by its name: what was found, and a search that has come to the i-th label.
-use Rattle.std.specs.Prelude.{ℕ, suc, ◌+◌, ◌<◌, ◌≡◌, Bool, true, false, List, [], ◌∷◌, length}
+use Rattle.std.specs.Prelude.{ℕ, suc, ◌+◌, ◌<◌, ◌≡◌, Bool, true, false, List, [], ◌∷◌, length, Result, Ok, Err}
+use Rattle.std.specs.Prelude as std
 use Rattle.std.proofs.Common.{arith, ap, ◌∙◌}
 use Rattle.std.proofs.Math.Option.{Option, none, some}
 use Rattle.rules.specs.Refusals.{unknown_qualifier, unknown_column, ambiguous_column, constant_only, not_aggregated}
@@ -12,31 +13,25 @@ use Rattle.rules.specs.Scope as rules
 use Rattle.rules.specs.Scope.{at, missing, the_only, the_last, not_found, lookup_named, is_named, is_qualified}
 use Rattle.scope.specs.Labels.{columns-length}
 use Rattle.scope.specs.Scopes.{matches_of, scope_from}
-use Rattle.scope.specs.declared.lookup.Found.{Found}
-use Rattle.scope.specs.declared.lookup.Found.TheVariants.{At, UnknownQualifier, UnknownColumn, Ambiguous}
-use Rattle.scope.specs.declared.lookup.Found.TheVariants.{ConstantOnly, NotAggregated}
-use Rattle.scope.specs.declared.lookup.Qualifier.{Qualifier}
-use Rattle.scope.specs.declared.lookup.Qualifier.TheVariants.{Nothing, Table}
+use Rattle.numbers.specs.Reasons.{reason_of}
+use Rattle.numbers.specs.declared.refusals.Reason.{Reason}
+use Rattle.text.specs.declared.places.Place.{Place}
 
 -- what was found, as the rules have it
-unfoldable pub found_of : Found → rules.Found
-found_of (At i) = at i
-found_of UnknownQualifier = missing unknown_qualifier
-found_of UnknownColumn = missing unknown_column
-found_of Ambiguous = missing ambiguous_column
-found_of ConstantOnly = missing constant_only
-found_of NotAggregated = missing not_aggregated
+unfoldable pub found_of : Result ℕ Reason → rules.Found
+found_of (Ok i) = at i
+found_of (Err reason) = missing (reason_of reason)
 
-unfoldable pub qualifier_of : Bytes → Bytes → Qualifier → Option Word
-qualifier_of c q Nothing = none
-qualifier_of c q (Table b m) = some (word_at c q b m)
+unfoldable pub qualifier_of : Bytes → Bytes → std.Option Place → Option Word
+qualifier_of c q std.None = none
+qualifier_of c q (std.Some p) = some (word_at c q p.address p.length)
 
 -- a name looked up among the labels xs over the tables ts, to whose columns ms are matched
-pub record Looked (c q : Bytes) (xs ms ts : List ℕ) (o : Option Word) (w : Word) (r : Found) : Type 0 where
+pub record Looked (c q : Bytes) (xs ms ts : List ℕ) (o : Option Word) (w : Word) (r : Result ℕ Reason) : Type 0 where
   pub is : (e : ℕ → Expr) (h : ℕ) → rules.lookup (scope_from e c q xs ms ts h) o w ≡ found_of r
 
 -- what F makes of the positions ps in a scope of such matches
-pub record Sought (F : rules.Scope → List ℕ → rules.Found) (ps ms : List ℕ) (r : Found) : Type 0 where
+pub record Sought (F : rules.Scope → List ℕ → rules.Found) (ps ms : List ℕ) (r : Result ℕ Reason) : Type 0 where
   pub is : (s : rules.Scope) (e : ℕ → Expr) → s.aggregates ≡ matches_of e 0 ms → F s ps ≡ found_of r
 
 -- AN ACCEPTED POSITION IS BELOW THE WIDTH
@@ -104,8 +99,8 @@ lookup-below s o w i e = go (is_empty s.columns) e
     go false g = named-below s o w i g
 
 -- and of the code's
-pub found_below : {c q : Bytes} {xs ms ts : List ℕ} {o : Option Word} {w : Word} {r : Found} (i : ℕ)
-    → Looked c q xs ms ts o w r → r ≡ At i → i < length xs
+pub found_below : {c q : Bytes} {xs ms ts : List ℕ} {o : Option Word} {w : Word} {r : Result ℕ Reason} (i : ℕ)
+    → Looked c q xs ms ts o w r → r ≡ Ok i → i < length xs
 unfolding found_of scope_from rules.width
 found_below {c} {q} {xs} {ms} {ts} {o} {w} i k e =
     let f : ℕ → Expr = λ j. star j in

@@ -3,6 +3,7 @@ use Prim.Native.Nat.{ℕ, zero, suc, ◌+◌, ◌-◌, ◌≤◌, ◌<◌}
 use native.Mathlib.Omega.{arith}
 use Rattle.std.proofs.Common.{add-one, ◌∙◌, drop_of_length-le}
 use Rattle.std.specs.Prelude.{◌≡◌, refl, Bool, true, false, List, [], ◌∷◌, length}
+use Rattle.std.specs.Prelude as std
 use Rattle.std.proofs.Math.Path.{ap, sym}
 use Rattle.std.proofs.Math.Option.{Option, none, some}
 use Rattle.std.proofs.Math.ListN.{get_or, drop}
@@ -12,12 +13,7 @@ use Rattle.rules.specs.Ast.{Expr}
 use Rattle.rules.specs.Equality.{equal}
 use Rattle.rules.specs.Scope.{match_at, matched}
 use Rattle.scope.specs.Scopes.{matches_of, scope_from}
-use Rattle.scope.specs.declared.matches.Matched.{Matched}
-use Rattle.scope.specs.declared.matches.Matched.TheVariants.{At, Nothing}
-
-unfoldable pub matched_of : Matched → Option ℕ
-matched_of (At i) = some i
-matched_of Nothing = none
+use Rattle.numbers.specs.Options.{option_of}
 
 -- the first match from the i-th column on is the first of all
 pub record Matching (e : ℕ → Expr) (ms : List ℕ) (x : Expr) (i : ℕ) : Type 0 where
@@ -44,12 +40,12 @@ module _ {e : ℕ → Expr} {ms : List ℕ} {x : Expr} {i : ℕ} (k : Matching e
     unfolding match_at
     match-miss g = record { rest = rw (add-one i) (rw (here, match_at, sym t ∙ g) at k.rest) }
 
-    pub match-hit : b ≡ true → matched_of (At i) ≡ match_at (matches_of e 0 ms) x
-    unfolding match_at matched_of
+    pub match-hit : b ≡ true → option_of (std.Some i) ≡ match_at (matches_of e 0 ms) x
+    unfolding match_at
     match-hit g = rw (here, match_at, sym t ∙ g) at k.rest
 
-  pub match-end : length ms ≤ i → matched_of Nothing ≡ match_at (matches_of e 0 ms) x
-  unfolding matched_of matches_of match_at
+  pub match-end : length ms ≤ i → option_of std.None ≡ match_at (matches_of e 0 ms) x
+  unfolding matches_of match_at
   match-end h = rw (drop_of_length-le ms h) at k.rest
 
 -- what is matched in a scope
@@ -75,7 +71,6 @@ match-below e x i j (suc r ∷ ms) h = go (equal (e r) x) (match-below e x (suc 
     go true f g = let z : i ≡ j = cc in omega arith
     go false f g = omega (arith, f g)
 
-pub matched-below : (e : ℕ → Expr) (x : Expr) (ms : List ℕ) {r : Matched} (i : ℕ)
-    → matched_of r ≡ match_at (matches_of e 0 ms) x → r ≡ At i → i < length ms
-unfolding matched_of
-matched-below e x ms i h g = omega (arith, match-below e x 0 i ms (sym h ∙ ap matched_of g))
+pub matched-below : (e : ℕ → Expr) (x : Expr) (ms : List ℕ) {r : std.Option ℕ} (i : ℕ)
+    → option_of r ≡ match_at (matches_of e 0 ms) x → r ≡ std.Some i → i < length ms
+matched-below e x ms i h g = omega (arith, match-below e x 0 i ms (sym h ∙ ap option_of g))

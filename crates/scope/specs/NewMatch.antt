@@ -1,5 +1,5 @@
 -- A match behind others: a row where no equal expression is matched before, else nothing.
-use Rattle.std.specs.Prelude.{ℕ, zero, suc, ◌+◌, ◌-◌, ◌≤◌, ◌<◌, min, ◌≡◌, refl, Bool, true, false, List, [], ◌∷◌, ◌++◌, ltb, length, get_or, take, set}
+use Rattle.std.specs.Prelude.{ℕ, zero, suc, ◌+◌, ◌-◌, ◌≤◌, ◌<◌, min, ◌≡◌, refl, Bool, true, false, List, [], ◌∷◌, ◌++◌, ltb, length, get_or, take, set, Option, Some, None}
 use Rattle.std.proofs.Common.{arith, add-one, ap, sym, ◌∙◌, length-set, take-suc-set, take-suc, ltb-true, ltb-false}
 use Rattle.rules.specs.Limits.{most_columns}
 use Rattle.rules.specs.Lists.{Bytes, is_some}
@@ -11,9 +11,7 @@ use Rattle.rules.specs.Scope.{match_at, matched, add_match}
 use Rattle.ast.specs.Table.{tree_at}
 use Rattle.ast.specs.Operands.{tree-at, tree-outside}
 use Rattle.scope.specs.Scopes.{matches_of, no-match}
-use Rattle.scope.specs.Matches.{matched_of}
-use Rattle.scope.specs.declared.matches.Matched.{Matched}
-use Rattle.scope.specs.declared.matches.Matched.TheVariants.{At, Nothing}
+use Rattle.numbers.specs.Options.{option_of}
 
 -- ROWS AS MATCHES
 -- the last row that a match has room for
@@ -45,13 +43,13 @@ row_kept c q t r h = go (ltb r most_row) refl
 unfoldable pub new_match : (ℕ → Expr) → List ℕ → ℕ → ℕ
 new_match e ms r = elim (is_some (match_at (matches_of e 0 ms) (e r))) [ true ↦ 0 | false ↦ match_number r ]
 
-module _ (e : ℕ → Expr) (ms : List ℕ) (r : ℕ) {m : Matched} (h : matched_of m ≡ match_at (matches_of e 0 ms) (e r)) where
-  pub new_none : {i : ℕ} → m ≡ At i → 0 ≡ new_match e ms r
-  unfolding new_match matched_of is_some
+module _ (e : ℕ → Expr) (ms : List ℕ) (r : ℕ) {m : Option ℕ} (h : option_of m ≡ match_at (matches_of e 0 ms) (e r)) where
+  pub new_none : {i : ℕ} → m ≡ Some i → 0 ≡ new_match e ms r
+  unfolding new_match is_some
   new_none g = rw (new_match, ← h, g)
 
-  pub new_row : m ≡ Nothing → match_number r ≡ new_match e ms r
-  unfolding new_match matched_of is_some
+  pub new_row : m ≡ None → match_number r ≡ new_match e ms r
+  unfolding new_match is_some
   new_row g = rw (new_match, ← h, g)
 
 -- the same for a match that is passed on

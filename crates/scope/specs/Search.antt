@@ -1,5 +1,6 @@
 -- The searches of a lookup: one that has come to the i-th label, and one for a match.
-use Rattle.std.specs.Prelude.{ℕ, zero, suc, ◌+◌, ◌-◌, ◌≤◌, ◌<◌, ◌≡◌, Bool, true, false, List, [], ◌∷◌, ◌++◌, map, length, get_or, take, drop}
+use Rattle.std.specs.Prelude.{ℕ, zero, suc, ◌+◌, ◌-◌, ◌≤◌, ◌<◌, ◌≡◌, Bool, true, false, List, [], ◌∷◌, ◌++◌, map, length, get_or, take, drop, Result, Ok, Err}
+use Rattle.std.specs.Prelude as std
 use Rattle.std.proofs.Common.{arith, ◌∙◌}
 use Rattle.std.proofs.Math.Numerals.{add-one}
 use Rattle.std.proofs.Math.Path.{refl, sym, ap}
@@ -17,16 +18,15 @@ use Rattle.rules.specs.Scope.{the_only, the_last, not_found, lookup_named, is_na
 use Rattle.scope.specs.Labels.{tables_of, columns_of}
 use Rattle.scope.specs.Scopes.{matches_of, scope_from}
 use Rattle.scope.specs.Lookup.{found_of, qualifier_of, Looked, Sought}
-use Rattle.scope.specs.declared.lookup.Found.{Found}
-use Rattle.scope.specs.declared.lookup.Found.TheVariants.{At, UnknownQualifier, UnknownColumn, Ambiguous}
-use Rattle.scope.specs.declared.lookup.Found.TheVariants.{ConstantOnly, NotAggregated}
-use Rattle.scope.specs.declared.lookup.Qualifier.{Qualifier}
-use Rattle.scope.specs.declared.lookup.Qualifier.TheVariants.{Nothing, Table}
+use Rattle.numbers.specs.Reasons.{reason_of}
+use Rattle.numbers.specs.declared.refusals.Reason.{Reason}
+use Rattle.numbers.specs.declared.refusals.Reason.TheVariants as Re
+use Rattle.text.specs.declared.places.Place.{Place}
 
 -- A MATCH
 -- what a name that stands nowhere means, where ms are matched
-pub record Missing (ms : List ℕ) (r : Found) : Type 0 where
-  pub is : (s : rules.Scope) (e : ℕ → Expr) → s.aggregates ≡ matches_of e 0 ms → not_found s ≡ found_of r
+pub record Missing (ms : List ℕ) (r : Reason) : Type 0 where
+  pub is : (s : rules.Scope) (e : ℕ → Expr) → s.aggregates ≡ matches_of e 0 ms → not_found s ≡ rules.missing (reason_of r)
 
 -- the first i are 0
 pub record NoneBefore (ms : List ℕ) (i : ℕ) : Type 0 where
@@ -45,12 +45,12 @@ module _ {ms : List ℕ} {i : ℕ} (k : NoneBefore ms i) where
   unfolding matches_of
   none_more h z = record { is = λ e. k.is e ∙ rw (drop-cons ms i 0 h, z, add-one i) }
 
-  pub missing-column : length ms ≤ i → Missing ms UnknownColumn
-  unfolding matches_of not_found found_of is_empty
+  pub missing-column : length ms ≤ i → Missing ms Re.UnknownColumn
+  unfolding matches_of not_found reason_of is_empty
   missing-column h = record { is = λ s e g. rw (not_found, g, k.is e, drop_of_length-le ms h) }
 
-  pub missing-aggregated : i < length ms → (get_or ms i 0 ≡ 0 → ⊥) → Missing ms NotAggregated
-  unfolding not_found found_of
+  pub missing-aggregated : i < length ms → (get_or ms i 0 ≡ 0 → ⊥) → Missing ms Re.NotAggregated
+  unfolding not_found reason_of
   missing-aggregated h z = record {
     is = λ s e g. rw (not_found, g, k.is e, drop-cons ms i 0 h, some-match e i (get_or ms i 0) (drop (suc i) ms) z);
   }
@@ -103,13 +103,13 @@ module _ {F : rules.Scope → List ℕ → rules.Found} {t : Label → Bool} {f 
     rest = λ s. rw (add-one i) (rw (z, positions-hit t f xs i l (sym e ∙ g), add-one i) at (k.rest s));
   })
 
-  pub seek-none : {ms : List ℕ} {r : Found} → length xs ≤ i → h ≡ 0 → ((s : rules.Scope) → F s [] ≡ not_found s)
-      → Missing ms r → Sought F (positions t 0 (map f xs)) ms r
-  unfolding hits
+  pub seek-none : {ms : List ℕ} {r : Reason} → length xs ≤ i → h ≡ 0 → ((s : rules.Scope) → F s [] ≡ not_found s)
+      → Missing ms r → Sought F (positions t 0 (map f xs)) ms (Err r)
+  unfolding hits found_of
   seek-none l z e m = record { is = λ s d g. sym (k.rest s) ∙ rw (z, positions-end t f xs i l) (e s ∙ m.is s d g) }
 
   pub seek-one : {ms : List ℕ} → length xs ≤ i → 0 < h → ((s : rules.Scope) (j : ℕ) → F s (j ∷ []) ≡ rules.at j)
-      → Sought F (positions t 0 (map f xs)) ms (At (h - 1))
+      → Sought F (positions t 0 (map f xs)) ms (Ok (h - 1))
   unfolding found_of
   seek-one l z e = record { is = λ s d g. sym (k.rest s) ∙ rw (hits-one h z, positions-end t f xs i l) (e s (h - 1)) }
 
@@ -156,24 +156,24 @@ module _ {t : Label → Bool} {f : ℕ → Label} {xs : List ℕ} {i : ℕ} {b :
   pub behind-miss : b ≡ false → NoneBehind t f xs (i - 1)
   behind-miss g = record { is = positions-miss t f xs (i - 1) (omega arith) (sym e ∙ g) ∙ next-behind.is }
 
-  pub behind-hit : {ms : List ℕ} → b ≡ true → Sought the_last (positions t 0 (map f xs)) ms (At (i - 1))
+  pub behind-hit : {ms : List ℕ} → b ≡ true → Sought the_last (positions t 0 (map f xs)) ms (Ok (i - 1))
   unfolding found_of
   behind-hit g = record {
     is = λ s d y. ap (the_last s) (hit-last t f xs (i - 1) next-behind (omega arith) (sym e ∙ g))
         ∙ last-behind s (positions t 0 (map f (take (i - 1) xs))) (i - 1);
   }
 
-pub behind-none : {t : Label → Bool} {f : ℕ → Label} {xs ms : List ℕ} {r : Found} → NoneBehind t f xs 0 → Missing ms r
-    → Sought the_last (positions t 0 (map f xs)) ms r
-unfolding the_last
+pub behind-none : {t : Label → Bool} {f : ℕ → Label} {xs ms : List ℕ} {r : Reason} → NoneBehind t f xs 0 → Missing ms r
+    → Sought the_last (positions t 0 (map f xs)) ms (Err r)
+unfolding the_last found_of
 behind-none k m = record { is = λ s d g. rw k.is (m.is s d g) }
 
 -- a second hit
 module _ {t : Label → Bool} {f : ℕ → Label} {xs : List ℕ} {i h : ℕ} {b : Bool} where
   pub seek-second : {ms : List ℕ} → Seeking the_only t f xs i h → i < length xs → b ≡ t (f (get_or xs i 0)) → b ≡ true
       → 0 < h
-      → Sought the_only (positions t 0 (map f xs)) ms Ambiguous
-  unfolding the_only found_of
+      → Sought the_only (positions t 0 (map f xs)) ms (Err Re.AmbiguousColumn)
+  unfolding the_only found_of reason_of
   seek-second k l e g z =
       record { is = λ s d y. sym (k.rest s) ∙ rw (hits-one h z, positions-hit t f xs i l (sym e ∙ g)) }
 
@@ -197,8 +197,8 @@ some-columns c q [] ts h = absurd (h refl)
 some-columns c q (x ∷ xs) ts h = refl
 
 module _ (c q : Bytes) (xs ms ts : List ℕ) (w : Word) where
-  looked-empty : (o : Option Word) → length xs ≡ 0 → Looked c q xs ms ts o w ConstantOnly
-  unfolding rules.lookup is_empty found_of scope_from
+  looked-empty : (o : Option Word) → length xs ≡ 0 → Looked c q xs ms ts o w (Err Re.ConstantOnly)
+  unfolding rules.lookup is_empty found_of reason_of scope_from
   looked-empty o h = record { is = λ e k. rw (rules.lookup, no-columns c q xs ts h) }
 
   module _ (h : length xs ≡ 0 → ⊥) where
@@ -207,17 +207,17 @@ module _ (c q : Bytes) (xs ms ts : List ℕ) (w : Word) where
     unfolding rules.lookup scope_from
     some-named o e k = rw (rules.lookup, some-columns c q xs ts h)
 
-    pub looked-only : {r : Found} → Sought the_only (positions (is_named w) 0 (columns_of c q ts xs)) ms r
+    pub looked-only : {r : Result ℕ Reason} → Sought the_only (positions (is_named w) 0 (columns_of c q ts xs)) ms r
         → Looked c q xs ms ts none w r
     unfolding lookup_named scope_from
     looked-only j = record { is = λ e k. some-named none e k ∙ j.is (scope_from e c q xs ms ts k) e refl }
 
     pub looked-no-table : {v : Word} → any (same_name v) (tables_of c q ts) ≡ false
-        → Looked c q xs ms ts (some v) w UnknownQualifier
-    unfolding lookup_named found_of scope_from
+        → Looked c q xs ms ts (some v) w (Err Re.UnknownQualifier)
+    unfolding lookup_named found_of reason_of scope_from
     looked-no-table {v} g = record { is = λ e k. some-named (some v) e k ∙ rw (lookup_named, g) }
 
-    pub looked-last : {v : Word} {r : Found} → any (same_name v) (tables_of c q ts) ≡ true
+    pub looked-last : {v : Word} {r : Result ℕ Reason} → any (same_name v) (tables_of c q ts) ≡ true
         → Sought the_last (positions (is_qualified v w) 0 (columns_of c q ts xs)) ms r → Looked c q xs ms ts (some v) w r
     unfolding lookup_named scope_from
     looked-last {v} g j = record {
@@ -225,21 +225,21 @@ module _ (c q : Bytes) (xs ms ts : List ℕ) (w : Word) where
     }
 
 -- of labels, matches and tables that are xs, ms and ts
-module _ (c q : Bytes) {xs ms : List ℕ} (ts ys : List ℕ) (w : Word) (d : Qualifier) (ex : ys ≡ xs) where
-  pub look-empty : length ys ≡ 0 → Looked c q xs ms ts (qualifier_of c q d) w ConstantOnly
+module _ (c q : Bytes) {xs ms : List ℕ} (ts ys : List ℕ) (w : Word) (d : std.Option Place) (ex : ys ≡ xs) where
+  pub look-empty : length ys ≡ 0 → Looked c q xs ms ts (qualifier_of c q d) w (Err Re.ConstantOnly)
   look-empty h = rw (← ex) (looked-empty c q ys ms ts w (qualifier_of c q d) h)
 
-  pub look-as : {us ns : List ℕ} {r : Found} → ns ≡ ms → us ≡ ts → Looked c q ys ns us (qualifier_of c q d) w r
+  pub look-as : {us ns : List ℕ} {r : Result ℕ Reason} → ns ≡ ms → us ≡ ts → Looked c q ys ns us (qualifier_of c q d) w r
       → Looked c q xs ms ts (qualifier_of c q d) w r
   look-as en eu k = rw (← ex, ← en, ← eu) k
 
 -- under a qualifier
-module _ {c q : Bytes} {xs ms ts : List ℕ} {w : Word} {r : Found} {d : Qualifier} where
-  pub under-nothing : d ≡ Nothing → Looked c q xs ms ts none w r → Looked c q xs ms ts (qualifier_of c q d) w r
+module _ {c q : Bytes} {xs ms ts : List ℕ} {w : Word} {r : Result ℕ Reason} {d : std.Option Place} where
+  pub under-nothing : d ≡ std.None → Looked c q xs ms ts none w r → Looked c q xs ms ts (qualifier_of c q d) w r
   unfolding qualifier_of
   under-nothing e k = rw e k
 
-  pub under_table : {b m : ℕ} {x : Bytes} → d ≡ Table b m → x ≡ bytes_at c q b m
+  pub under_table : {p : Place} {x : Bytes} → d ≡ std.Some p → x ≡ bytes_at c q p.address p.length
       → ((v : Word) → v.bytes ≡ x → Looked c q xs ms ts (some v) w r) → Looked c q xs ms ts (qualifier_of c q d) w r
   unfolding qualifier_of word_at
-  under_table {b} {m} e f k = rw e (k (word_at c q b m) (sym f))
+  under_table {p} e f k = rw e (k (word_at c q p.address p.length) (sym f))

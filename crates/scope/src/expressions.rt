@@ -5,9 +5,10 @@ ghost use Rattle.ast.specs.Table.{tree_at};
 ghost use Rattle.scope.specs.Lookup.{qualifier_of};
 ghost use Rattle.scope.specs.LabelOf.{LabelFound, Passed};
 
-use super::lookup::{Found, Qualifier, lookup};
+use super::lookup::lookup;
 use ast::row::{Kind, kind_of, name_address, name_length, qualifier_address, qualifier_length};
 use numbers::number;
+use text::places::Place;
 
 // The label of the column that a name means, or 0.
 fn label_found<'t, 'a>(
@@ -18,7 +19,7 @@ fn label_found<'t, 'a>(
     width: u32,
     tables: &'a [u32],
     count: u32,
-    qualifier: Qualifier,
+    qualifier: Option<Place>,
     a: u32,
     n: u32,
 ) -> u32
@@ -31,12 +32,8 @@ fn label_found<'t, 'a>(
         catalog, statement, labels, matches, width, tables, count, qualifier, a, n,
     );
     match found {
-        Found::At(i) => number(labels, i as usize),
-        Found::UnknownQualifier => 0,
-        Found::UnknownColumn => 0,
-        Found::Ambiguous => 0,
-        Found::ConstantOnly => 0,
-        Found::NotAggregated => 0,
+        Ok(i) => number(labels, i as usize),
+        Err(_) => 0,
     }
 }
 
@@ -61,17 +58,19 @@ pub fn label_of<'t, 'a>(
         Kind::Column => {
             let a = name_address(table, r);
             let n = name_length(table, r);
-            let plain = Qualifier::Nothing;
             label_found(
-                catalog, statement, labels, matches, width, tables, count, plain, a, n,
+                catalog, statement, labels, matches, width, tables, count, None, a, n,
             )
         }
         Kind::Qualified => {
             let a = name_address(table, r);
             let n = name_length(table, r);
-            let named = Qualifier::Table(qualifier_address(table, r), qualifier_length(table, r));
+            let qualifier = Some(Place {
+                address: qualifier_address(table, r),
+                length: qualifier_length(table, r),
+            });
             label_found(
-                catalog, statement, labels, matches, width, tables, count, named, a, n,
+                catalog, statement, labels, matches, width, tables, count, qualifier, a, n,
             )
         }
         Kind::Star => 0,

@@ -16,25 +16,8 @@ ghost use Rattle.scope.specs.UsedMatches.{used_matches};
 use super::endings::{ending_of, last_ending, next_ending};
 use super::labels::{has_name, slot};
 use numbers::number;
-use text::places::bytes_at;
-
-// What was looked for: its position, or why there is none.
-#[derive(Clone, Copy)]
-pub enum Found {
-    At(u32),
-    UnknownQualifier,
-    UnknownColumn,
-    Ambiguous,
-    ConstantOnly,
-    NotAggregated,
-}
-
-// A column name's qualifier: none, or the place of a table's name.
-#[derive(Clone, Copy)]
-pub enum Qualifier {
-    Nothing,
-    Table(u32, u32),
-}
+use numbers::refusals::Reason;
+use text::places::{Place, bytes_at};
 
 // Whether a label has a name of these bytes.
 fn is_named(catalog: &[u8], statement: &[u8], x: u32, name: &[u8]) -> bool
@@ -85,27 +68,27 @@ pub fn has_table(catalog: &[u8], statement: &[u8], tables: &[u32], name: &[u8]) 
 }
 
 // Why a name stands nowhere: 11 where something is matched, else 8.
-fn not_found(matches: &[u16]) -> Found
+fn not_found(matches: &[u16]) -> Reason
     ensures { Missing matches.now result }
 {
     let mut i: usize = 0;
     while i < matches.len() {
         if matches[i] != 0 {
-            return Found::NotAggregated;
+            return Reason::NotAggregated;
         }
         i += 1;
     }
-    Found::UnknownColumn
+    Reason::UnknownColumn
 }
 
-// The only column of a name.
+// The only column of a name, or why there is none.
 fn only_named<'a>(
     catalog: &[u8],
     statement: &[u8],
     labels: &'a [u32],
     matches: &'a [u16],
     name: &[u8],
-) -> Found
+) -> Result<u32, Reason>
     requires { length labels.now < position_count }
     ensures { (ts : List ℕ) (w : Word) → w.bytes ≡ name.now → Sought the_only
         (positions (is_named w) 0
@@ -118,16 +101,16 @@ fn only_named<'a>(
     while i < labels.len() {
         if is_named(catalog, statement, labels[i], name) {
             if 0 < hit {
-                return Found::Ambiguous;
+                return Err(Reason::AmbiguousColumn);
             }
             hit = i as u32 + 1;
         }
         i = next_ending(catalog, labels, i + 1, ending);
     }
     if hit == 0 {
-        return not_found(matches);
+        return Err(not_found(matches));
     }
-    Found::At(hit - 1)
+    Ok(hit - 1)
 }
 
 // The last column of a name whose table has a name.
@@ -139,7 +122,7 @@ fn last_qualified<'a>(
     tables: &'a [u32],
     table: &[u8],
     name: &[u8],
-) -> Found
+) -> Result<u32, Reason>
     requires { length labels.now < position_count }
     ensures { (v w : Word) → v.bytes ≡ table.now → w.bytes ≡ name.now → Sought the_last
         (positions (is_qualified v w) 0
@@ -151,11 +134,11 @@ fn last_qualified<'a>(
     while 0 < i {
         i -= 1;
         if is_qualified(catalog, statement, tables, labels[i], table, name) {
-            return Found::At(i as u32);
+            return Ok(i as u32);
         }
         i = last_ending(catalog, labels, i, ending);
     }
-    not_found(matches)
+    Err(not_found(matches))
 }
 
 // The column of a name whose table has a name, if there is such a table.
@@ -167,37 +150,37 @@ fn lookup_qualified<'a>(
     tables: &'a [u32],
     table: &[u8],
     name: &[u8],
-) -> Found
+) -> Result<u32, Reason>
     requires { (0 < length labels.now) × (length labels.now < position_count) }
     ensures { (v w : Word) → v.bytes ≡ table.now → w.bytes ≡ name.now → Looked
         catalog.now statement.now labels.now matches.now
         tables.now (some v) w result }
 {
     if !has_table(catalog, statement, tables, table) {
-        return Found::UnknownQualifier;
+        return Err(Reason::UnknownQualifier);
     }
     last_qualified(catalog, statement, labels, matches, tables, table, name)
 }
 
-// The column that a name means under a qualifier, among some labels.
+// The column that a name means under the table name at a place, if one is given, among some labels.
 fn lookup_named<'t, 'a>(
     catalog: &'t [u8],
     statement: &'t [u8],
     labels: &'a [u32],
     matches: &'a [u16],
     tables: &'a [u32],
-    qualifier: Qualifier,
+    qualifier: Option<Place>,
     name: &[u8],
-) -> Found
+) -> Result<u32, Reason>
     requires { (0 < length labels.now) × (length labels.now < position_count) }
     ensures { (w : Word) → w.bytes ≡ name.now → Looked
         catalog.now statement.now labels.now matches.now
         tables.now (qualifier_of catalog.now statement.now qualifier) w result }
 {
     match qualifier {
-        Qualifier::Nothing => only_named(catalog, statement, labels, matches, name),
-        Qualifier::Table(b, m) => {
-            let table = bytes_at(catalog, statement, b, m);
+        None => only_named(catalog, statement, labels, matches, name),
+        Some(place) => {
+            let table = bytes_at(catalog, statement, place.address, place.length);
             lookup_qualified(catalog, statement, labels, matches, tables, table, name)
         }
     }
@@ -255,10 +238,10 @@ pub fn lookup<'t, 'a>(
     width: u32,
     tables: &'a [u32],
     count: u32,
-    qualifier: Qualifier,
+    qualifier: Option<Place>,
     a: u32,
     n: u32,
-) -> Found
+) -> Result<u32, Reason>
     ensures { Looked catalog.now statement.now
         (take width labels.now) (take width matches.now) (take count tables.now)
         (qualifier_of catalog.now statement.now qualifier)
@@ -266,7 +249,7 @@ pub fn lookup<'t, 'a>(
 {
     let xs = first(labels, width as usize);
     if xs.len() == 0 {
-        return Found::ConstantOnly;
+        return Err(Reason::ConstantOnly);
     }
     let ms = first_matches(matches, width as usize);
     let ts = first(tables, count as usize);

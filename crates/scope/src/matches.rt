@@ -3,18 +3,11 @@ ghost use Rattle.std.specs.Prelude.{◌≡◌, take};
 ghost use Rattle.rules.specs.Scope.{match_at};
 ghost use Rattle.ast.specs.Table.{tree_at};
 ghost use Rattle.scope.specs.Scopes.{matches_of};
-ghost use Rattle.scope.specs.Matches.{matched_of};
+ghost use Rattle.numbers.specs.Options.{option_of};
 ghost use Rattle.scope.specs.NewMatch.{match_number, new_match, pass_match};
 
 use super::lookup::first_matches;
 use ast::equality::equal;
-
-// The column that an expression is matched to, or none.
-#[derive(Clone, Copy)]
-pub enum Matched {
-    At(u32),
-    Nothing,
-}
 
 // The first column whose match is equal to the expression at row r, in a scope whose matches are lent. Where the rows
 // are of two kinds, `equal` goes no further.
@@ -25,8 +18,8 @@ pub fn lookup_aggregate(
     matches: &[u16],
     width: u32,
     r: usize,
-) -> Matched
-    ensures { matched_of result ≡ match_at
+) -> Option<u32>
+    ensures { option_of result ≡ match_at
         (matches_of (tree_at catalog.now statement.now table.now) 0
         (take width matches.now))
         (tree_at catalog.now statement.now table.now r) }
@@ -37,12 +30,12 @@ pub fn lookup_aggregate(
         let m = ms[i] as usize;
         if 0 < m {
             if equal(catalog, statement, table, m - 1, r) {
-                return Matched::At(i as u32);
+                return Some(i as u32);
             }
         }
         i += 1;
     }
-    Matched::Nothing
+    None
 }
 
 // The last row that a match has room for.
@@ -70,10 +63,9 @@ pub fn new_match(
     ensures { result ≡ new_match (tree_at catalog.now statement.now table.now)
         (take n matches.now) r }
 {
-    let found = lookup_aggregate(catalog, statement, table, matches, n, r);
-    match found {
-        Matched::At(_) => 0,
-        Matched::Nothing => match_number(r),
+    match lookup_aggregate(catalog, statement, table, matches, n, r) {
+        Some(_) => 0,
+        None => match_number(r),
     }
 }
 

@@ -10,15 +10,8 @@ ghost use Rattle.scope.specs.Merging.{MayMerge};
 use super::COLUMNS;
 use super::labels::{address, size};
 use super::lookup::{first, has_table};
+use numbers::refusals::Reason;
 use text::{MOST_BYTES, part};
-
-// They may, or a table name is held by both, or there are too many columns.
-#[derive(Clone, Copy)]
-pub enum Merging {
-    Allowed,
-    DuplicateTable,
-    LimitPassed,
-}
 
 // Whether one of the tables has the name at a place.
 fn has_table_at(catalog: &[u8], statement: &[u8], tables: &[u32], a: u32, n: u32) -> bool
@@ -62,17 +55,17 @@ pub fn may_merge(
     other_tables: &[u32],
     other_count: u32,
     other_width: u32,
-) -> Merging
+) -> Result<(), Reason>
     ensures { MayMerge catalog.now statement.now
         (take count tables.now) width (take other_count other_tables.now) other_width result }
 {
     let ts = first(tables, count as usize);
     let us = first(other_tables, other_count as usize);
     if shares_name(catalog, statement, ts, us) {
-        return Merging::DuplicateTable;
+        return Err(Reason::DuplicateTable);
     }
     if COLUMNS < width as usize + other_width as usize {
-        return Merging::LimitPassed;
+        return Err(Reason::LimitPassed);
     }
-    Merging::Allowed
+    Ok(())
 }

@@ -9,6 +9,12 @@ ghost use Rattle.text.specs.Places as places;
 
 use super::{MOST_BYTES, Order, compare, equal, part};
 
+#[derive(Clone, Copy, Debug, PartialEq, Eq)]
+pub struct Place {
+    pub address: u32,
+    pub length: u32,
+}
+
 // The address of a position in the statement.
 pub fn address(a: usize) -> u32
     requires { a ≤ 65536 }

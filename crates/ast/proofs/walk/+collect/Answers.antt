@@ -23,11 +23,11 @@ overflow_add-p t c = omega (arith, operands-inside _ _ (λ e. c.if-left-eq0.fals
 pub loop-left-init : goal.loop-left-init
 loop-left-init t c = (omega arith, operands-inside _ _ (λ e. c.if-left-eq0.false (c.operands-left.ensures ∙ e)), refl, ap (collected _ _) (rows_on _ _ _ _ _ (sym c.is_aggregate_call.ensures ∙ c.if-is_aggregate_call.false) c.operands-left.ensures), ap (sets _ _) (rows_on _ _ _ _ _ (sym c.is_aggregate_call.ensures ∙ c.if-is_aggregate_call.false) c.operands-left.ensures))
 
-pub returns-in_default : goal.returns-in_default
-returns-in_default t c = record { value = sym (full-answer _ _ _ _ _ _ _ _ c.loop-left-test.true c.loop-left.invariant.2 c.collect-next_count.ensures.rows_after (sym c.collect-next_count.ensures.value ∙ c.in_default.is)) ∙ c.loop-left.invariant.3; rows_after = sym (full-rows _ _ _ _ _ _ _ _ c.loop-left-test.true c.loop-left.invariant.2 c.collect-next_count.ensures.rows_after (sym c.collect-next_count.ensures.value ∙ c.in_default.is)) ∙ c.loop-left.invariant.4 }
+pub returns-in_err-n : goal.returns-in_err-n
+returns-in_err-n t c = record { value = c.from_residual.ensures ∙ sym (full-answer _ _ _ _ _ _ _ _ c.loop-left-test.true c.loop-left.invariant.2 c.collect.ensures.rows_after (sym c.collect.ensures.value ∙ c.in_err-n.was)) ∙ c.loop-left.invariant.3; rows_after = sym (full-rows _ _ _ _ _ _ _ _ c.loop-left-test.true c.loop-left.invariant.2 c.collect.ensures.rows_after (sym c.collect.ensures.value ∙ c.in_err-n.was)) ∙ c.loop-left.invariant.4 }
 
 pub loop-left-preserved : goal.loop-left-preserved
-loop-left-preserved t c = rw c.next-p.ensures (omega arith, c.loop-left.invariant.1, c.collect-next_count.auto.rows ∙ c.loop-left.invariant.2, loop-answer _ _ _ _ _ _ _ _ c.loop-left-test.true c.loop-left.invariant.2 c.collect-next_count.ensures.rows_after _ (sym c.collect-next_count.ensures.value ∙ c.in-Rows.is) ∙ c.loop-left.invariant.3, loop-rows _ _ _ _ _ _ _ _ c.loop-left-test.true c.loop-left.invariant.2 c.collect-next_count.ensures.rows_after _ (sym c.collect-next_count.ensures.value ∙ c.in-Rows.is) ∙ c.loop-left.invariant.4)
+loop-left-preserved t c = rw c.next-p.ensures (omega arith, c.loop-left.invariant.1, c.collect.auto.rows ∙ c.loop-left.invariant.2, loop-answer _ _ _ _ _ _ _ _ c.loop-left-test.true c.loop-left.invariant.2 c.collect.ensures.rows_after _ (sym c.collect.ensures.value ∙ c.in_ok-n.was) ∙ c.loop-left.invariant.3, loop-rows _ _ _ _ _ _ _ _ c.loop-left-test.true c.loop-left.invariant.2 c.collect.ensures.rows_after _ (sym c.collect.ensures.value ∙ c.in_ok-n.was) ∙ c.loop-left.invariant.4)
 
 pub returns : goal.returns
 unfolding collected

@@ -1,17 +1,11 @@
 -- `walk::is_aggregate_call`: a call whose name is an aggregate's.
 use mathlib.Core.Path.{sym, ◌∙◌}
-use Rattle.rules.specs.Lists.{is_some}
-use Rattle.ast.specs.Aggregates.{named_of}
+use Rattle.ast.specs.Aggregates.{named-some}
 use Rattle.ast.specs.Walk.{no_call, call-named}
 use Rattle.ast.proofs.walk.is_aggregate_call.Goals as goal
 
 pub returns-then-kind-ne4 : goal.returns-then-kind-ne4
 returns-then-kind-ne4 c = sym (no_call _ _ _ _ (λ e. c.if-kind-ne4.true (c.kind.ensures ∙ e)))
 
-pub returns-in-Aggregate : goal.returns-in-Aggregate
-unfolding named_of is_some
-returns-in-Aggregate c = rw (call-named _ _ _ _ (sym c.kind.ensures ∙ c.if-kind-ne4.false), ← c.at-address.ensures, ← c.at-length.ensures, ← c.is_aggregate-named.ensures, c.in-Aggregate.is)
-
-pub returns-in-Other : goal.returns-in-Other
-unfolding named_of is_some
-returns-in-Other c = rw (call-named _ _ _ _ (sym c.kind.ensures ∙ c.if-kind-ne4.false), ← c.at-address.ensures, ← c.at-length.ensures, ← c.is_aggregate-named.ensures, c.in-Other.is)
+pub returns : goal.returns
+returns c = c.is_some.ensures ∙ named-some _ ∙ rw (call-named _ _ _ _ (sym c.kind.ensures ∙ c.if-kind-ne4.false), ← c.at-address.ensures, ← c.at-length.ensures, c.is_aggregate.ensures)

@@ -6,11 +6,11 @@ use Rattle.build_aggregate.specs.Kinds.{function-added, function-refused, functi
 use Rattle.build_aggregate.proofs.lists.add_function.Goals as goal
 
 pub returns-in_default : goal.returns-in_default
-returns-in_default c = function-unknown _ _ _ _ _ _ _ _ _ _ _ _ (calls-none _ _ _ _ _ c.called-named.ensures c.in_default.is) c.line-line.ensures
+returns-in_default c = function-unknown _ _ _ _ _ _ _ _ _ _ _ _ (calls-none _ _ _ _ _ c.called.ensures c.in_default.is) c.line-line.ensures
 
 pub build_function-built-requires : goal.build_function-built-requires
 build_function-built-requires c = record {
-  calls = calls _ _ _ _ _ _ c.called-named.ensures c.in-Aggregate.is;
+  calls = calls _ _ _ _ _ _ c.called.ensures c.in-Some.is;
   room = c.requires.room;
 }
 
@@ -24,4 +24,4 @@ overflow_sub-m c = omega (
 )
 
 pub returns : goal.returns
-returns c = function-added c.build_function-built.ensures _ _ _ _ _ (calls _ _ _ _ _ _ c.called-named.ensures c.in-Aggregate.is) c.in-Done.is (sym c.code-number.ensures) c.function.ensures
+returns c = function-added c.build_function-built.ensures _ _ _ _ _ (calls _ _ _ _ _ _ c.called.ensures c.in-Some.is) c.in-Done.is (sym c.code-number.ensures) c.function.ensures

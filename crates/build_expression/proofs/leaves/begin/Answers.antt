@@ -6,9 +6,9 @@ pub unmatched-requires : goal.unmatched-requires
 unmatched-requires c = record {
   room = c.requires;
   unmatched = not-matched _ _ _ _ _ _ c.lookup_aggregate-matched.ensures
-      c.in-Nothing.is;
+      c.in-None.is;
 }
 
-pub returns-in-At : goal.returns-in-At
-returns-in-At c = begins-matched _ _ _ _ _ _ _ _ _ _ _ _ c.lookup_aggregate-matched.ensures
-    c.in-At.is c.column.ensures
+pub returns-in-Some : goal.returns-in-Some
+returns-in-Some c = begins-matched _ _ _ _ _ _ _ _ _ _ _ _ c.lookup_aggregate-matched.ensures
+    c.in-Some.is c.column.ensures

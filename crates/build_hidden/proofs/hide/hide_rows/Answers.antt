@@ -17,18 +17,18 @@ shape_of-positions-then-scope-ge-COLUMNS c = c.loop-i.invariant.kept
 
 pub returns-then-scope-ge-COLUMNS : goal.returns-then-scope-ge-COLUMNS
 returns-then-scope-ge-COLUMNS c = hiding-full c.requires c.loop-i.invariant c.loop-i-test.true refl
-    c.to_hide-wanted.ensures c.in-At.is (omega (arith, c.if-scope-ge-COLUMNS.true))
+    c.to_hide-wanted.ensures c.in-Some.is (omega (arith, c.if-scope-ge-COLUMNS.true))
     c.line-l.ensures
 
 pub bounds-positions-scope : goal.bounds-positions-scope
 bounds-positions-scope c = hiding-place c.requires c.loop-i.invariant c.loop-i-test.true refl
-    c.to_hide-wanted.ensures c.in-At.is refl (omega (arith, c.if-scope-ge-COLUMNS.false))
+    c.to_hide-wanted.ensures c.in-Some.is refl (omega (arith, c.if-scope-ge-COLUMNS.false))
 
 pub bounds-labels-j : goal.bounds-labels-j
 bounds-labels-j c = omega (
   arith,
   hiding-below c.requires c.loop-i.invariant c.loop-i-test.true refl
-      c.to_hide-wanted.ensures c.in-At.is,
+      c.to_hide-wanted.ensures c.in-Some.is,
   c.requires.labels-long,
 )
 
@@ -36,20 +36,20 @@ pub bounds-matches-j : goal.bounds-matches-j
 bounds-matches-j c = omega (
   arith,
   hiding-below c.requires c.loop-i.invariant c.loop-i-test.true refl
-      c.to_hide-wanted.ensures c.in-At.is,
+      c.to_hide-wanted.ensures c.in-Some.is,
   c.requires.matches-long,
 )
 
 pub add_hidden-scope-requires : goal.add_hidden-scope-requires
 add_hidden-scope-requires c = hiding-fits c.requires c.loop-i.invariant c.loop-i-test.true refl
-    c.to_hide-wanted.ensures c.in-At.is refl (omega (arith, c.if-scope-ge-COLUMNS.false))
+    c.to_hide-wanted.ensures c.in-Some.is refl (omega (arith, c.if-scope-ge-COLUMNS.false))
 
 pub overflow_add-i-in-loop-i : goal.overflow_add-i-in-loop-i
 overflow_add-i-in-loop-i c = record { fits = omega (arith, c.loop-i-test.true, c.well_formed.1.1.1.0.1) }
 
 pub loop-i-preserved : goal.loop-i-preserved
 loop-i-preserved c = hiding-more c.requires c.loop-i.invariant c.loop-i-test.true refl
-    c.to_hide-wanted.ensures c.in-At.is refl (omega (arith, c.if-scope-ge-COLUMNS.false)) refl
+    c.to_hide-wanted.ensures c.in-Some.is refl (omega (arith, c.if-scope-ge-COLUMNS.false)) refl
     c.add_hidden-scope.ensures
 
 pub shape_of-positions : goal.shape_of-positions

@@ -2,13 +2,11 @@
 use Rattle.build_hidden.specs.Lacking.{lacks-nothing, lacks-at, lacks-known}
 use Rattle.build_hidden.proofs.lacking.lacking_match.Goals as goal
 
-pub returns-in-Nothing : goal.returns-in-Nothing
-returns-in-Nothing c = lacks-nothing _ _ _ c.lookup_aggregate-here.ensures c.in-Nothing.is
+pub returns-in_err-i : goal.returns-in_err-i
+returns-in_err-i c = rw c.from_residual.ensures (lacks-nothing _ _ c.lookup_aggregate.ensures c.in_err-i.was)
 
-pub returns-in-Nothing-there : goal.returns-in-Nothing-there
-returns-in-Nothing-there c = lacks-at _ _ _ _ _ c.lookup_aggregate-here.ensures
-    c.lookup_aggregate-there.ensures c.in-At.is
-    c.in-Nothing-there.is
+pub returns-in-Some : goal.returns-in-Some
+returns-in-Some c = lacks-known _ _ _ c.lookup_aggregate-2.ensures c.in-Some.is
 
-pub returns-in-At-there : goal.returns-in-At-there
-returns-in-At-there c = lacks-known _ _ _ _ c.lookup_aggregate-there.ensures c.in-At-there.is
+pub returns-in-None : goal.returns-in-None
+returns-in-None c = lacks-at _ _ _ c.lookup_aggregate.ensures c.lookup_aggregate-2.ensures c.in_ok-i.was c.in-None.is

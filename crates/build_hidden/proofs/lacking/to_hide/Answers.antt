@@ -2,9 +2,9 @@
 use Rattle.build_hidden.specs.Lacking.{lacking-match, lacking-column}
 use Rattle.build_hidden.proofs.lacking.to_hide.Goals as goal
 
-pub returns-in-At : goal.returns-in-At
-returns-in-At c = lacking-match c.lacking_match-matched.ensures c.in-At.is
+pub returns-in-Some : goal.returns-in-Some
+returns-in-Some c = lacking-match c.lacking_match-matched.ensures c.in-Some.is
 
-pub returns-in-Nothing : goal.returns-in-Nothing
-returns-in-Nothing c = lacking-column c.lacking_match-matched.ensures c.in-Nothing.is
+pub returns-in-None : goal.returns-in-None
+returns-in-None c = lacking-column c.lacking_match-matched.ensures c.in-None.is
     c.lacking_column.ensures

@@ -3,9 +3,9 @@ use mathlib.Core.Path.{◌∙◌}
 use Rattle.scope.specs.NewMatch.{new_none, new_row}
 use Rattle.scope.proofs.matches.new_match.Goals as goal
 
-pub returns-in-At : goal.returns-in-At
-returns-in-At c = new_none _ _ _ c.lookup_aggregate-found.ensures c.in-At.is
+pub returns-in-Some : goal.returns-in-Some
+returns-in-Some c = new_none _ _ _ c.lookup_aggregate.ensures c.in-Some.is
 
-pub returns-in-Nothing : goal.returns-in-Nothing
-returns-in-Nothing c = c.match_number.ensures
-    ∙ new_row _ _ _ c.lookup_aggregate-found.ensures c.in-Nothing.is
+pub returns-in-None : goal.returns-in-None
+returns-in-None c = c.match_number.ensures
+    ∙ new_row _ _ _ c.lookup_aggregate.ensures c.in-None.is
