@@ -11,10 +11,7 @@ use Rattle.rules.specs.Lists.{Bytes, same, map_option}
 use Rattle.rules.specs.Lines.{Word, bytes, decimal}
 use Rattle.rules.specs.Lines as rules
 use Rattle.text.specs.Lines.{line_end, field, fields_from, line_of, kept_fields, Fields}
-use Rattle.text.specs.Numbers.{value_of}
 use Rattle.text.specs.declared.Line.{Line}
-use Rattle.text.specs.declared.Number.{Number}
-use Rattle.text.specs.declared.Number.TheVariants as N
 use Rattle.answer_list.specs.declared.Record as Rc
 use Rattle.answer_list.specs.declared.Record.TheVariants as R
 
@@ -98,24 +95,24 @@ module _ (t : Bytes) (p : ℕ) (r : Line) (f : Fields t p r) where
       unfolding sized three
       other_word o = record-four false _ _ _ (sym o ∙ e) refl refl refl
 
-      module _ (o : k ≡ true) (u : Number) (g : value_of u ≡ count (word t r.starts r.lens 1)) where
-        pub no-first : u ≡ N.Wrong → R.Damaged ≡ record_at t p
-        unfolding sized three value_of
-        no-first w = record-four true none _ _ (sym o ∙ e) (ap value_of (sym w) ∙ g) refl refl
+      module _ (o : k ≡ true) where
+        pub no-first : none ≡ count (word t r.starts r.lens 1) → R.Damaged ≡ record_at t p
+        unfolding sized three
+        no-first g = record-four true none _ _ (sym o ∙ e) g refl refl
 
-        module _ (a : ℕ) (w : u ≡ N.Value a) (v : Number) (h : value_of v ≡ count (word t r.starts r.lens 2)) where
-          pub no_second : v ≡ N.Wrong → R.Damaged ≡ record_at t p
-          unfolding sized three value_of
-          no_second x = record-four true (some a) none _ (sym o ∙ e) (ap value_of (sym w) ∙ g) (ap value_of (sym x) ∙ h) refl
+        module _ (a : ℕ) (g : some a ≡ count (word t r.starts r.lens 1)) where
+          pub no_second : none ≡ count (word t r.starts r.lens 2) → R.Damaged ≡ record_at t p
+          unfolding sized three
+          no_second h = record-four true (some a) none _ (sym o ∙ e) g h refl
 
-          module _ (b : ℕ) (x : v ≡ N.Value b) (y : Number) (i : value_of y ≡ count (word t r.starts r.lens 3)) where
-            pub no_third : y ≡ N.Wrong → R.Damaged ≡ record_at t p
-            unfolding sized three value_of
-            no_third z = record-four true (some a) (some b) none (sym o ∙ e) (ap value_of (sym w) ∙ g) (ap value_of (sym x) ∙ h) (ap value_of (sym z) ∙ i)
+          module _ (b : ℕ) (h : some b ≡ count (word t r.starts r.lens 2)) where
+            pub no_third : none ≡ count (word t r.starts r.lens 3) → R.Damaged ≡ record_at t p
+            unfolding sized three
+            no_third i = record-four true (some a) (some b) none (sym o ∙ e) g h i
 
-            pub counted : (d : ℕ) → y ≡ N.Value d → sized t r.next (some (a, b, d)) ≡ record_at t p
-            unfolding three value_of
-            counted d z = record-four true (some a) (some b) (some d) (sym o ∙ e) (ap value_of (sym w) ∙ g) (ap value_of (sym x) ∙ h) (ap value_of (sym z) ∙ i)
+            pub counted : (d : ℕ) → some d ≡ count (word t r.starts r.lens 3) → sized t r.next (some (a, b, d)) ≡ record_at t p
+            unfolding three
+            counted d i = record-four true (some a) (some b) (some d) (sym o ∙ e) g h i
 
 -- WHERE IT LIES
 -- its texts start behind its line, and the list has them whole

@@ -5,7 +5,7 @@ ghost use Rattle.std.specs.Prelude.{◌≡◌, ◌-◌, length};
 ghost use Rattle.std.proofs.Math.Option.{some};
 ghost use Rattle.answer_list.specs.Records.{sized, record_at};
 
-use text::{Number, decimal, fields, holds};
+use text::{decimal, fields, holds};
 
 // A record: where its catalog starts, and how many bytes its catalog, its statement and its answer have, which stand there
 // one behind the other. Or there is none.
@@ -53,16 +53,13 @@ pub fn record_at(list: &[u8], at: usize) -> Record
     if !holds(list, line.starts[0], line.lens[0], b"case") {
         return Record::Damaged;
     }
-    let a = decimal(list, line.starts[1], line.lens[1], u64::MAX);
-    let Number::Value(catalog) = a else {
+    let Some(catalog) = decimal(list, line.starts[1], line.lens[1], u64::MAX) else {
         return Record::Damaged;
     };
-    let b = decimal(list, line.starts[2], line.lens[2], u64::MAX);
-    let Number::Value(statement) = b else {
+    let Some(statement) = decimal(list, line.starts[2], line.lens[2], u64::MAX) else {
         return Record::Damaged;
     };
-    let d = decimal(list, line.starts[3], line.lens[3], u64::MAX);
-    let Number::Value(answer) = d else {
+    let Some(answer) = decimal(list, line.starts[3], line.lens[3], u64::MAX) else {
         return Record::Damaged;
     };
     whole(list, line.next, catalog, statement, answer)

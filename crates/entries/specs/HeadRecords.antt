@@ -4,7 +4,7 @@ use Rattle.std.proofs.Common.{arith, ◌∙◌}
 use Rattle.std.proofs.Math.Path.{refl, sym, ap}
 use Rattle.std.proofs.Math.Option.{Option, none, some}
 use Rattle.std.proofs.Math.ListN.{get_or}
-use Rattle.rules.specs.Limits.{most_bytes, most_cells}
+use Rattle.rules.specs.Limits.{most_bytes}
 use Rattle.rules.specs.Refusals.{statement}
 use Rattle.rules.specs.Lists.{Bytes, map_option}
 use Rattle.rules.specs.Lines.{Word, bytes}
@@ -13,14 +13,11 @@ use Rattle.rules.specs.ReadStatement.{directions}
 use Rattle.rules.specs.Area.{flag}
 use Rattle.text.specs.Lines.{field, kept_fields}
 use Rattle.text.specs.Words.{find, words_of, push, keys, nth, named_by, nth-none}
-use Rattle.text.specs.Numbers.{value_of}
+use Rattle.text.specs.Numbers.{count_small}
 use Rattle.text.specs.Reading.{field_of, rest-none, rest-one, rest-two, rest-other}
 use Rattle.text.specs.Records.{no-field, one_field_lem, optional-name}
 use Rattle.text.specs.declared.Line.{Line}
-use Rattle.text.specs.declared.Number.{Number}
-use Rattle.text.specs.declared.Number.TheVariants.{Value, Wrong}
 use Rattle.text.specs.Fields.{Inside, inside-field}
-use Rattle.read_expression.specs.Heads.{count_small}
 use Rattle.entries.specs.Entries.{EntryHead, plain_head, named_head, order_head, fields_of}
 use Rattle.entries.specs.Heads.{numbers_of}
 use Rattle.entries.specs.HeadFields.{LineAt, HeadIs, HeadIsHere, clause_fields, name_head, head-is-as, head-none, head_plain}
@@ -80,10 +77,6 @@ module _ (t : Bytes) (p : ℕ) (f : Line) (g : LineAt t p f) where
     unfolding HeadIsHere
     without i j h n e d w s l c k = head-none t _ r (w _ (rest-other statement t p l c k f g.fields i h e) (rest-other statement t p l c k f g.fields j n d)) s
 
-  -- a count is 513 at most
-  pub row_small : (x : Number) (k : ℕ) → f.count ≡ 2 → ((o : ℕ) → value_of x ≡ count_field (record { bytes = take (get_or f.lens 1 0) (drop (get_or f.starts 1 0) t); start = o })) → x ≡ Value k → k ≤ suc most_cells
-  row_small x k n e d = omega (arith, count_small t _ _ (field_at 1 (omega (arith, n))) (get_or f.starts 1 0) (get_or f.lens 1 0) x k e d)
-
   module _ (r : Head) where
     -- clauses
     pub clause-yes : (e : ℕ) → f.count ≡ 1 → e ≤ 1 → (r.state ≡ 2) × (r.expressions ≡ e) × (numbers_of r ≡ 0 ∷ 0 ∷ 0 ∷ 0 ∷ 0 ∷ 0 ∷ 0 ∷ 0 ∷ 0 ∷ []) → HeadIsHere t p (clause_fields e) r
@@ -133,15 +126,13 @@ module _ (t : Bytes) (p : ℕ) (f : Line) (g : LineAt t p f) where
     pub row-no : (f.count ≡ 2 → ⊥) → r.state ≡ 1 → HeadIsHere t p (fields_of 9 none) r
     row-no n s = without r (fields_of 9 none) 1 1 (omega arith) (omega arith) n n (λ ws x y. unfold fields_of map_option in rw (one_field_lem count_field ws x)) s
 
-    module _ (n : f.count ≡ 2) (x : Number) (e : (o : ℕ) → value_of x ≡ count_field (record { bytes = take (get_or f.lens 1 0) (drop (get_or f.starts 1 0) t); start = o })) where
-      count-is : count_field first ≡ value_of x
+    module _ (n : f.count ≡ 2) where
+      counted : (v : Option ℕ) → ((o : ℕ) → v ≡ count_field (record { bytes = take (get_or f.lens 1 0) (drop (get_or f.starts 1 0) t); start = o })) → count_field first ≡ v
       unfolding field
-      count-is = sym (e (most_bytes + get_or f.starts 1 0))
+      counted v e = sym (e (most_bytes + get_or f.starts 1 0))
 
-      pub row-wrong : x ≡ Wrong → r.state ≡ 1 → HeadIsHere t p (fields_of 9 none) r
-      unfolding value_of
-      row-wrong d s = let w : count_field first ≡ none = count-is ∙ ap value_of d in with-one r (fields_of 9 none) n (head-none t _ r (row-fields first ∙ rw w (unfold map_option in refl)) s)
+      pub row-wrong : ((o : ℕ) → none ≡ count_field (record { bytes = take (get_or f.lens 1 0) (drop (get_or f.starts 1 0) t); start = o })) → r.state ≡ 1 → HeadIsHere t p (fields_of 9 none) r
+      row-wrong e s = with-one r (fields_of 9 none) n (head-none t _ r (row-fields first ∙ rw (counted none e) (unfold map_option in refl)) s)
 
-      pub row-yes : (k : ℕ) → x ≡ Value k → (r.state ≡ 2) × (r.expressions ≡ k) × (numbers_of r ≡ 0 ∷ 0 ∷ 0 ∷ 0 ∷ 0 ∷ 0 ∷ 0 ∷ 0 ∷ 0 ∷ []) → HeadIsHere t p (fields_of 9 none) r
-      unfolding value_of
-      row-yes k d s = let w : count_field first ≡ some k = count-is ∙ ap value_of d in with-one r (fields_of 9 none) n (head-is-as t _ (some (plain_head k)) r (row-fields first ∙ rw w (unfold map_option in refl)) (head_plain t (plain_head k) r (unfold plain_head in refl) (unfold plain_head in refl) (unfold plain_head in s) (unfold plain_head in row_small x k n e d)))
+      pub row-yes : (k : ℕ) → ((o : ℕ) → some k ≡ count_field (record { bytes = take (get_or f.lens 1 0) (drop (get_or f.starts 1 0) t); start = o })) → (r.state ≡ 2) × (r.expressions ≡ k) × (numbers_of r ≡ 0 ∷ 0 ∷ 0 ∷ 0 ∷ 0 ∷ 0 ∷ 0 ∷ 0 ∷ 0 ∷ []) → HeadIsHere t p (fields_of 9 none) r
+      row-yes k e s = with-one r (fields_of 9 none) n (head-is-as t _ (some (plain_head k)) r (row-fields first ∙ rw (counted (some k) e) (unfold map_option in refl)) (head_plain t (plain_head k) r (unfold plain_head in refl) (unfold plain_head in refl) (unfold plain_head in s) (unfold plain_head in count_small _ k (e 0))))

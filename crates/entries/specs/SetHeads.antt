@@ -2,7 +2,7 @@
 use Prim.Native.Nat.{ℕ, zero, suc, ◌-◌, ◌≤◌}
 use Rattle.std.proofs.Common.{arith, sym, ◌∙◌}
 use Rattle.std.specs.Prelude.{◌≡◌, Bool, List, [], ◌∷◌, length, get_or, take, drop}
-use Rattle.std.proofs.Math.Path.{refl, ap}
+use Rattle.std.proofs.Math.Path.{refl}
 use Rattle.std.proofs.Math.Bool.{true, false}
 use Rattle.std.proofs.Math.Option.{Option, none, some}
 use Rattle.rules.specs.Limits.{most_bytes}
@@ -13,10 +13,9 @@ use Rattle.rules.specs.ReadStatement.{defaults, set_fields, rises, rising_set}
 use Rattle.text.specs.Lines.{field}
 use Rattle.text.specs.Words.{find, words_of, push, keys, nth, named_by, nth-none}
 use Rattle.text.specs.Numbers.{is_name, name_in, name_out}
-use Rattle.text.specs.Order.{order_of, is_before, ordered}
+use Rattle.std.specs.Ordering.{is_lt}
+use Rattle.text.specs.Order.{order_of, ordered}
 use Rattle.text.specs.declared.Line.{Line}
-use Rattle.text.specs.declared.Order.{Order}
-use Rattle.text.specs.declared.Order.TheVariants.{Before, Same, After}
 use Rattle.entries.specs.Entries.{set_head, fields_of}
 use Rattle.entries.specs.Heads.{last_name}
 use Rattle.entries.specs.HeadFields.{LineAt, HeadIs, HeadIsHere, name_head, head-is-as, head-none}
@@ -38,22 +37,9 @@ module _ (t : Bytes) (last len a n : ℕ) where
       go zero h = absurd (h refl)
       go (suc k) h = unfold last_name in refl
 
-  module _ {i : ℕ} {x y : Bytes} {o : Order} (h : len ≡ 0 → ⊥) (e : i ≡ last - most_bytes) (ex : x ≡ take len (drop i t)) (ey : y ≡ take n (drop a t)) (q : o ≡ order_of x y) where
-    rises_by : is_before o ≡ rises (last_name t last len) (field most_bytes t a n)
-    unfolding rises field
-    rises_by = rw (last_name_lem h, q, ex, ey, e) (sym (ordered _ _).less)
-
-    pub rises-before : o ≡ Before → true ≡ rises (last_name t last len) (field most_bytes t a n)
-    unfolding is_before
-    rises-before z = ap is_before (sym z) ∙ rises_by
-
-    pub rises-same : o ≡ Same → false ≡ rises (last_name t last len) (field most_bytes t a n)
-    unfolding is_before
-    rises-same z = ap is_before (sym z) ∙ rises_by
-
-    pub rises-after : o ≡ After → false ≡ rises (last_name t last len) (field most_bytes t a n)
-    unfolding is_before
-    rises-after z = ap is_before (sym z) ∙ rises_by
+  pub rises-by : {i : ℕ} {x y : Bytes} {b : Bool} → (len ≡ 0 → ⊥) → i ≡ last - most_bytes → x ≡ take len (drop i t) → y ≡ take n (drop a t) → b ≡ is_lt (order_of x y) → b ≡ rises (last_name t last len) (field most_bytes t a n)
+  unfolding rises field
+  rises-by h e ex ey q = rw (last_name_lem h, q, ex, ey, e) (sym (ordered _ _).less)
 
 -- WHAT THE FIELDS SAY
 set-fields : (b : Option Bytes) (ws : List Word) → fields_of 10 b ws ≡ map_option set_head (rising_set b ws)

@@ -15,8 +15,8 @@ ghost use Rattle.entries.specs.Heads.{IsHead, last_name, numbers_of};
 ghost use Rattle.entries.specs.HeadFields.{LineAt, HeadIs, HeadIsHere, clause_fields, name_head};
 ghost use Rattle.entries.specs.ColumnWords.{words_head};
 
+use text::Line;
 use text::places::address;
-use text::{Line, Number, Order};
 
 // The states of a record: none of the kind stands there, its fields do not fit, it says numbers.
 const MISSING: u32 = 0;
@@ -150,8 +150,7 @@ fn row(t: &[u8], p: usize, f: Line) -> Head
     if f.count != 2 {
         return wrong();
     }
-    let d = text::count(t, f.starts[1], f.lens[1]);
-    let Number::Value(v) = d else {
+    let Some(v) = text::count(t, f.starts[1], f.lens[1]) else {
         return wrong();
     };
     plain(FITS, v as u32, 0)
@@ -176,12 +175,7 @@ fn rises(t: &[u8], last: u32, len: u32, a: usize, n: usize) -> bool
     }
     let x = text::part(t, position(last), len as usize);
     let y = text::part(t, a, n);
-    let o = text::compare(x, y);
-    match o {
-        Order::Before => true,
-        Order::Same => false,
-        Order::After => false,
-    }
+    text::compare(x, y).is_lt()
 }
 
 // A set: its name, and whether it is set to its default.

@@ -1,4 +1,3 @@
-pub mod Bits
 pub mod Integers
 pub mod Floats
 pub mod Records

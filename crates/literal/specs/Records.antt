@@ -1,5 +1,6 @@
 -- What the record of a literal says: its kind and two numbers, by its keyword and its field.
 use Rattle.std.specs.Prelude.{◌≡◌, ℕ, zero, suc, ◌+◌, ◌-◌, ◌/◌, ◌%◌, ◌^◌, ◌<◌, ◌≤◌, List, [], ◌∷◌, length, take, drop, ◌≢◌, slice_index}
+use Rattle.std.specs.Prelude as std
 use Rattle.std.proofs.Common.{arith, ◌∙◌}
 use Rattle.std.proofs.Math.Path.{refl, sym, ap}
 use Rattle.std.proofs.Math.Option.{Option, none, some}
@@ -9,67 +10,67 @@ use Rattle.rules.specs.Lines.{Word, bytes}
 use Rattle.rules.specs.Lines as Lines
 use Rattle.rules.specs.Schema.{Value, null, bool}
 use Rattle.rules.specs.Reader.{base_address, rest, line_here, apply, one_of, no_field, one_field, word, flags, literals}
-use Rattle.rules.specs.Area.{halves, flag, span, value_numbers, default_numbers}
+use Rattle.rules.specs.Area.{halves, flag, span, value_numbers}
 use Rattle.numbers.specs.Bits.{signed, bits-signed}
-use Rattle.numbers.specs.Values.{WordFits, ValueFits, LiteralFits, literal-numbers}
+use Rattle.numbers.specs.Values.{WordFits, ValueFits, LiteralFits}
 use Rattle.text.specs.declared.Line.{Line}
 use Rattle.text.specs.Lines.{field, Fields}
 use Rattle.text.specs.Words.{find, words_of, push, keys, nth, named_by, nth-none}
 use Rattle.text.specs.Reading.{place, text_of, field_of, one-of, rest-none, rest-one, rest-other}
 use Rattle.text.specs.Records.{no-field, one_field_lem}
 use Rattle.text.specs.Fields.{Inside, field-length, field_at}
-use Rattle.literal.specs.Bits.{bits_of}
-use Rattle.literal.specs.declared.Bits.{Bits}
+use Rattle.text.specs.Options.{option_of}
 use Rattle.literal.specs.declared.record.Literal.{Literal}
 
--- the literal of a record of the text t, whose bytes have the addresses from base on, or zeros
-pub record IsLiteral (base : ℕ) (t : Bytes) (v : Option Value) (r : Literal) : Type 0 where
-  pub is : default_numbers v ≡ r.kind ∷ r.a ∷ r.b ∷ 0 ∷ []
+-- a literal's numbers in the tables
+abbrev pub numbers_of : Literal → List ℕ
+numbers_of r = r.kind ∷ r.a ∷ r.b ∷ 0 ∷ []
+
+-- r is the literal of a record of the text t, whose bytes have the addresses from base on, or there is none
+pub record IsLiteral (base : ℕ) (t : Bytes) (v : Option Value) (r : std.Option Literal) : Type 0 where
+  pub is : map_option value_numbers v ≡ map_option numbers_of (option_of r)
   pub fits : (k : Text) → base_address k ≡ base → (c q : Bytes) → text_of k c q ≡ t → LiteralFits c q v
 
 -- a literal by its keyword's number and its one field
 unfoldable pub literal_by : ℕ → Word → Option Value
 literal_by k w = apply (nth literals k) (w ∷ [])
 
-pub literal-as : {base : ℕ} {t : Bytes} {g h : Option Value} {r : Literal} → g ≡ h → IsLiteral base t h r → IsLiteral base t g r
+pub literal-as : {base : ℕ} {t : Bytes} {g h : Option Value} {r : std.Option Literal} → g ≡ h → IsLiteral base t h r → IsLiteral base t g r
 literal-as e s = rw e s
 
--- there is none where the kind is 0
-pub literal-none : {base : ℕ} {t : Bytes} {v : Option Value} {r : Literal} → IsLiteral base t v r → r.kind ≡ 0 → v ≡ none
-unfolding default_numbers
+pub literal-none : {base : ℕ} {t : Bytes} {v : Option Value} {r : std.Option Literal} → IsLiteral base t v r → r ≡ std.None → v ≡ none
+unfolding map_option
 literal-none {v = none} s e = refl
-literal-none {v = some x} s e = let w = literal-numbers x in absurd (w.present (cc (w.is, s.is, e)))
+literal-none {v = some x} s e = absurd (cc (s.is, e))
 
-pub literal-some : {base : ℕ} {t : Bytes} {v : Option Value} {r : Literal} → IsLiteral base t v r → (r.kind ≢ 0)
-    → (x : Value) × (v ≡ some x) × (value_numbers x ≡ r.kind ∷ r.a ∷ r.b ∷ 0 ∷ [])
-    × ((k : Text) → base_address k ≡ base → (c q : Bytes) → text_of k c q ≡ t → ValueFits c q x)
-unfolding default_numbers LiteralFits
-literal-some {v = none} s e = absurd (e (cc s.is))
-literal-some {v = some x} s e = (x, refl, s.is, s.fits)
+pub literal-some : {base : ℕ} {t : Bytes} {v : Option Value} {r : std.Option Literal} (l : Literal) → IsLiteral base t v r → r ≡ std.Some l
+    → (x : Value) × (v ≡ some x) × (value_numbers x ≡ numbers_of l) × ((k : Text) → base_address k ≡ base → (c q : Bytes) → text_of k c q ≡ t → ValueFits c q x)
+unfolding map_option LiteralFits
+literal-some {v = none} l s e = absurd (cc (s.is, e))
+literal-some {v = some x} l s e = (x, refl, cc (s.is, e), s.fits)
+
+pub no-literal-as : (base : ℕ) (t : Bytes) {v : Option Value} → v ≡ none → IsLiteral base t v std.None
+unfolding map_option LiteralFits
+no-literal-as base t e = rw e (record { is = refl; fits = λ k e c q f. tt })
 
 -- BY THE KEYWORD AND THE FIELD
 module _ (base : ℕ) (t : Bytes) (w : Word) (r : Literal) where
-  pub int-some : (x : Bits) (v : ℕ) → map_option signed (bits_of x) ≡ Lines.integer w.bytes → x ≡ Bits.Value v → v < 2 ^ 64 → (r.kind ≡ 3) × (r.a ≡ v % 2 ^ 32) × (r.b ≡ v / 2 ^ 32) → IsLiteral base t (literal_by 2 w) r
-  unfolding literal_by literals nth apply one_field map_option bits_of
-  int-some x v e f l g =
-      let i : Lines.integer w.bytes ≡ some (signed v) = sym e ∙ ap (λ y. map_option signed (bits_of y)) f in
-      let b = bits-signed v l in
-      rw i (record { is = unfold default_numbers value_numbers halves in rw (b, g.0, g.1, g.2); fits = λ k e c q f. unfold LiteralFits ValueFits in ap signed b })
+  pub int-some : (v : ℕ) → map_option signed (some v) ≡ Lines.integer w.bytes → v < 2 ^ 64 → (r.kind ≡ 3) × (r.a ≡ v % 2 ^ 32) × (r.b ≡ v / 2 ^ 32) → IsLiteral base t (literal_by 2 w) (std.Some r)
+  unfolding literal_by literals nth apply one_field map_option
+  int-some v e l g = let b = bits-signed v l in rw (← e) (record { is = unfold value_numbers halves in rw (b, g.0, g.1, g.2); fits = λ k e c q f. unfold LiteralFits ValueFits in ap signed b })
 
-  pub float-some : (x : Bits) (v : ℕ) → bits_of x ≡ Lines.float w.bytes → x ≡ Bits.Value v → (r.kind ≡ 4) × (r.a ≡ v % 2 ^ 32) × (r.b ≡ v / 2 ^ 32) → IsLiteral base t (literal_by 3 w) r
-  unfolding literal_by literals nth apply one_field map_option bits_of
-  float-some x v e f g =
-      let i : Lines.float w.bytes ≡ some v = sym e ∙ ap bits_of f in
-      rw i (record { is = unfold default_numbers value_numbers halves in rw (g.0, g.1, g.2); fits = λ k e c q f. unfold LiteralFits ValueFits in tt })
+  pub float-some : (v : ℕ) → some v ≡ Lines.float w.bytes → (r.kind ≡ 4) × (r.a ≡ v % 2 ^ 32) × (r.b ≡ v / 2 ^ 32) → IsLiteral base t (literal_by 3 w) (std.Some r)
+  unfolding literal_by literals nth apply one_field map_option
+  float-some v e g = rw (← e) (record { is = unfold value_numbers halves in rw (g.0, g.1, g.2); fits = λ k e c q f. unfold LiteralFits ValueFits in tt })
 
 module _ (w : Word) where
-  pub int-none : (x : Bits) → map_option signed (bits_of x) ≡ Lines.integer w.bytes → x ≡ Bits.Wrong → literal_by 2 w ≡ none
-  unfolding literal_by literals nth apply one_field map_option bits_of
-  int-none x e f = let i : Lines.integer w.bytes ≡ none = sym e ∙ ap (λ y. map_option signed (bits_of y)) f in rw i
+  pub int-none : map_option {A = ℕ} signed none ≡ Lines.integer w.bytes → literal_by 2 w ≡ none
+  unfolding literal_by literals nth apply one_field map_option
+  int-none e = rw (← e)
 
-  pub float-none : (x : Bits) → bits_of x ≡ Lines.float w.bytes → x ≡ Bits.Wrong → literal_by 3 w ≡ none
-  unfolding literal_by literals nth apply one_field map_option bits_of
-  float-none x e f = let i : Lines.float w.bytes ≡ none = sym e ∙ ap bits_of f in rw i
+  pub float-none : none ≡ Lines.float w.bytes → literal_by 3 w ≡ none
+  unfolding literal_by literals nth apply one_field map_option
+  float-none e = rw (← e)
 
   pub no-literal : (k : ℕ) → 5 ≤ k → literal_by k w ≡ none
   unfolding literal_by apply
@@ -88,22 +89,22 @@ module _ (base : ℕ) (t : Bytes) (a n : ℕ) where
     pub flag-none : 2 ≤ k → literal_by 1 (field base t a n) ≡ none
     flag-none l = flag_is ∙ rw (nth-none flags k (unfold flags in l)) (unfold map_option in refl)
 
-    pub flag-some : (r : Literal) → k < 2 → (r.kind ≡ 2) × (r.a ≡ 1 - k) × (r.b ≡ 0) → IsLiteral base t (literal_by 1 (field base t a n)) r
+    pub flag-some : (r : Literal) → k < 2 → (r.kind ≡ 2) × (r.a ≡ 1 - k) × (r.b ≡ 0) → IsLiteral base t (literal_by 1 (field base t a n)) (std.Some r)
     flag-some r l g = rw flag_is (go k l g.1)
       where
-        go : (k : ℕ) → k < 2 → r.a ≡ 1 - k → IsLiteral base t (map_option bool (nth flags k)) r
-        go zero l x = unfold nth flags map_option in record { is = unfold default_numbers value_numbers flag in rw (g.0, x, g.2); fits = λ k e c q f. unfold LiteralFits ValueFits in tt }
-        go (suc zero) l x = unfold nth flags map_option in record { is = unfold default_numbers value_numbers flag in rw (g.0, x, g.2); fits = λ k e c q f. unfold LiteralFits ValueFits in tt }
+        go : (k : ℕ) → k < 2 → r.a ≡ 1 - k → IsLiteral base t (map_option bool (nth flags k)) (std.Some r)
+        go zero l x = unfold nth flags map_option in record { is = unfold value_numbers flag in rw (g.0, x, g.2); fits = λ k e c q f. unfold LiteralFits ValueFits in tt }
+        go (suc zero) l x = unfold nth flags map_option in record { is = unfold value_numbers flag in rw (g.0, x, g.2); fits = λ k e c q f. unfold LiteralFits ValueFits in tt }
         go (suc (suc k)) l x = absurd (omega arith)
 
   text-fits : Inside t a n → (k : Text) → base_address k ≡ base → (c q : Bytes) → text_of k c q ≡ t → WordFits c q (field base t a n)
   unfolding WordFits field
   text-fits i k e c q f = rw (field-length t a n i, ← e) (sym (field_at t a n i k c q f))
 
-  pub text-some : (r : Literal) → Inside t a n → (r.kind ≡ 5) × (r.a ≡ base + a) × (r.b ≡ n) → IsLiteral base t (literal_by 4 (field base t a n)) r
-  unfolding literal_by literals nth apply one_field
+  pub text-some : (r : Literal) → Inside t a n → (r.kind ≡ 5) × (r.a ≡ base + a) × (r.b ≡ n) → IsLiteral base t (literal_by 4 (field base t a n)) (std.Some r)
+  unfolding literal_by literals nth apply one_field map_option
   text-some r i g = record {
-    is = unfold default_numbers value_numbers span field in rw (field-length t a n i, g.0, g.1, g.2);
+    is = unfold value_numbers span field in rw (field-length t a n i, g.0, g.1, g.2);
     fits = λ k e c q f. unfold LiteralFits ValueFits in text-fits i k e c q f;
   }
 

@@ -1,6 +1,5 @@
 // The record of a literal, in the catalog or the statement: its kind and two numbers (crate numbers, specs/Values.antt).
 ghost use Rattle.std.specs.Prelude.{◌≡◌, ℕ, ◌/◌, ◌%◌, ◌^◌, ◌≤◌, List, length};
-ghost use Rattle.std.proofs.Math.Option.{none};
 ghost use Rattle.rules.specs.Limits.{most_bytes};
 ghost use Rattle.rules.specs.Refusals.{Text};
 ghost use Rattle.rules.specs.Reader.{base_address, line_here, one_of, literals};
@@ -9,11 +8,10 @@ ghost use Rattle.text.specs.Reading.{place};
 ghost use Rattle.text.specs.Fields.{Inside};
 ghost use Rattle.literal.specs.Records.{IsLiteral, literal_by};
 
-use crate::Bits;
 use numbers::halves::{high, low};
 use text::Line;
 
-// The kinds of literals; 0 stands for a wrong record.
+// The kinds of literals.
 const NULL: u32 = 1;
 
 const BOOL: u32 = 2;
@@ -24,7 +22,7 @@ const FLOAT: u32 = 4;
 
 const TEXT: u32 = 5;
 
-// A literal's kind, or 0, and its two numbers.
+// A literal's kind and its two numbers.
 #[derive(Clone, Copy)]
 pub struct Literal {
     pub kind: u32,
@@ -32,77 +30,53 @@ pub struct Literal {
     pub b: u32,
 }
 
-fn no_literal() -> Literal
-    ensures { (base : ℕ) (t : List ℕ) → IsLiteral base t none result }
-{
-    Literal {
-        kind: 0,
-        a: 0,
-        b: 0,
-    }
-}
-
 // 64 bits in two halves, the low one first.
 fn halves(kind: u32, bits: u64) -> Literal
     ensures { (result.kind ≡ kind) × (result.a ≡ bits % 2 ^ 32) × (result.b ≡ bits / 2 ^ 32) }
 {
     Literal {
-        kind: kind,
+        kind,
         a: low(bits),
         b: high(bits),
     }
 }
 
 // A boolean by its field.
-fn flag(t: &[u8], a: usize, n: usize) -> Literal
+fn flag(t: &[u8], a: usize, n: usize) -> Option<Literal>
     ensures { (base : ℕ) → IsLiteral base t.now (literal_by 1 (field base t.now a n)) result }
 {
     let k = text::which(b"t f ", t, a, n);
     if 2 <= k {
-        return no_literal();
+        return None;
     }
-    Literal {
+    Some(Literal {
         kind: BOOL,
         a: 1 - k as u32,
         b: 0,
-    }
+    })
 }
 
 // A literal by its keyword's number in `null bool int float text`, from 1 on, and its field.
-fn literal_by(t: &[u8], base: u32, k: usize, a: usize, n: usize) -> Literal
+fn literal_by(t: &[u8], base: u32, k: usize, a: usize, n: usize) -> Option<Literal>
     requires fact_1 { Inside t.now a n }
     requires fact_2 { (1 ≤ k) × (base ≤ most_bytes) }
     ensures { IsLiteral base t.now (literal_by k (field base t.now a n)) result }
 {
-    if k == 1 {
-        return flag(t, a, n);
-    }
-    if k == 2 {
-        let i = crate::int(t, a, n);
-        return match i {
-            Bits::Value(v) => halves(INT, v),
-            Bits::Wrong => no_literal(),
-        };
-    }
-    if k == 3 {
-        let f = crate::float(t, a, n);
-        return match f {
-            Bits::Value(v) => halves(FLOAT, v),
-            Bits::Wrong => no_literal(),
-        };
-    }
-    if k == 4 {
-        return Literal {
+    match k {
+        1 => flag(t, a, n),
+        2 => Some(halves(INT, crate::int(t, a, n)?)),
+        3 => Some(halves(FLOAT, crate::float(t, a, n)?)),
+        4 => Some(Literal {
             kind: TEXT,
             a: base + a as u32,
             b: n as u32,
-        };
+        }),
+        _ => None,
     }
-    no_literal()
 }
 
 // The literal record at a position, by its fields, of the text whose bytes have the addresses from `base` on.
-pub fn literal_at(t: &[u8], base: u32, p: usize, f: Line) -> Literal
+pub fn literal_at(t: &[u8], base: u32, p: usize, f: Line) -> Option<Literal>
     requires fact_1 { (length t.now ≤ most_bytes) × (p ≤ length t.now) × (base ≤ most_bytes) }
     requires fact_2 { Fields t.now p f }
     ensures { (k : Text) (l c n : ℕ) → base_address k ≡ base → IsLiteral base t.now (one_of literals (line_here (place k t.now p l c n))) result }
@@ -111,16 +85,16 @@ pub fn literal_at(t: &[u8], base: u32, p: usize, f: Line) -> Literal
     let k = text::words::literal(t, f.starts[0], f.lens[0]);
     if k == 0 {
         if n != 1 {
-            return no_literal();
+            return None;
         }
-        return Literal {
+        return Some(Literal {
             kind: NULL,
             a: 0,
             b: 0,
-        };
+        });
     }
     if n != 2 {
-        return no_literal();
+        return None;
     }
     literal_by(t, base, k, f.starts[1], f.lens[1])
 }

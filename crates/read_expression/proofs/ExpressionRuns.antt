@@ -16,6 +16,7 @@ use Rattle.text.specs.Lines.{line_end}
 use Rattle.text.specs.Reading.{place, text_of}
 use Rattle.text.specs.Answers.{wrong_at, limit_at}
 use Rattle.numbers.specs.Values.{ValueFits}
+use Rattle.std.specs.Prelude as std
 use Rattle.literal.specs.Records.{IsLiteral, literal-none, literal-some}
 use Rattle.literal.specs.declared.record.Literal.{Literal}
 use Rattle.numbers.specs.Stores.{sets-in-front}
@@ -91,17 +92,17 @@ is-numbers : (l n : ℕ) (v : Value) {k a b : ℕ} → value_numbers v ≡ k ∷
 unfolding row_of is_numbers
 is-numbers l n v e = rw e
 
-module _ {t : Bytes} (p l d k : ℕ) {r : Literal} (s : (x : Text) (l c n : ℕ) → base_address x ≡ most_bytes → IsLiteral most_bytes t (one_of literals (line_here (place x t p l c n))) r) where
-  pub is-row-wrong : (H : ℕ → Value → Type 0) → r.kind ≡ 0 → Given literal_here H t p l d k (R.Wrong l)
+module _ {t : Bytes} (p l d k : ℕ) {r : std.Option Literal} (s : (x : Text) (l c n : ℕ) → base_address x ≡ most_bytes → IsLiteral most_bytes t (one_of literals (line_here (place x t p l c n))) r) where
+  pub is-row-wrong : (H : ℕ → Value → Type 0) → r ≡ std.None → Given literal_here H t p l d k (R.Wrong l)
   unfolding base_address
   is-row-wrong H z = gives-wrong _ H _ _ _ _ _ l (literal-wrong t p l d k (literal-none (s statement l d k refl) z))
 
-  pub is_row : (c line : ℕ) {q : ℕ} (cells : List ℕ) {cells' : List ℕ} → Position t p l d → (r.kind ≡ 0 → ⊥) → q ≡ line_end t p
-      → cells' ≡ sets cells (row_size * c) (7 ∷ line ∷ (d - c) ∷ r.kind ∷ r.a ∷ r.b ∷ 0 ∷ 0 ∷ [])
+  pub is_row : (c line : ℕ) {q : ℕ} (v : Literal) (cells : List ℕ) {cells' : List ℕ} → Position t p l d → r ≡ std.Some v → q ≡ line_end t p
+      → cells' ≡ sets cells (row_size * c) (7 ∷ line ∷ (d - c) ∷ v.kind ∷ v.a ∷ v.b ∷ 0 ∷ 0 ∷ [])
       → Given literal_here (IsRow t c d line cells cells') t p l d k (R.Done q (l + 1) d)
   unfolding base_address text_of
-  is_row c line {q} cells w z f e =
-      let v = literal-some (s statement l d k refl) z in
+  is_row c line {q} x cells w z f e =
+      let v = literal-some x (s statement l d k refl) z in
       let i = literal-inside t p l d k v.0 v.1 in
       gives-done _ _ _ _ _ _ _ q (l + 1) d (record {
         value = v.0;

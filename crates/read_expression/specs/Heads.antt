@@ -1,22 +1,18 @@
 -- What a record says, by its keyword and its fields.
-use Prim.Native.Nat.{ℕ, suc, ◌+◌, ◌≤◌, min}
+use Prim.Native.Nat.{ℕ, ◌+◌}
 use Rattle.std.proofs.Common.{arith, ap, ◌∙◌}
 use Rattle.std.proofs.Math.Path.{◌≡◌, sym}
 use Rattle.std.specs.Prelude.{refl, true, false, [], ◌∷◌, take, drop}
 use Rattle.std.proofs.Math.Option.{Option, none, some}
-use Rattle.std.proofs.Math.Nat.{min-le_left}
-use Rattle.rules.specs.Limits.{most_bytes, most_cells}
+use Rattle.rules.specs.Limits.{most_bytes}
 use Rattle.rules.specs.Lists.{Bytes, map_option}
-use Rattle.rules.specs.Lines.{decimal}
 use Rattle.rules.specs.Reader.{base_address, name, both, two_fields, count_field}
 use Rattle.rules.specs.ReadExpression.{column_fields, call_fields}
 use Rattle.text.specs.Lines.{field}
 use Rattle.text.specs.Reading.{text_of}
 use Rattle.text.specs.Fields.{Inside, field-length, field_at}
 use Rattle.rules.specs.Refusals.{statement}
-use Rattle.text.specs.Numbers.{is_name, name_in, name_out, value_of}
-use Rattle.text.specs.declared.Number.{Number}
-use Rattle.text.specs.declared.Number.TheVariants.{Value, Wrong}
+use Rattle.text.specs.Numbers.{is_name, name_in, name_out, count_small}
 use Rattle.numbers.specs.Values.{WordFits}
 use Rattle.read_expression.specs.declared.heads.Row.{Row}
 use Rattle.read_expression.specs.Encode.{head_numbers, arity}
@@ -60,25 +56,17 @@ module _ (t : Bytes) (a n : ℕ) (i : Inside t a n) where
     unfolding field
     counted-as v g = sym (g (most_bytes + b))
 
-    pub call-uncounted : (x : Number) → is_name n ≡ true → ((o : ℕ) → value_of x ≡ count_field (record { bytes = take m (drop b t); start = o })) → x ≡ Wrong → call_fields (field most_bytes t a n ∷ field most_bytes t b m ∷ []) ≡ none
-    unfolding call_fields two_fields both map_option value_of
-    call-uncounted x h g e = let w : count_field (field most_bytes t b m) ≡ none = counted-as (value_of x) g ∙ rw e in rw (field-name h, w)
+    pub call-uncounted : is_name n ≡ true → ((o : ℕ) → none ≡ count_field (record { bytes = take m (drop b t); start = o })) → call_fields (field most_bytes t a n ∷ field most_bytes t b m ∷ []) ≡ none
+    unfolding call_fields two_fields both map_option
+    call-uncounted h g = rw (field-name h, counted-as none g)
 
-    pub count_small : (x : Number) (k : ℕ) → ((o : ℕ) → value_of x ≡ count_field (record { bytes = take m (drop b t); start = o })) → x ≡ Value k → k ≤ most_cells + 1
-    unfolding value_of count_field map_option
-    count_small x k g e = go (decimal (take m (drop b t))) (ap value_of (sym e) ∙ g 0)
-      where
-        go : (o : Option ℕ) → some k ≡ map_option (min (suc most_cells)) o → k ≤ most_cells + 1
-        go none f = let z : ◌≡◌ {A = ℕ} 0 1 = cc in absurd (omega arith)
-        go (some j) f = let z : k ≡ min (suc most_cells) j = cc in omega (arith, min-le_left (suc most_cells) j)
-
-    pub call-some : (x : Number) (k : ℕ) (r : Row) → is_name n ≡ true → ((o : ℕ) → value_of x ≡ count_field (record { bytes = take m (drop b t); start = o })) → x ≡ Value k
+    pub call-some : (k : ℕ) (r : Row) → is_name n ≡ true → ((o : ℕ) → some k ≡ count_field (record { bytes = take m (drop b t); start = o }))
         → numbers_of r ≡ 4 ∷ k ∷ (most_bytes + a) ∷ n ∷ 0 ∷ 0 ∷ [] → r.operands ≡ k → RowOf t (call_fields (field most_bytes t a n ∷ field most_bytes t b m ∷ [])) r
-    unfolding call_fields two_fields both map_option value_of
-    call-some x k r h g f e o = let w : count_field (field most_bytes t b m) ≡ some k = counted-as (value_of x) g ∙ rw f in rw (field-name h, w) (record {
+    unfolding call_fields two_fields both map_option
+    call-some k r h g e o = rw (field-name h, counted-as (some k) g) (record {
       is = unfold head_numbers field in rw (field-length t a n i) (sym e);
       many = unfold arity in o;
-      small = omega (arith, count_small x k g f);
+      small = omega (arith, count_small _ k (g 0));
       fits = λ c. unfold HeadFits in field_fits c;
     })
 

@@ -1,6 +1,7 @@
 -- A literal's record as an expression.
 use Rattle.std.proofs.Common.{arith, sym}
 use Rattle.std.specs.Prelude.{◌≡◌, [], ◌∷◌}
+use Rattle.std.specs.Prelude as std
 use Rattle.std.proofs.Math.Path.{refl}
 use Rattle.std.proofs.Math.Option.{Option, none}
 use Rattle.rules.specs.Limits.{most_bytes}
@@ -17,14 +18,14 @@ use Rattle.read_expression.specs.Encode.{head_numbers, arity}
 use Rattle.read_expression.specs.Fits.{HeadFits}
 use Rattle.read_expression.specs.RowOf.{numbers_of, RowOf}
 
-pub row-none : (t : Bytes) (o : Option Value) (v : Literal) → IsLiteral most_bytes t o v → v.kind ≡ 0 → map_option value_head o ≡ none
+pub row-none : (t : Bytes) (o : Option Value) (v : std.Option Literal) → IsLiteral most_bytes t o v → v ≡ std.None → map_option value_head o ≡ none
 unfolding map_option
 row-none t o v s e = rw (literal-none s e)
 
-pub row-some : (t : Bytes) (o : Option Value) (v : Literal) (r : Row) → IsLiteral most_bytes t o v → (v.kind ≡ 0 → ⊥) → numbers_of r ≡ 8 ∷ v.kind ∷ v.a ∷ v.b ∷ 0 ∷ 0 ∷ [] → r.operands ≡ 0 → RowOf t (map_option value_head o) r
+pub row-some : (t : Bytes) (o : Option Value) (l : std.Option Literal) (v : Literal) (r : Row) → IsLiteral most_bytes t o l → l ≡ std.Some v → numbers_of r ≡ 8 ∷ v.kind ∷ v.a ∷ v.b ∷ 0 ∷ 0 ∷ [] → r.operands ≡ 0 → RowOf t (map_option value_head o) r
 unfolding base_address text_of
-row-some t o v r s e n z =
-    let x = literal-some s e in
+row-some t o l v r s e n z =
+    let x = literal-some v s e in
     rw x.1 (unfold map_option in record {
       is = unfold head_numbers in rw x.2 (sym n);
       many = unfold arity in z;

@@ -16,7 +16,7 @@ ghost use Rattle.read_expression.specs.RowOf.{numbers_of, RowOf};
 use ast::rows::{BINARY, CALL, COLUMN, IS, LITERAL, QUALIFIED, STAR, UNARY};
 use literal::record::{Literal, literal_at};
 use text::places::address;
-use text::{Line, MOST_BYTES, Number};
+use text::{Line, MOST_BYTES};
 
 // A wrong record, in the place of a row's kind.
 pub const WRONG: u32 = 0;
@@ -136,8 +136,8 @@ fn call(t: &[u8], a: usize, n: usize, b: usize, m: usize) -> Row
     }
     let count = text::count(t, b, m);
     match count {
-        Number::Wrong => wrong(),
-        Number::Value(v) => {
+        None => wrong(),
+        Some(v) => {
             let k = v as u32;
             Row {
                 kind: CALL,
@@ -153,12 +153,12 @@ fn call(t: &[u8], a: usize, n: usize, b: usize, m: usize) -> Row
 }
 
 // A literal as an expression.
-fn literal_row(v: Literal) -> Row
-    ensures { (t : List ℕ) (o : Option Value) → IsLiteral most_bytes t o v → RowOf t (map_option value_head o) result }
+fn literal_row(literal: Option<Literal>) -> Row
+    ensures { (t : List ℕ) (o : Option Value) → IsLiteral most_bytes t o literal → RowOf t (map_option value_head o) result }
 {
-    if v.kind == 0 {
+    let Some(v) = literal else {
         return wrong();
-    }
+    };
     Row {
         kind: LITERAL,
         code: v.kind,

@@ -48,10 +48,9 @@ fn read_is(t: &[u8], p: usize, l: u32, d: u32, c: u32, line: u32, cells: &mut [u
 {
     let f = text::fields(t, p);
     let next = f.next;
-    let v = literal_at(t, MOST_BYTES, p, f);
-    if v.kind == 0 {
+    let Some(v) = literal_at(t, MOST_BYTES, p, f) else {
         return Read::Wrong(l);
-    }
+    };
     let h = Row {
         kind: IS,
         code: v.kind,

@@ -3,6 +3,7 @@ use Rattle.std.specs.Prelude.{ℕ, ◌≡◌, Bool, true, false, List, [], ◌�
 use Rattle.std.proofs.Common.{arith, ◌∙◌}
 use Rattle.std.proofs.Math.Path.{refl, sym, ap}
 use Rattle.std.proofs.lemmas.Bool.{false≢true}
+use Rattle.std.specs.Prelude as std
 use Rattle.std.proofs.Math.Option.{Option, none, some}
 use Rattle.rules.specs.Refusals.{Text, catalog}
 use Rattle.rules.specs.Lists.{Bytes, same, named, map_option}
@@ -10,7 +11,8 @@ use Rattle.rules.specs.Lines.{Word, bytes}
 use Rattle.rules.specs.Schema.{Value}
 use Rattle.rules.specs.Reader.{base_address, key, rest, key_of, line_here, apply, one_of, no_field, literals}
 use Rattle.rules.specs.ReadCatalog.{default_records}
-use Rattle.numbers.specs.Values.{default_of, default-back}
+use Rattle.rules.specs.Area.{default_numbers}
+use Rattle.numbers.specs.Values.{LiteralFits, default_of, default-back}
 use Rattle.text.specs.declared.Line.{Line}
 use Rattle.text.specs.Lines.{Fields}
 use Rattle.text.specs.Order.{same_true, same_self}
@@ -56,7 +58,7 @@ module _ (t : Bytes) (p : ℕ) (f : Line) (g : Fields t p f) {b : Bool} (e : b �
     unfolding default_said map_option
     default-crowded n = sym (none_here ∙ rw (no-field _ (rest-other catalog t p l 0 0 f g 0 (omega arith) n)))
 
-  module _ (h : b ≡ false) {r : Literal} (s : (k : Text) (l c n : ℕ) → base_address k ≡ 0 → IsLiteral 0 t (one_of literals (line_here (place k t p l c n))) r) where
+  module _ (h : b ≡ false) {r : std.Option Literal} (s : (k : Text) (l c n : ℕ) → base_address k ≡ 0 → IsLiteral 0 t (one_of literals (line_here (place k t p l c n))) r) where
     literal-here : one_of (default_records literals) (line_here (here t p l)) ≡ map_option some (one_of literals (line_here (here t p l)))
     unfolding one_of key
     literal-here = literal-named literals _ _ (same-no _ _ (ap (λ x. same x (bytes "nodefault")) (key-is catalog t p l 0 0 f g) ∙ sym e ∙ h))
@@ -65,13 +67,13 @@ module _ (t : Bytes) (p : ℕ) (f : Line) (g : Fields t p f) {b : Bool} (e : b �
     unfolding base_address
     spoken = s catalog l 0 0 refl
 
-    pub default-wrong : r.kind ≡ 0 → default_said t q D.Wrong ≡ one_of (default_records literals) (line_here (here t p l))
+    pub default-wrong : r ≡ std.None → default_said t q D.Wrong ≡ one_of (default_records literals) (line_here (here t p l))
     unfolding default_said map_option
     default-wrong z = sym (literal-here ∙ rw (literal-none spoken z))
 
-    pub default-value : (r.kind ≡ 0 → ⊥) → default_said t q (D.Default r.kind r.a r.b) ≡ one_of (default_records literals) (line_here (here t p l))
+    pub default-value : {v : Literal} → r ≡ std.Some v → default_said t q (D.Default v.kind v.a v.b) ≡ one_of (default_records literals) (line_here (here t p l))
     unfolding default_said map_option base_address text_of
-    default-value z =
-        let x = literal-some spoken z in
-        let d = default-back t q _ r.kind r.a r.b (spoken.fits catalog refl t q refl) spoken.is in
-        ap some (d ∙ x.1) ∙ sym (literal-here ∙ ap (map_option some) x.1)
+    default-value {v} z =
+        let x = literal-some v spoken z in
+        let d = default-back t q (some x.0) v.kind v.a v.b (unfold LiteralFits in x.3 catalog refl t q refl) (unfold default_numbers in x.2) in
+        ap some d ∙ sym (literal-here ∙ ap (map_option some) x.1)

@@ -1,21 +1,18 @@
 -- The table's record, field by field, and the names that the tables before it have.
-use Rattle.std.specs.Prelude.{ℕ, suc, ◌+◌, ◌-◌, ◌≤◌, ◌<◌, min, ◌≡◌, refl, Bool, true, false, List, [], ◌∷◌, get_or, take, drop}
+use Rattle.std.specs.Prelude.{ℕ, suc, ◌+◌, ◌-◌, ◌≤◌, ◌<◌, ◌≡◌, Bool, true, false, List, [], ◌∷◌, get_or, take, drop}
 use native.Mathlib.Omega.{arith}
-use Rattle.std.proofs.Math.Nat.{min-le_left}
 use Rattle.std.proofs.Math.Path.{sym, ap}
 use Rattle.std.proofs.Common.{◌∙◌}
 use Rattle.std.proofs.Math.Option.{Option, none, some}
 use Rattle.rules.specs.Refusals.{catalog}
-use Rattle.rules.specs.Lists.{Bytes, same, any, map_option}
-use Rattle.rules.specs.Lines.{Word, bytes, decimal}
+use Rattle.rules.specs.Lists.{Bytes, same, any}
+use Rattle.rules.specs.Lines.{Word, bytes}
 use Rattle.rules.specs.Reader.{rest, name, count_field, both, two_fields}
 use Rattle.rules.specs.ReadCatalog.{table_fields}
 use Rattle.rules.specs.Places.{bytes_at, word_at}
 use Rattle.text.specs.declared.Line.{Line}
-use Rattle.text.specs.declared.Number.{Number}
-use Rattle.text.specs.declared.Number.TheVariants as N
 use Rattle.text.specs.Lines.{Fields, field}
-use Rattle.text.specs.Numbers.{is_name, value_of}
+use Rattle.text.specs.Numbers.{is_name}
 use Rattle.text.specs.Reading.{field_of, at-is, rest-two, rest-other, name-yes, name-no}
 use Rattle.text.specs.Records.{two_fields_lem}
 use Rattle.schema.specs.Layout.{table_start}
@@ -71,15 +68,6 @@ module _ (w v : Word) where
   unfolding two_fields both
   two-yes k e f = rw (e, f)
 
--- a position is small
-pub count_small : (w : Word) (d : Number) (k : ℕ) → value_of d ≡ count_field w → d ≡ N.Value k → k ≤ 513
-unfolding count_field map_option value_of
-count_small w d k e z = go (decimal w.bytes) refl
-  where
-    go : (o : Option ℕ) → decimal w.bytes ≡ o → k ≤ 513
-    go none h = absurd (let y : some k ≡ none = sym (ap value_of z) ∙ e ∙ (rw (count_field, h)) in let x : ◌≡◌ {A = ℕ} 0 1 = cc in omega arith)
-    go (some n) h = let y : some k ≡ some (min 513 n) = sym (ap value_of z) ∙ e ∙ (rw (count_field, h)) in let x : k ≡ min 513 n = cc in omega (arith, min-le_left 513 n)
-
 module _ (t : Bytes) (s : List ℕ) (n p : ℕ) (f : Line) (g : Fields t p f) {b : Bool} (key : b ≡ same (take (get_or f.lens 0 0) (drop (get_or f.starts 0 0) t)) (bytes "table")) where
   pub table-missing : b ≡ false → TableLine t s n p T.Wrong
   unfolding table_said TableEnds table_here
@@ -104,26 +92,24 @@ module _ (t : Bytes) (s : List ℕ) (n p : ℕ) (f : Line) (g : Fields t p f) {b
       pub table-name : is_name (get_or f.lens 1 0) ≡ false → TableLine t s n p T.Wrong
       table-name h = table-wrong (λ l. table-fields l none (two-name-no _ _ (name-no catalog t p l 0 0 f g 1 (omega arith) h)))
 
-      module _ (h : is_name (get_or f.lens 1 0) ≡ true) (d : Number) (ed : (o : ℕ) → value_of d ≡ count_field (record { bytes = take (get_or f.lens 2 0) (drop (get_or f.starts 2 0) t); start = o })) where
+      module _ (h : is_name (get_or f.lens 1 0) ≡ true) where
         table-named : (l : ℕ) → name (field_of catalog t f 1) ≡ some (field_of catalog t f 1)
         table-named l = name-yes catalog t p l 0 0 f g 1 (omega arith) h
 
-        counted : count_field (field_of catalog t f 2) ≡ value_of d
+        counted : (v : Option ℕ) → ((o : ℕ) → v ≡ count_field (record { bytes = take (get_or f.lens 2 0) (drop (get_or f.starts 2 0) t); start = o })) → count_field (field_of catalog t f 2) ≡ v
         unfolding field_of field
-        counted = sym (ed _)
+        counted v e = sym (e _)
 
-        pub table-key : d ≡ N.Wrong → TableLine t s n p T.Wrong
-        unfolding value_of
-        table-key z = table-wrong (λ l. table-fields l none (two-count-no _ _ (table-named l) (counted ∙ ap value_of z)))
+        pub table-key : ((o : ℕ) → none ≡ count_field (record { bytes = take (get_or f.lens 2 0) (drop (get_or f.starts 2 0) t); start = o })) → TableLine t s n p T.Wrong
+        table-key z = table-wrong (λ l. table-fields l none (two-count-no _ _ (table-named l) (counted none z)))
 
-        module _ {k : ℕ} (z : d ≡ N.Value k) (w : Position t p) {x : Bool} (ex : x ≡ any (same (bytes_at t t (get_or f.starts 1 0) (get_or f.lens 1 0))) (names t s n)) where
+        module _ {k : ℕ} (z : (o : ℕ) → some k ≡ count_field (record { bytes = take (get_or f.lens 2 0) (drop (get_or f.starts 2 0) t); start = o })) (w : Position t p) {x : Bool} (ex : x ≡ any (same (bytes_at t t (get_or f.starts 1 0) (get_or f.lens 1 0))) (names t s n)) where
           table-first : (q : Bytes) (l : ℕ) → field_of catalog t f 1 ≡ word_at t q (get_or f.starts 1 0) (get_or f.lens 1 0)
           unfolding field_of
           table-first q l = field-here t q _ _ (field-most t p f g w 1 (omega arith))
 
           table-both : (l : ℕ) → two_fields name count_field (rest (here t p l)) ≡ some (field_of catalog t f 1, k)
-          unfolding value_of
-          table-both l = table-fields l _ (two-yes _ _ k (table-named l) (counted ∙ ap value_of z))
+          table-both l = table-fields l _ (two-yes _ _ k (table-named l) (counted (some k) z))
 
           table-any : (l : ℕ) → any (same (field_of catalog t f 1).bytes) (names t s n) ≡ x
           unfolding word_at

@@ -11,7 +11,7 @@ ghost use Rattle.schema.specs.Records.{Position, here, names, default_said, Colu
 use crate::{TABLE_SIZE, TABLES};
 use literal::record::literal_at;
 use numbers::number;
-use text::{Line, Number};
+use text::Line;
 
 // A column's record: the name's address and length, the type, 1 if it is nullable, and the position behind the line.
 #[derive(Clone, Copy)]
@@ -104,8 +104,7 @@ pub fn table_record(catalog: &[u8], tables: &[u32], n: u32, at: usize) -> TableR
     if !text::is_name(f.lens[1]) {
         return TableRecord::Wrong;
     }
-    let d = text::count(catalog, f.starts[2], f.lens[2]);
-    let Number::Value(k) = d else {
+    let Some(k) = text::count(catalog, f.starts[2], f.lens[2]) else {
         return TableRecord::Wrong;
     };
     let a = f.starts[1] as u32;
@@ -128,9 +127,8 @@ pub fn default_record(catalog: &[u8], at: usize, f: Line) -> DefaultRecord
         }
         return DefaultRecord::Default(0, 0, 0);
     }
-    let v = literal_at(catalog, 0, at, f);
-    if v.kind == 0 {
+    let Some(v) = literal_at(catalog, 0, at, f) else {
         return DefaultRecord::Wrong;
-    }
+    };
     DefaultRecord::Default(v.kind, v.a, v.b)
 }

@@ -1,17 +1,16 @@
 -- Names by their length, and decimals of any length held within a bound.
-use Rattle.std.specs.Prelude.{ℕ, ◌+◌, ◌*◌, ◌-◌, ◌≤◌, ◌<◌, min, ◌≡◌, refl, Bool, true, false, ◌&&◌, [], ◌∷◌, leb, length, get_or, drop}
-use Rattle.std.proofs.Common.{arith, sym, ap, ◌∙◌, drop_of_length-le, eq-eqb, ne_eqb, le-leb}
-use Rattle.std.proofs.Math.Nat.{min-eq_left, min-eq_right}
+use Rattle.std.specs.Prelude.{◌⊎◌, ℕ, suc, ◌+◌, ◌*◌, ◌-◌, ◌≤◌, ◌<◌, min, ◌≡◌, refl, Bool, true, false, ◌&&◌, [], ◌∷◌, leb, length, get_or, drop}
+use Rattle.std.proofs.Common.{inl, inr, arith, sym, ap, ◌∙◌, drop_of_length-le, eq-eqb, ne_eqb}
+use Rattle.std.proofs.Math.Nat.{min-eq_left, min-eq_right, min-le_left}
 use Rattle.std.proofs.Math.Decide.{dec_lt}
 use Rattle.std.proofs.Math.Option.{Option, none, some}
 use Rattle.std.proofs.lemmas.Bool.{lt-leb}
-use Rattle.rules.specs.Limits.{most_name_bytes}
+use Rattle.std.specs.Char.{is_ascii_digit}
+use Rattle.rules.specs.Limits.{most_name_bytes, most_cells}
 use Rattle.rules.specs.Lists.{Bytes, map_option}
 use Rattle.rules.specs.Lines.{Word, digit, digits, decimal, within}
-use Rattle.rules.specs.Reader.{name}
+use Rattle.rules.specs.Reader.{name, count_field}
 use Rattle.text.specs.Bytes.{step}
-use Rattle.text.specs.declared.Number.{Number}
-use Rattle.text.specs.declared.Number.TheVariants.{Value, Wrong}
 
 -- NAMES
 -- how many bytes a name may have
@@ -27,22 +26,6 @@ unfolding name is_name
 name_out w h = rw (name, h)
 
 -- NUMBERS
-unfoldable pub value_of : Number → Option ℕ
-value_of (Value n) = some n
-value_of Wrong = none
-
-digit-in : (x : ℕ) → 48 ≤ x → x ≤ 57 → digit x ≡ some (x - 48)
-unfolding digit
-digit-in x h g = rw (digit, le-leb 48 x h, le-leb x 57 g)
-
-digit_low : (x : ℕ) → x < 48 → digit x ≡ none
-unfolding digit
-digit_low x h = rw (digit, lt-leb 48 x h)
-
-digit-high : (x : ℕ) → 57 < x → digit x ≡ none
-unfolding digit
-digit-high x h = let y : 48 ≤ x = omega arith in rw (digit, le-leb 48 x y, lt-leb x 57 h)
-
 -- one digit more, from the bound on or within it
 push-min : (most v d : ℕ) → min most (v * 10 + d) ≡ min most (min most v * 10 + d)
 push-min most v d = elim (dec_lt most v) [
@@ -69,22 +52,14 @@ digits-min most (x ∷ xs) v = go (digit x) refl (λ d. digits-min most xs (v * 
 
 -- THE LOOP OVER THE DIGITS
 module _ (most v : ℕ) (x : Bytes) (i : ℕ) where
-  pub digits_step : (b w : ℕ) → i < length x → b ≡ get_or x i 0 → 48 ≤ b → b ≤ 57 → w ≡ min most (v * 10 + (b - 48))
+  pub digits_step : (w : ℕ) → i < length x → is_ascii_digit (get_or x i 0) ≡ true → w ≡ min most (v * 10 + (get_or x i 0 - 48))
       → map_option (min most) (digits w (drop (i + 1) x)) ≡ map_option (min most) (digits v (drop i x))
-  unfolding digits
-  digits_step b w h e l m f =
-      let d = digit-in (get_or x i 0) (rw e at l) (rw e at m) in
-      rw (f, e, step x i h, digits, d) (sym (digits-min most (drop (i + 1) x) (v * 10 + (get_or x i 0 - 48))))
+  unfolding digits digit
+  digits_step w h d f = rw (f, step x i h, digits, digit, d) (sym (digits-min most (drop (i + 1) x) (v * 10 + (get_or x i 0 - 48))))
 
-  digits-wrong : i < length x → digit (get_or x i 0) ≡ none → map_option (min most) (digits v (drop i x)) ≡ none
-  unfolding digits map_option
-  digits-wrong h e = rw (step x i h, digits, e)
-
-  pub digits_low : (b : ℕ) → i < length x → b ≡ get_or x i 0 → b < 48 → map_option (min most) (digits v (drop i x)) ≡ none
-  digits_low b h e l = digits-wrong h (digit_low _ (rw e at l))
-
-  pub digits-high : (b : ℕ) → i < length x → b ≡ get_or x i 0 → 57 < b → map_option (min most) (digits v (drop i x)) ≡ none
-  digits-high b h e l = digits-wrong h (digit-high _ (rw e at l))
+  pub digits-wrong : i < length x → is_ascii_digit (get_or x i 0) ≡ false → map_option (min most) (digits v (drop i x)) ≡ none
+  unfolding digits digit map_option
+  digits-wrong h d = rw (step x i h, digits, digit, d)
 
   pub digits-end : length x ≤ i → v ≤ most → some v ≡ map_option (min most) (digits v (drop i x))
   unfolding digits map_option
@@ -96,27 +71,26 @@ unfolding decimal
 decimal-empty [] h = refl
 decimal-empty (x ∷ xs) h = absurd (omega arith)
 
-pub decimal-zero : (x : Bytes) → length x ≡ 1 → get_or x 0 0 ≡ 48 → decimal x ≡ some 0
-unfolding decimal digit
-decimal-zero [] h e = absurd (omega arith)
-decimal-zero (x ∷ []) h e = rw e
-decimal-zero (x ∷ (y ∷ xs)) h e = absurd (omega arith)
-
-pub decimal-needless : (x : Bytes) → (length x ≡ 0 → ⊥) → (length x ≡ 1 → ⊥) → get_or x 0 0 ≡ 48 → decimal x ≡ none
+pub decimal-needless : (x : Bytes) → 1 < length x → get_or x 0 0 ≡ 48 → decimal x ≡ none
 unfolding decimal
-decimal-needless [] h g e = absurd (h refl)
-decimal-needless (x ∷ []) h g e = absurd (g refl)
-decimal-needless (x ∷ (y ∷ xs)) h g e = rw (decimal, eq-eqb _ _ e)
+decimal-needless [] h e = absurd (omega arith)
+decimal-needless (x ∷ []) h e = absurd (omega arith)
+decimal-needless (x ∷ (y ∷ xs)) h e = rw (decimal, eq-eqb _ _ e)
 
-pub decimal-digits : (x : Bytes) → (length x ≡ 0 → ⊥) → (get_or x 0 0 ≡ 48 → ⊥) → decimal x ≡ digits 0 x
+single : (x : ℕ) → decimal (x ∷ []) ≡ digits 0 (x ∷ [])
 unfolding decimal digits
-decimal-digits [] h e = absurd (h refl)
-decimal-digits (x ∷ []) h e = go (digit x) refl
+single x = go (digit x) refl
   where
     go : (o : Option ℕ) → digit x ≡ o → decimal (x ∷ []) ≡ digits 0 (x ∷ [])
     go none f = rw (decimal, digits, f)
     go (some d) f = let z : 0 * 10 + d ≡ d = omega arith in rw (decimal, digits, f, z)
-decimal-digits (x ∷ (y ∷ xs)) h e = rw (decimal, ne_eqb _ _ e)
+
+pub decimal-digits : (x : Bytes) → (length x ≡ 0 → ⊥) → ((get_or x 0 0 ≡ 48) × (length x ≤ 1)) ⊎ (get_or x 0 0 ≡ 48 → ⊥) → decimal x ≡ digits 0 x
+unfolding decimal
+decimal-digits [] h e = absurd (h refl)
+decimal-digits (x ∷ []) h e = single x
+decimal-digits (x ∷ (y ∷ xs)) h (inl e) = absurd (omega arith)
+decimal-digits (x ∷ (y ∷ xs)) h (inr e) = rw (decimal, ne_eqb _ _ e)
 
 -- a bound below the one that the number was held within
 pub within-min : (b most : ℕ) (o : Option ℕ) → b < most → within b (map_option (min most) o) ≡ within b o
@@ -126,3 +100,12 @@ within-min b most (some n) h = elim (dec_lt most n) [
   | yes y ↦ let m : most ≤ n = omega (arith, y) in let l : b < n = omega (arith, y) in rw (min-eq_left m, within, lt-leb most b h, lt-leb n b l)
   | no y ↦ let m : n ≤ most = omega (arith, y) in rw (min-eq_right m)
 ]
+
+-- a count or a position is 513 at most
+pub count_small : (w : Word) (k : ℕ) → some k ≡ count_field w → k ≤ most_cells + 1
+unfolding count_field map_option
+count_small w k e = go (decimal w.bytes) e
+  where
+    go : (o : Option ℕ) → some k ≡ map_option (min (suc most_cells)) o → k ≤ most_cells + 1
+    go none f = absurd (cc f)
+    go (some n) f = let x : k ≡ min (suc most_cells) n = cc f in omega (arith, min-le_left (suc most_cells) n)

@@ -7,16 +7,18 @@ use Rattle.std.proofs.Math.ListN.{drop_of_length-le}
 use borrow.Author.Tests.{eqb-true, eq-eqb, ne_eqb, lt-ltb, le-ltb}
 use Rattle.rules.specs.Lists.{Bytes, same, before}
 use Rattle.text.specs.Bytes.{step}
-use Rattle.text.specs.declared.Order.{Order}
-use Rattle.text.specs.declared.Order.TheVariants.{Before, Same, After}
+use Rattle.std.specs.declared.cmp.Ordering.{Ordering}
+use Rattle.std.specs.declared.cmp.Ordering.TheVariants.{Less, Equal, Greater}
+use Rattle.std.specs.Ordering.{is_lt, is_eq, is_gt, nat_cmp}
+use Rattle.std.specs.Cmp.Lexicographic.{slice_cmp}
 
 -- the order of two byte strings, by whether the first is before the second and whether they are the same
-unfoldable pub order_by : Bool → Bool → Order
-order_by true s = Before
-order_by false true = Same
-order_by false false = After
+unfoldable pub order_by : Bool → Bool → Ordering
+order_by true s = Less
+order_by false true = Equal
+order_by false false = Greater
 
-unfoldable pub order_of : Bytes → Bytes → Order
+unfoldable pub order_of : Bytes → Bytes → Ordering
 order_of x y = order_by (before x y) (same x y)
 
 -- EQUALITY
@@ -68,11 +70,11 @@ module _ (x y : ℕ) (xs ys : Bytes) where
   unfolding order_of
   order_same e = rw (before_same e, same_first e)
 
-  order-less : x < y → order_of (x ∷ xs) (y ∷ ys) ≡ Before
+  order-less : x < y → order_of (x ∷ xs) (y ∷ ys) ≡ Less
   unfolding order_of order_by
   order-less e = rw (before-less e)
 
-  order-more : y < x → order_of (x ∷ xs) (y ∷ ys) ≡ After
+  order-more : y < x → order_of (x ∷ xs) (y ∷ ys) ≡ Greater
   unfolding order_of order_by
   order-more e = let n : x ≡ y → ⊥ = λ q. omega (arith, q) in rw (before_more e, differ-first n)
 
@@ -118,52 +120,15 @@ differ-at x y i h = go (same x y) refl
     go false e = refl
     go true e = absurd (h (ap (λ l. get_or l i 0) (same_true x y e)))
 
-module _ (x y : Bytes) (i : ℕ) where
-  pub order-step : i < length x → i < length y → get_or x i 0 ≡ get_or y i 0 → order_of (drop i x) (drop i y) ≡ order_of (drop (i + 1) x) (drop (i + 1) y)
-  order-step h g e = rw (step x i h, step y i g) (order_same _ _ _ _ e)
-
-  pub order-before : i < length x → i < length y → get_or x i 0 < get_or y i 0 → order_of (drop i x) (drop i y) ≡ Before
-  order-before h g e = rw (step x i h, step y i g) (order-less _ _ _ _ e)
-
-  pub order-after : i < length x → i < length y → get_or y i 0 < get_or x i 0 → order_of (drop i x) (drop i y) ≡ After
-  order-after h g e = rw (step x i h, step y i g) (order-more _ _ _ _ e)
-
-  pub order-longer : i < length x → length y ≤ i → order_of (drop i x) (drop i y) ≡ After
-  unfolding order_of order_by before same
-  order-longer h g = rw (step x i h, drop_of_length-le y g)
-
-  pub order-shorter : length x ≤ i → i < length y → order_of (drop i x) (drop i y) ≡ Before
-  unfolding order_of order_by before same
-  order-shorter h g = rw (drop_of_length-le x h, step y i g)
-
-  pub order-end : length x ≤ i → length y ≤ i → order_of (drop i x) (drop i y) ≡ Same
-  unfolding order_of order_by before same
-  order-end h g = rw (drop_of_length-le x h, drop_of_length-le y g)
-
 -- WHAT EACH ORDER SAYS
-unfoldable pub is_before : Order → Bool
-is_before Before = true
-is_before Same = false
-is_before After = false
-
-unfoldable pub is_same : Order → Bool
-is_same Before = false
-is_same Same = true
-is_same After = false
-
-unfoldable pub is_after : Order → Bool
-is_after Before = false
-is_after Same = false
-is_after After = true
-
 -- what holds of two byte strings whose order is o
-pub record Ordered (x y : Bytes) (o : Order) : Type 0 where
-  pub less : before x y ≡ is_before o
-  pub equal : same x y ≡ is_same o
-  pub greater : before y x ≡ is_after o
+pub record Ordered (x y : Bytes) (o : Ordering) : Type 0 where
+  pub less : before x y ≡ is_lt o
+  pub equal : same x y ≡ is_eq o
+  pub greater : before y x ≡ is_gt o
 
 pub ordered : (x y : Bytes) → Ordered x y (order_of x y)
-unfolding order_of order_by is_before is_same is_after before same
+unfolding order_of order_by before same
 ordered [] [] = record { less = refl; equal = refl; greater = refl }
 ordered [] (y ∷ ys) = record { less = refl; equal = refl; greater = refl }
 ordered (x ∷ xs) [] = record { less = refl; equal = refl; greater = refl }
@@ -183,3 +148,23 @@ ordered (x ∷ xs) (y ∷ ys) = elim (dec_lt x y) [
     neither : x ≡ y → Ordered xs ys (order_of xs ys) → Ordered (x ∷ xs) (y ∷ ys) (order_of (x ∷ xs) (y ∷ ys))
     neither e r =
         rw (order_same x y xs ys e) (record { less = before_same x y xs ys e ∙ r.less; equal = same_first x y xs ys e ∙ r.equal; greater = before_same y x ys xs (sym e) ∙ r.greater })
+
+-- the order of std
+pub order-std : (x y : Bytes) → slice_cmp nat_cmp x y ≡ order_of x y
+unfolding order_of order_by before same
+order-std [] [] = refl
+order-std [] (y ∷ ys) = refl
+order-std (x ∷ xs) [] = refl
+order-std (x ∷ xs) (y ∷ ys) = elim (dec_lt x y) [
+  | yes p ↦ first (omega (arith, p))
+  | no p ↦ elim (dec_lt y x) [ yes q ↦ second (omega (arith, q)) | no q ↦ neither (omega (arith, p, q)) (order-std xs ys) ]
+]
+  where
+    first : x < y → slice_cmp nat_cmp (x ∷ xs) (y ∷ ys) ≡ order_of (x ∷ xs) (y ∷ ys)
+    first h = rw (lt-ltb x y h, order-less x y xs ys h)
+
+    second : y < x → slice_cmp nat_cmp (x ∷ xs) (y ∷ ys) ≡ order_of (x ∷ xs) (y ∷ ys)
+    second h = let l : y ≤ x = omega arith in let n : x ≡ y → ⊥ = λ e. omega (arith, e) in rw (le-ltb x y l, ne_eqb x y n, order-more x y xs ys h)
+
+    neither : x ≡ y → slice_cmp nat_cmp xs ys ≡ order_of xs ys → slice_cmp nat_cmp (x ∷ xs) (y ∷ ys) ≡ order_of (x ∷ xs) (y ∷ ys)
+    neither e r = let l : y ≤ x = omega arith in rw (le-ltb x y l, eq-eqb x y e, order_same x y xs ys e) r

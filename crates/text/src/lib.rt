@@ -9,8 +9,11 @@ ghost use Rattle.text.specs.Bytes.{stop_at};
 ghost use Rattle.text.specs.Lines.{line_end, Fields, few_fields};
 ghost use Rattle.text.specs.Words.{find, words_of};
 ghost use Rattle.text.specs.Packed.{Packed};
-ghost use Rattle.text.specs.Numbers.{value_of, is_name};
+ghost use Rattle.text.specs.Numbers.{is_name};
+ghost use Rattle.text.specs.Options.{option_of};
 ghost use Rattle.text.specs.Order.{order_of};
+
+use std::cmp::Ordering;
 
 pub mod lengths;
 pub mod places; // places.rt: places in both texts
@@ -72,13 +75,6 @@ pub fn line_end(t: &[u8], at: usize) -> usize
     e
 }
 
-// The lesser of two numbers.
-fn least(a: usize, b: usize) -> usize
-    ensures { result ≡ min a b }
-{
-    if a <= b { a } else { b }
-}
-
 // The first ten fields of a line, where each starts and how many bytes it has, and the position behind the line. What the
 // arrays hold from count on means nothing.
 #[derive(Clone, Copy)]
@@ -107,7 +103,7 @@ fn any_fields(t: &[u8], at: usize) -> Line
             lens[n] = 0;
             starts[n + 1] = e;
             lens[n + 1] = 0;
-            let count = least(KEPT_FIELDS, n + 2);
+            let count = KEPT_FIELDS.min(n + 2);
             return Line {
                 starts: starts,
                 lens: lens,
@@ -207,35 +203,10 @@ pub fn equal(x: &[u8], y: &[u8]) -> bool
 }
 
 // The order of two byte strings, a proper prefix first.
-#[derive(Clone, Copy)]
-pub enum Order {
-    Before,
-    Same,
-    After,
-}
-
-pub fn compare(x: &[u8], y: &[u8]) -> Order
+pub fn compare(x: &[u8], y: &[u8]) -> Ordering
     ensures { result ≡ order_of x.now y.now }
 {
-    let mut i: usize = 0;
-    while i < x.len() {
-        if y.len() <= i {
-            return Order::After;
-        }
-        let a = x[i];
-        let b = y[i];
-        if a < b {
-            return Order::Before;
-        }
-        if b < a {
-            return Order::After;
-        }
-        i += 1;
-    }
-    if i < y.len() {
-        return Order::Before;
-    }
-    Order::Same
+    x.cmp(&y)
 }
 
 // Which of some words, each closed by a blank, the n bytes at a are: its number, or how many words there are.
@@ -290,67 +261,43 @@ pub fn is_name(n: usize) -> bool
     1 <= n && n <= MOST_NAME_BYTES
 }
 
-// A number, or none.
-#[derive(Clone, Copy)]
-pub enum Number {
-    Value(u64),
-    Wrong,
-}
-
 // One digit more, `most` at most.
 fn push_digit(v: u64, d: u64, most: u64) -> u64
     ensures { result ≡ min most (v * 10 + d) }
 {
-    if most / 10 < v {
-        return most;
-    }
-    let p = v * 10;
-    if most - p < d {
-        return most;
-    }
-    p + d
+    v.saturating_mul(10).saturating_add(d).min(most)
 }
 
-fn digits(x: &[u8], most: u64) -> Number
-    ensures { value_of result ≡ map_option (min most) (rules.digits 0 x.now) }
+fn digits(x: &[u8], most: u64) -> Option<u64>
+    ensures { option_of result ≡ map_option (min most) (rules.digits 0 x.now) }
 {
-    let mut v: u64 = 0;
-    let mut i: usize = 0;
-    while i < x.len() {
-        let b = x[i];
-        if b < b'0' {
-            return Number::Wrong;
+    let mut v = 0;
+    for &b in x {
+        if !b.is_ascii_digit() {
+            return None;
         }
-        if b'9' < b {
-            return Number::Wrong;
-        }
-        let d = b - b'0';
-        v = push_digit(v, d as u64, most);
-        i += 1;
+        v = push_digit(v, (b - b'0') as u64, most);
     }
-    Number::Value(v)
+    Some(v)
 }
 
 // The decimal that the n bytes at a are, of any length: `most` stands for all above it.
-pub fn decimal(t: &[u8], a: usize, n: usize, most: u64) -> Number
-    ensures { value_of result ≡ map_option (min most) (rules.decimal (take n (drop a t.now))) }
+pub fn decimal(t: &[u8], a: usize, n: usize, most: u64) -> Option<u64>
+    ensures { option_of result ≡ map_option (min most) (rules.decimal (take n (drop a t.now))) }
 {
     let x = part(t, a, n);
-    if x.len() == 0 {
-        return Number::Wrong;
+    if x.is_empty() {
+        return None;
     }
-    if x[0] == b'0' {
-        if x.len() == 1 {
-            return Number::Value(0);
-        }
-        return Number::Wrong;
+    if x[0] == b'0' && 1 < x.len() {
+        return None;
     }
     digits(x, most)
 }
 
 // The count or position that the n bytes at a are: 513 stands for all above 512.
-pub fn count(t: &[u8], a: usize, n: usize) -> Number
-    ensures { (o : ℕ) → value_of result ≡ reader.count_field (record { bytes = take n (drop a t.now); start = o }) }
+pub fn count(t: &[u8], a: usize, n: usize) -> Option<u64>
+    ensures { (o : ℕ) → option_of result ≡ reader.count_field (record { bytes = take n (drop a t.now); start = o }) }
 {
     decimal(t, a, n, MOST_CELLS + 1)
 }

@@ -7,7 +7,8 @@ ghost use Rattle.rules.specs.Places.{bytes_at};
 ghost use Rattle.text.specs.Order.{order_of};
 ghost use Rattle.text.specs.Places as places;
 
-use super::{MOST_BYTES, Order, compare, equal, part};
+use super::{MOST_BYTES, compare, equal, part};
+use std::cmp::Ordering;
 
 #[derive(Clone, Copy, Debug, PartialEq, Eq)]
 pub struct Place {
@@ -69,7 +70,7 @@ pub fn same_bytes(catalog: &[u8], statement: &[u8], a: u32, n: u32, b: u32, m: u
 }
 
 // The order of the n bytes at an address, or as many of them as there are, and x.
-fn order_with(catalog: &[u8], statement: &[u8], a: u32, n: u32, x: &[u8]) -> Order
+fn order_with(catalog: &[u8], statement: &[u8], a: u32, n: u32, x: &[u8]) -> Ordering
     ensures { result ≡ order_of (bytes_at catalog.now statement.now a n) x.now }
 {
     if a < MOST_BYTES {
@@ -80,7 +81,7 @@ fn order_with(catalog: &[u8], statement: &[u8], a: u32, n: u32, x: &[u8]) -> Ord
 }
 
 // The order of the bytes at two places.
-pub fn order_texts(catalog: &[u8], statement: &[u8], a: u32, n: u32, b: u32, m: u32) -> Order
+pub fn order_texts(catalog: &[u8], statement: &[u8], a: u32, n: u32, b: u32, m: u32) -> Ordering
     ensures { result ≡ order_of (bytes_at catalog.now statement.now a n) (bytes_at catalog.now statement.now b m) }
 {
     if b < MOST_BYTES {

@@ -8,9 +8,10 @@ use Rattle.rules.specs.Comparison.{Order, less, alike, greater, unordered, order
 use Rattle.rules.specs.Lists.{Bytes}
 use Rattle.rules.specs.Places.{bytes_at, word_at}
 use Rattle.text.specs.Order as Order
-use Rattle.text.specs.Order.{order_of, is_before, is_same, is_after}
-use Rattle.text.specs.declared.Order as text
-use Rattle.text.specs.declared.Order.TheVariants as Te
+use Rattle.text.specs.Order.{order_of}
+use Rattle.std.specs.declared.cmp.Ordering as std
+use Rattle.std.specs.declared.cmp.Ordering.TheVariants as Ov
+use Rattle.std.specs.Ordering.{is_lt, is_eq, is_gt}
 use Rattle.ints.proofs.Signed.{stored, read}
 use Rattle.value.specs.Operands.{compared_of, text_order, chosen}
 use Rattle.value.specs.declared.Compared.TheVariants as Co
@@ -66,11 +67,11 @@ by-orders t {m = m} e f = e ∙ ap (compared (chosen (t less) (t alike) (t great
     go incomparable = refl
 
 -- texts in their place
-by_order : (o : text.Order) → text_order o ≡ order_by (is_before o) (is_same o) (is_after o)
-unfolding text_order order_by is_before is_same is_after
-by_order Te.Before = refl
-by_order Te.Same = refl
-by_order Te.After = refl
+by_order : (o : std.Ordering) → text_order o ≡ order_by (is_lt o) (is_eq o) (is_gt o)
+unfolding text_order order_by
+by_order Ov.Less = refl
+by_order Ov.Equal = refl
+by_order Ov.Greater = refl
 
 pub text-order : (c q : Bytes) (s n t m : ℕ) → text_order (order_of (bytes_at c q s n) (bytes_at c q t m)) ≡ order_texts (word_at c q s n) (word_at c q t m)
 unfolding order_texts word_at

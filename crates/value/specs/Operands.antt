@@ -6,8 +6,8 @@ use Rattle.rules.specs.Schema.{null, bool}
 use Rattle.rules.specs.Arithmetic.{Worked, gives, fails, Pair, integers, floats, absent, unlike}
 use Rattle.rules.specs.Comparison as comparison
 use Rattle.rules.specs.Comparison.{Order, less, alike, greater, unordered, ordered, unknown, incomparable}
-use Rattle.text.specs.declared.Order as text
-use Rattle.text.specs.declared.Order.TheVariants as Te
+use Rattle.std.specs.declared.cmp.Ordering as std
+use Rattle.std.specs.declared.cmp.Ordering.TheVariants as Ov
 use Rattle.value.specs.declared.Numbers.{Numbers}
 use Rattle.value.specs.declared.Numbers.TheVariants as Nu
 use Rattle.value.specs.declared.Truths.{Truths}
@@ -36,10 +36,10 @@ compared_of Co.Unordered = ordered unordered
 compared_of Co.Unknown = unknown
 compared_of Co.Incomparable = incomparable
 
-unfoldable pub text_order : text.Order → Order
-text_order Te.Before = less
-text_order Te.Same = alike
-text_order Te.After = greater
+unfoldable pub text_order : std.Ordering → Order
+text_order Ov.Less = less
+text_order Ov.Equal = alike
+text_order Ov.Greater = greater
 
 -- the test that holds in the orders chosen
 unfoldable pub chosen : Bool → Bool → Bool → Bool → Order → Bool

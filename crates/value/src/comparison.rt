@@ -10,7 +10,7 @@ ghost use Rattle.value.specs.Values.{value_of, worked_of};
 ghost use Rattle.value.specs.Operands.{compared_of, text_order, chosen};
 
 use crate::{Compared, Value, Worked};
-use text::Order;
+use std::cmp::Ordering;
 
 fn order_bools(x: bool, y: bool) -> Compared
     ensures { compared_of result ≡ ordered (order_bools x y) }
@@ -49,13 +49,13 @@ fn order_floats(x: f64, y: f64) -> Compared
     Compared::Unordered
 }
 
-fn of_order(o: Order) -> Compared
+fn of_order(o: Ordering) -> Compared
     ensures { compared_of result ≡ ordered (text_order o) }
 {
     match o {
-        Order::Before => Compared::Less,
-        Order::Same => Compared::Same,
-        Order::After => Compared::Greater,
+        Ordering::Less => Compared::Less,
+        Ordering::Equal => Compared::Same,
+        Ordering::Greater => Compared::Greater,
     }
 }
 

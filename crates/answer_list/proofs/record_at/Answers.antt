@@ -14,16 +14,16 @@ returns-then-not-holds c = other_word _ _ _ c.fields-line.ensures c.if-line-ne4.
 
 pub returns-in_default : goal.returns-in_default
 unfolding count bytes
-returns-in_default c = no-first _ _ _ c.fields-line.ensures c.if-line-ne4.false _ c.holds.ensures c.if-not-holds.false _ c.decimal-a.ensures c.in_default.is
+returns-in_default c = no-first _ _ _ c.fields-line.ensures c.if-line-ne4.false _ c.holds.ensures c.if-not-holds.false c.in_default.ensures
 
-pub returns-in_default-b : goal.returns-in_default-b
+pub returns-in_default-decimal : goal.returns-in_default-decimal
 unfolding count bytes
-returns-in_default-b c = no_second _ _ _ c.fields-line.ensures c.if-line-ne4.false _ c.holds.ensures c.if-not-holds.false _ c.decimal-a.ensures _ c.in-Value.is _ c.decimal-b.ensures c.in_default-b.is
+returns-in_default-decimal c = no_second _ _ _ c.fields-line.ensures c.if-line-ne4.false _ c.holds.ensures c.if-not-holds.false _ c.in-Some.ensures c.in_default-decimal.ensures
 
-pub returns-in_default-d : goal.returns-in_default-d
+pub returns-in_default-decimal-2 : goal.returns-in_default-decimal-2
 unfolding count bytes
-returns-in_default-d c = no_third _ _ _ c.fields-line.ensures c.if-line-ne4.false _ c.holds.ensures c.if-not-holds.false _ c.decimal-a.ensures _ c.in-Value.is _ c.decimal-b.ensures _ c.in-Value-b.is _ c.decimal-d.ensures c.in_default-d.is
+returns-in_default-decimal-2 c = no_third _ _ _ c.fields-line.ensures c.if-line-ne4.false _ c.holds.ensures c.if-not-holds.false _ c.in-Some.ensures _ c.in-Some-decimal.ensures c.in_default-decimal-2.ensures
 
 pub returns : goal.returns
 unfolding count bytes
-returns c = c.whole.ensures ∙ counted _ _ _ c.fields-line.ensures c.if-line-ne4.false _ c.holds.ensures c.if-not-holds.false _ c.decimal-a.ensures _ c.in-Value.is _ c.decimal-b.ensures _ c.in-Value-b.is _ c.decimal-d.ensures _ c.in-Value-d.is
+returns c = c.whole.ensures ∙ counted _ _ _ c.fields-line.ensures c.if-line-ne4.false _ c.holds.ensures c.if-not-holds.false _ c.in-Some.ensures _ c.in-Some-decimal.ensures _ c.in-Some-decimal-2.ensures

@@ -13,7 +13,7 @@ pub overflow_sub-lens : goal.overflow_sub-lens
 overflow_sub-lens c = stop-after _ _ _ _ _ c.stop_at-e.ensures
 
 pub returns-then-t-e : goal.returns-then-t-e
-returns-then-t-e c = unclosed _ _ _ _ _ _ _ c.loop-n-test.true c.loop-n.invariant.1 c.loop-n.invariant.2 c.loop-n.invariant.3 c.stop_at-e.ensures _ c.least-count.ensures c.if-t-e.true
+returns-then-t-e c = unclosed _ _ _ _ _ _ _ c.loop-n-test.true c.loop-n.invariant.1 c.loop-n.invariant.2 c.loop-n.invariant.3 c.stop_at-e.ensures _ c.min-count.ensures c.if-t-e.true
 
 pub returns-then-t-e-eq10 : goal.returns-then-t-e-eq10
 returns-then-t-e-eq10 c = ends _ _ _ _ _ _ _ c.loop-n-test.true c.loop-n.invariant.1 c.loop-n.invariant.2 c.loop-n.invariant.3 c.stop_at-e.ensures c.if-t-e.false c.if-t-e-eq10.true

@@ -1,24 +1,18 @@
 -- `digits`: the digits from here on, behind the number so far, give what all give.
 use native.Mathlib.Omega.{arith}
 use native.Mathlib.Nat.{min-le_left}
-use mathlib.Core.Path.{refl, sym, ◌∙◌}
-use Rattle.text.specs.Numbers.{value_of, digits_step, digits_low, digits-high, digits-end}
+use mathlib.Core.Path.{sym, ◌∙◌, refl}
+use Rattle.text.specs.Numbers.{digits_step, digits-wrong, digits-end}
 use Rattle.text.proofs.digits.Goals as goal
 
-pub loop-i-init : goal.loop-i-init
-loop-i-init c = (omega arith, refl)
+pub loop-b-init : goal.loop-b-init
+loop-b-init c = (omega arith, refl)
 
-pub returns-then-b-lt48 : goal.returns-then-b-lt48
-unfolding value_of
-returns-then-b-lt48 c = sym (digits_low _ _ _ _ _ c.loop-i-test.true refl c.if-b-lt48.true) ∙ c.loop-i.invariant.1
+pub returns-then-not-is_ascii_digit : goal.returns-then-not-is_ascii_digit
+returns-then-not-is_ascii_digit c = sym (digits-wrong _ _ _ _ c.loop-b-test.true (sym c.is_ascii_digit.ensures.value ∙ c.if-not-is_ascii_digit.true)) ∙ c.loop-b.invariant.1
 
-pub returns-then-b-gt57 : goal.returns-then-b-gt57
-unfolding value_of
-returns-then-b-gt57 c = sym (digits-high _ _ _ _ _ c.loop-i-test.true refl c.if-b-gt57.true) ∙ c.loop-i.invariant.1
-
-pub loop-i-preserved : goal.loop-i-preserved
-loop-i-preserved c = (rw c.push_digit-v.ensures (min-le_left _ _), digits_step _ _ _ _ _ _ c.loop-i-test.true refl (omega arith) (omega arith) c.push_digit-v.ensures ∙ c.loop-i.invariant.1)
+pub loop-b-preserved : goal.loop-b-preserved
+loop-b-preserved c = (rw c.push_digit-v.ensures (min-le_left _ _), digits_step _ _ _ _ _ c.loop-b-test.true (sym c.is_ascii_digit.ensures.value ∙ c.if-not-is_ascii_digit.false) c.push_digit-v.ensures ∙ c.loop-b.invariant.1)
 
 pub returns : goal.returns
-unfolding value_of
-returns c = digits-end _ _ _ _ c.loop-i-test.false c.loop-i.invariant.0 ∙ c.loop-i.invariant.1
+returns c = digits-end _ _ _ _ c.loop-b-test.false c.loop-b.invariant.0 ∙ c.loop-b.invariant.1

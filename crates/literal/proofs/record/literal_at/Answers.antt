@@ -1,23 +1,24 @@
 -- `literal_at`: by the keyword and the number of fields.
 use Rattle.std.proofs.Common.{refl, arith}
+use Rattle.rules.specs.Lists.{map_option}
 use Rattle.rules.specs.Lines.{bytes}
-use Rattle.rules.specs.Area.{value_numbers, default_numbers}
+use Rattle.rules.specs.Area.{value_numbers}
 use Rattle.numbers.specs.Values.{ValueFits, LiteralFits}
 use Rattle.text.specs.Fields.{inside-field}
-use Rattle.literal.specs.Records.{literal-as, literal-words, literal-null, literal-null-not, literal-field, literal-not}
+use Rattle.literal.specs.Records.{literal-as, no-literal-as, literal-words, literal-null, literal-null-not, literal-field, literal-not}
 use Rattle.literal.proofs.record.literal_at.Goals as goal
 
 pub returns-then-n-ne1 : goal.returns-then-n-ne1
 unfolding bytes
-returns-then-n-ne1 c = λ x l d k b. literal-as (literal-null-not x _ _ l d k _ c.requires.fact_2 _ _ literal-words c.literal-k.ensures c.if-k-eq0.true c.if-n-ne1.true) (c.no_literal.ensures _ _)
+returns-then-n-ne1 c = λ x l d k b. no-literal-as _ _ (literal-null-not x _ _ l d k _ c.requires.fact_2 _ _ literal-words c.literal-k.ensures c.if-k-eq0.true c.if-n-ne1.true)
 
 pub returns-then-k-eq0 : goal.returns-then-k-eq0
-unfolding bytes default_numbers value_numbers LiteralFits ValueFits
+unfolding bytes map_option value_numbers LiteralFits ValueFits
 returns-then-k-eq0 c = λ x l d k b. literal-as (literal-null x _ _ l d k _ c.requires.fact_2 _ _ literal-words c.literal-k.ensures c.if-k-eq0.true c.if-n-ne1.false) (record { is = refl; fits = λ k e c q f. tt })
 
 pub returns-then-n-ne2 : goal.returns-then-n-ne2
 unfolding bytes
-returns-then-n-ne2 c = λ x l d k b. literal-as (literal-not x _ _ l d k _ c.requires.fact_2 _ _ literal-words c.literal-k.ensures c.if-k-eq0.false c.if-n-ne2.true) (c.no_literal-then-n-ne2.ensures _ _)
+returns-then-n-ne2 c = λ x l d k b. no-literal-as _ _ (literal-not x _ _ l d k _ c.requires.fact_2 _ _ literal-words c.literal-k.ensures c.if-k-eq0.false c.if-n-ne2.true)
 
 pub literal_by-requires : goal.literal_by-requires
 literal_by-requires c = record { fact_1 = inside-field _ _ _ c.requires.fact_2 1 c.requires.fact_1.0 c.requires.fact_1.1 (omega arith); fact_2 = (omega (arith, c.if-k-eq0.false), c.requires.fact_1.2) }

@@ -1,30 +1,30 @@
 -- `literal_by`: by the keyword.
 use Rattle.std.proofs.Common.{refl, arith}
 use Rattle.text.specs.Lines.{field}
-use Rattle.literal.specs.Records.{literal-as, int-some, int-none, float-some, float-none, text-some, no-literal}
+use Rattle.literal.specs.Records.{no-literal-as, int-some, int-none, float-some, float-none, text-some, no-literal}
 use Rattle.literal.proofs.record.literal_by.Goals as goal
 
-pub returns-then-k-eq1 : goal.returns-then-k-eq1
-returns-then-k-eq1 c = rw c.if-k-eq1.true (c.flag.ensures _)
+pub returns-in-1 : goal.returns-in-1
+returns-in-1 c = rw c.in-1.is (c.flag.ensures _)
 
-pub returns-in-Value : goal.returns-in-Value
+pub returns-in_err-int-in-2 : goal.returns-in_err-int-in-2
 unfolding field
-returns-in-Value c = rw c.if-k-eq2.true (int-some _ _ _ _ _ _ c.int-i.ensures c.in-Value.is (omega arith) c.halves.ensures)
+returns-in_err-int-in-2 c = rw (c.in-2.is, c.from_residual.ensures) (no-literal-as _ _ (int-none _ c.in_err-int-in-2.ensures))
 
-pub returns-in-Wrong : goal.returns-in-Wrong
+pub returns-in_ok-int-in-2 : goal.returns-in_ok-int-in-2
 unfolding field
-returns-in-Wrong c = rw c.if-k-eq2.true (literal-as (int-none _ _ c.int-i.ensures c.in-Wrong.is) (c.no_literal.ensures _ _))
+returns-in_ok-int-in-2 c = rw c.in-2.is (int-some _ _ _ _ _ c.in_ok-int-in-2.ensures (omega arith) c.halves.ensures)
 
-pub returns-in-Value-f : goal.returns-in-Value-f
+pub returns-in_err-float-in-3 : goal.returns-in_err-float-in-3
 unfolding field
-returns-in-Value-f c = rw c.if-k-eq3.true (float-some _ _ _ _ _ _ c.float-f.ensures c.in-Value-f.is c.halves-in-Value-f.ensures)
+returns-in_err-float-in-3 c = rw (c.in-3.is, c.from_residual-in_err-float-in-3.ensures) (no-literal-as _ _ (float-none _ c.in_err-float-in-3.ensures))
 
-pub returns-in-Wrong-f : goal.returns-in-Wrong-f
+pub returns-in_ok-float-in-3 : goal.returns-in_ok-float-in-3
 unfolding field
-returns-in-Wrong-f c = rw c.if-k-eq3.true (literal-as (float-none _ _ c.float-f.ensures c.in-Wrong-f.is) (c.no_literal-in-Wrong-f.ensures _ _))
+returns-in_ok-float-in-3 c = rw c.in-3.is (float-some _ _ _ _ _ c.in_ok-float-in-3.ensures c.halves-in-3.ensures)
 
-pub returns-then-k-eq4 : goal.returns-then-k-eq4
-returns-then-k-eq4 c = rw c.if-k-eq4.true (text-some _ _ _ _ _ c.requires.fact_1 (refl, refl, refl))
+pub returns-in-4 : goal.returns-in-4
+returns-in-4 c = rw c.in-4.is (text-some _ _ _ _ _ c.requires.fact_1 (refl, refl, refl))
 
-pub returns : goal.returns
-returns c = literal-as (no-literal _ _ (omega (arith, c.requires.fact_2.0, c.if-k-eq1.false, c.if-k-eq2.false, c.if-k-eq3.false, c.if-k-eq4.false))) (c.no_literal-2.ensures _ _)
+pub returns-in_default : goal.returns-in_default
+returns-in_default c = no-literal-as _ _ (no-literal _ _ (omega arith))

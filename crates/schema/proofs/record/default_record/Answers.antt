@@ -11,10 +11,10 @@ pub returns-then-holds : goal.returns-then-holds
 unfolding bytes
 returns-then-holds c q l = default_none _ _ _ c.requires.fact_2 c.holds.ensures q l c.if-holds.true c.if-f-ne1.false
 
-pub returns-then-v-eq0 : goal.returns-then-v-eq0
+pub returns-in_default : goal.returns-in_default
 unfolding bytes
-returns-then-v-eq0 c q l = default-wrong _ _ _ c.requires.fact_2 c.holds.ensures q l c.if-holds.false c.literal_at-v.ensures c.if-v-eq0.true
+returns-in_default c q l = default-wrong _ _ _ c.requires.fact_2 c.holds.ensures q l c.if-holds.false c.literal_at.ensures c.in_default.is
 
 pub returns : goal.returns
 unfolding bytes
-returns c q l = default-value _ _ _ c.requires.fact_2 c.holds.ensures q l c.if-holds.false c.literal_at-v.ensures c.if-v-eq0.false
+returns c q l = default-value _ _ _ c.requires.fact_2 c.holds.ensures q l c.if-holds.false c.literal_at.ensures c.in-Some.is

@@ -3,7 +3,8 @@ use native.Mathlib.Omega.{arith}
 use mathlib.Core.Path.{sym, ◌∙◌}
 use Rattle.rules.specs.Lines.{bytes}
 use Rattle.schema.specs.Records.{field-most}
-use Rattle.schema.specs.TableRecords.{count_small, table-missing, table-count, table-name, table-key, table_taken, table-right}
+use Rattle.text.specs.Numbers.{count_small}
+use Rattle.schema.specs.TableRecords.{table-missing, table-count, table-name, table-key, table_taken, table-right}
 use Rattle.schema.proofs.record.table_record.Goals as goal
 
 pub returns-then-not-holds : goal.returns-then-not-holds
@@ -20,7 +21,7 @@ returns-then-not-is_name c = table-name _ _ _ _ _ c.fields-f.ensures c.holds.ens
 
 pub returns-in_default : goal.returns-in_default
 unfolding bytes
-returns-in_default c = table-key _ _ _ _ _ c.fields-f.ensures c.holds.ensures c.if-not-holds.false c.if-f-ne3.false (sym c.is_name.ensures ∙ c.if-not-is_name.false) _ c.count-d.ensures c.in_default.is
+returns-in_default c = table-key _ _ _ _ _ c.fields-f.ensures c.holds.ensures c.if-not-holds.false c.if-f-ne3.false (sym c.is_name.ensures ∙ c.if-not-is_name.false) c.in_default.ensures
 
 pub overflow_cast-a : goal.overflow_cast-a
 overflow_cast-a c = record { fits = omega (arith, field-most _ _ _ c.fields-f.ensures c.requires 1 (omega (arith, c.if-f-ne3.false))) }
@@ -30,11 +31,11 @@ overflow_cast-m c = record { fits = omega (arith, field-most _ _ _ c.fields-f.en
 
 pub returns-then-is_taken : goal.returns-then-is_taken
 unfolding bytes
-returns-then-is_taken c = table_taken _ _ _ _ _ c.fields-f.ensures c.holds.ensures c.if-not-holds.false c.if-f-ne3.false (sym c.is_name.ensures ∙ c.if-not-is_name.false) _ c.count-d.ensures c.in-Value.is c.requires c.is_taken.ensures c.if-is_taken.true
+returns-then-is_taken c = table_taken _ _ _ _ _ c.fields-f.ensures c.holds.ensures c.if-not-holds.false c.if-f-ne3.false (sym c.is_name.ensures ∙ c.if-not-is_name.false) c.in-Some.ensures c.requires c.is_taken.ensures c.if-is_taken.true
 
 pub overflow_cast-result : goal.overflow_cast-result
-overflow_cast-result c = record { fits = omega (arith, count_small _ _ _ (c.count-d.ensures 0) c.in-Value.is) }
+overflow_cast-result c = record { fits = omega (arith, count_small _ _ (c.in-Some.ensures 0)) }
 
 pub returns : goal.returns
 unfolding bytes
-returns c = table-right _ _ _ _ _ c.fields-f.ensures c.holds.ensures c.if-not-holds.false c.if-f-ne3.false (sym c.is_name.ensures ∙ c.if-not-is_name.false) _ c.count-d.ensures c.in-Value.is c.requires c.is_taken.ensures c.if-is_taken.false
+returns c = table-right _ _ _ _ _ c.fields-f.ensures c.holds.ensures c.if-not-holds.false c.if-f-ne3.false (sym c.is_name.ensures ∙ c.if-not-is_name.false) c.in-Some.ensures c.requires c.is_taken.ensures c.if-is_taken.false

@@ -4,7 +4,7 @@ use lib.Ieee.{binary64, of_int}
 use Rattle.rules.specs.Arithmetic.{rounded}
 use Rattle.rules.specs.Comparison.{Compared, ordered, compare, order_integers, order_floats}
 use Rattle.rules.specs.Lists.{Bytes}
-use Rattle.text.specs.declared.Order.{Order}
+use Rattle.std.specs.declared.cmp.Ordering.{Ordering}
 use Rattle.ints.proofs.Signed.{read-mag}
 use Rattle.value.specs.Operands.{compared_of, text_order}
 use Rattle.value.specs.Values.{value_of}
@@ -135,6 +135,6 @@ returns-in-Float-b-4 c = let start = c in same-image2
 pub returns-in-Text-b-4 : goal.returns-in-Text-b-4
 unfolding value_of compare compared_of rounded
 returns-in-Text-b-4 c = let start = c in c.of_order.ensures ∙ ap
-    (λ (o : Order). ordered (text_order o)) c.order_texts.ensures ∙ ap ordered (text-order _ _ _ _ _ _) ∙ same-image2
+    (λ (o : Ordering). ordered (text_order o)) c.order_texts.ensures ∙ ap ordered (text-order _ _ _ _ _ _) ∙ same-image2
     (rule start.args.catalog.now start.args.statement.now) c.in-Text.is
     c.in-Text-b-4.is

@@ -1,18 +1,18 @@
 -- `value::comparison::of_order` meets its contract.
 use Rattle.rules.specs.Comparison.{ordered}
-use Rattle.text.specs.declared.Order.{Order}
+use Rattle.std.specs.declared.cmp.Ordering.{Ordering}
 use Rattle.value.specs.Operands.{compared_of, text_order}
 use Rattle.value.proofs.SameImage.{same-image}
 use Rattle.value.proofs.comparison.of_order.Goals as goal
 
-pub returns-in-Before : goal.returns-in-Before
+pub returns-in-Less : goal.returns-in-Less
 unfolding compared_of text_order
-returns-in-Before c = same-image (λ (o : Order). ordered (text_order o)) c.in-Before.is
+returns-in-Less c = same-image (λ (o : Ordering). ordered (text_order o)) c.in-Less.is
 
-pub returns-in-Same : goal.returns-in-Same
+pub returns-in-Equal : goal.returns-in-Equal
 unfolding compared_of text_order
-returns-in-Same c = same-image (λ (o : Order). ordered (text_order o)) c.in-Same.is
+returns-in-Equal c = same-image (λ (o : Ordering). ordered (text_order o)) c.in-Equal.is
 
-pub returns-in-After : goal.returns-in-After
+pub returns-in-Greater : goal.returns-in-Greater
 unfolding compared_of text_order
-returns-in-After c = same-image (λ (o : Order). ordered (text_order o)) c.in-After.is
+returns-in-Greater c = same-image (λ (o : Ordering). ordered (text_order o)) c.in-Greater.is
