@@ -7,7 +7,7 @@ use borrow.Author.Tests.{le-leb, lt-leb, eq-eqb, ne_eqb}
 use Rattle.rules.specs.Lists.{Bytes, map_option}
 use Rattle.rules.specs.Lines.{within, negated, decimal, integer}
 use Rattle.text.specs.Numbers.{within-min}
-use Rattle.text.specs.Options.{option_of}
+use Rattle.numbers.specs.Options.{option_of}
 use Rattle.numbers.specs.Bits.{signed, signed_low, signed_high}
 
 -- the greatest integer

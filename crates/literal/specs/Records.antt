@@ -19,7 +19,7 @@ use Rattle.text.specs.Words.{find, words_of, push, keys, nth, named_by, nth-none
 use Rattle.text.specs.Reading.{place, text_of, field_of, one-of, rest-none, rest-one, rest-other}
 use Rattle.text.specs.Records.{no-field, one_field_lem}
 use Rattle.text.specs.Fields.{Inside, field-length, field_at}
-use Rattle.text.specs.Options.{option_of}
+use Rattle.numbers.specs.Options.{option_of}
 use Rattle.literal.specs.declared.record.Literal.{Literal}
 
 -- a literal's numbers in the tables

@@ -6,7 +6,7 @@ pub mod record;
 ghost use Rattle.std.specs.Prelude.{◌≡◌, take, drop, pos};
 ghost use Rattle.rules.specs.Lists.{map_option};
 ghost use Rattle.rules.specs.Lines as lines;
-ghost use Rattle.text.specs.Options.{option_of};
+ghost use Rattle.numbers.specs.Options.{option_of};
 ghost use Rattle.numbers.specs.Bits.{signed};
 
 // The greatest integer.

@@ -4,7 +4,6 @@ pub mod FewFields
 pub mod Fields
 pub mod Lines
 pub mod Numbers
-pub mod Options
 pub mod Order
 pub mod Packed
 pub mod Places

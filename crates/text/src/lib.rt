@@ -10,7 +10,7 @@ ghost use Rattle.text.specs.Lines.{line_end, Fields, few_fields};
 ghost use Rattle.text.specs.Words.{find, words_of};
 ghost use Rattle.text.specs.Packed.{Packed};
 ghost use Rattle.text.specs.Numbers.{is_name};
-ghost use Rattle.text.specs.Options.{option_of};
+ghost use Rattle.numbers.specs.Options.{option_of};
 ghost use Rattle.text.specs.Order.{order_of};
 
 use std::cmp::Ordering;
