@@ -1,5 +1,5 @@
 -- Reading a tree by a loop over the open joins: the turns behind a side that was read.
-use Rattle.std.specs.Prelude.{ℕ, suc, ◌+◌, ◌*◌, ◌-◌, ◌%◌, ◌≤◌, refl, set}
+use Rattle.std.specs.Prelude.{ℕ, suc, ◌+◌, ◌*◌, ◌-◌, ◌%◌, ◌≤◌, refl, set, Ok, Err}
 use Rattle.std.proofs.Common.{arith, add-one, ◌∙◌}
 use Rattle.std.proofs.Math.Path.{◌≡◌, sym, ap}
 use Rattle.std.proofs.Math.Bool.{true, false}
@@ -11,7 +11,6 @@ use Rattle.rules.specs.Ast.{join}
 use Rattle.rules.specs.Reader.{turns, optional}
 use Rattle.rules.specs.ReadExpression.{expression}
 use Rattle.rules.specs.ReadStatement.{from_tree}
-use Rattle.text.specs.Answers.{wrong_at, limit_at}
 use Rattle.numbers.specs.Values.{is_one}
 use Rattle.numbers.specs.Kept.{Kept, kept_on, kept-first}
 use Rattle.ast.specs.Table.{row_size}
@@ -22,8 +21,9 @@ use Rattle.from.specs.Trees.{line_in, kind_in, on_in, Closed, TreeTook}
 use Rattle.from.specs.Rows.{sides_before, join-row}
 use Rattle.from.specs.Stack.{code_of, Holds, lefts, holds-push, line-in, kind-in, on_in_lem}
 use Rattle.from.specs.Loop.{held, TreeLoop}
-use Rattle.read_expression.specs.declared.reading.Read as Rd
-use Rattle.read_expression.specs.declared.reading.Read.TheVariants as R
+use Rattle.numbers.specs.declared.refusals.Refusal as code
+use Rattle.numbers.specs.Reasons.{told}
+use Rattle.read_expression.specs.declared.reading.Cursor.{Cursor}
 
 nothing : (fs : List Frame) → length fs ≡ 0 → fs ≡ []
 nothing [] e = refl
@@ -101,10 +101,7 @@ module _ {t : Bytes} {p₀ l₀ c₀ k₀ n₀ : ℕ} {cells₀ rows₀ : List �
               absurd (let x : d - 1 ≡ length fs = omega (arith, opened) in let y = ev ∙ ap (λ i. get_or stack i 0) x ∙ holds.0 in odd (omega (arith, y)))
           go (second m j o a ∷ fs) opened holds count = omega (arith, count, h.begun, h.tables)
 
-      module _ (cells' rows' : List ℕ) (r : Rd.Read) (g : (i : ℕ) → Given (optional (is_one (on_in v)) expression) (Closed t c n v cells cells' rows rows') t p l c i r) where
-        given : Given (optional (is_one (on_in v)) expression) (Closed t c n v cells cells' rows rows') t p l c k r
-        given = g k
-
+      module _ (cells' rows' : List ℕ) where
         closed-no : (x : Refusal) → optional (is_one (on_in v)) expression (here t p l c k) ≡ refused x → turns from_tree (here t p₀ l₀ c₀ k₀) ≡ refused x
         unfolding held lefts Holds code_of
         closed-no x w = go h.frames h.is h.opened h.holds
@@ -119,28 +116,25 @@ module _ {t : Bytes} {p₀ l₀ c₀ k₀ n₀ : ℕ} {cells₀ rows₀ : List �
                 let y = ev ∙ ap (λ i. get_or stack i 0) x ∙ holds.0 in
                 sym is ∙ rest-close-no (here t p l c k) h.fuel fs m j o a h.tree _ (rw (on_in_lem m j o v y) at w)
 
-        pub loop-closed-wrong : {x : ℕ} → r ≡ R.Wrong x → turns from_tree (here t p₀ l₀ c₀ k₀) ≡ wrong_at statement x
-        unfolding Given wrong_at
-        loop-closed-wrong z = closed-no _ (rw z at given)
+        pub loop-closed-refused : (w : code.Refusal) → ((i : ℕ) → Given (optional (is_one (on_in v)) expression) (Closed t c n v cells cells' rows rows') t p l c i (Err w))
+            → turns from_tree (here t p₀ l₀ c₀ k₀) ≡ refused (told statement w)
+        unfolding Given
+        loop-closed-refused w g = closed-no _ (g k)
 
-        pub loop-closed-limit : {x : ℕ} → r ≡ R.Limit x → turns from_tree (here t p₀ l₀ c₀ k₀) ≡ limit_at statement x
-        unfolding Given limit_at
-        loop-closed-limit z = closed-no _ (rw z at given)
-
-        module _ {p' l' c' : ℕ} (z : r ≡ R.Done p' l' c') where
-          took : Took (optional (is_one (on_in v)) expression) (Closed t c n v cells cells' rows rows' c') t p l c k p' l' c'
+        module _ (q : Cursor) (g : (i : ℕ) → Given (optional (is_one (on_in v)) expression) (Closed t c n v cells cells' rows rows') t p l c i (Ok q)) where
+          took : Took (optional (is_one (on_in v)) expression) (Closed t c n v cells cells' rows rows' q.rows) t p l c k q.position q.line q.rows
           unfolding Given
-          took = rw z at given
+          took = g k
 
-          pub closed-moves : p ≤ p'
+          pub closed-moves : p ≤ q.position
           closed-moves = took.moved
 
-          pub loop-closed : length cells' ≡ length cells → length rows' ≡ length rows → TreeLoop t p₀ l₀ c₀ k₀ n₀ cells₀ rows₀ true p' l' c' k (n + 1) (d - 1) stack cells' rows'
+          pub loop-closed : length cells' ≡ length cells → length rows' ≡ length rows → TreeLoop t p₀ l₀ c₀ k₀ n₀ cells₀ rows₀ true q.position q.line q.rows k (n + 1) (d - 1) stack cells' rows'
           unfolding held lefts Holds code_of
           loop-closed cl rl = go h.frames h.is h.opened h.holds h.count h.stand
             where
               -- what was written below row c is as it was
-              below : (cells'' : List ℕ) → Kept 0 (row_size * c') cells' cells'' → Kept 0 (row_size * c) cells cells''
+              below : (cells'' : List ℕ) → Kept 0 (row_size * q.rows) cells' cells'' → Kept 0 (row_size * c) cells cells''
               below cells'' w = kept_on took.holds.cells-kept
                   (kept-first (row_size * c) w (omega (arith, took.more)))
 
@@ -148,7 +142,7 @@ module _ {t : Bytes} {p₀ l₀ c₀ k₀ n₀ : ℕ} {cells₀ rows₀ : List �
                   → n + length (held true h.tree (lefts fs)) + 2 * k₀ ≡ n₀ + 2 * k
                   → ((cells'' : List ℕ) → Kept 0 (row_size * c) cells cells'' → (b : Bytes)
                   → trees_before b t cells'' rows n ≡ held true h.tree (lefts fs) ++ trees_before b t cells'' rows₀ n₀)
-                  → TreeLoop t p₀ l₀ c₀ k₀ n₀ cells₀ rows₀ true p' l' c' k (n + 1) (d - 1) stack cells' rows'
+                  → TreeLoop t p₀ l₀ c₀ k₀ n₀ cells₀ rows₀ true q.position q.line q.rows k (n + 1) (d - 1) stack cells' rows'
               go [] is opened holds count stand = absurd (inner opened)
               go (first m j o ∷ fs) is opened holds count stand =
                   absurd (let x : d - 1 ≡ length fs = omega (arith, opened) in let y = ev ∙ ap (λ i. get_or stack i 0) x ∙ holds.0 in odd (omega (arith, y)))

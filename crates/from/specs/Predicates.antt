@@ -2,7 +2,7 @@
 use Prim.Native.Nat.{ℕ, suc, ◌+◌, ◌*◌}
 use Rattle.std.proofs.Common.{arith}
 use Rattle.std.proofs.Math.Numerals.{add-one}
-use Rattle.std.specs.Prelude.{◌≡◌, refl, true, List, [], ◌∷◌, length}
+use Rattle.std.specs.Prelude.{◌≡◌, refl, true, List, [], ◌∷◌, length, Ok, Err}
 use Rattle.std.proofs.Math.Path.{ap}
 use Rattle.std.proofs.Math.Option.{none, some}
 use Rattle.std.proofs.lemmas.List.Edits.{sets}
@@ -12,7 +12,6 @@ use Rattle.rules.specs.Lists.{Bytes}
 use Rattle.rules.specs.Ast.{nil, cons}
 use Rattle.rules.specs.Reader.{optional}
 use Rattle.rules.specs.ReadExpression.{times, expression}
-use Rattle.text.specs.Answers.{wrong_at, limit_at}
 use Rattle.numbers.specs.Values.{is_one}
 use Rattle.numbers.specs.Kept.{kept-all}
 use Rattle.ast.specs.Table.{row_size, table_size}
@@ -22,14 +21,14 @@ use Rattle.read_expression.proofs.Rows.{rows-kept, tree-back}
 use Rattle.from.specs.Rules.{single, single-no, without}
 use Rattle.from.specs.Rows.{sides_before}
 use Rattle.from.specs.Trees.{line_in, kind_in, on_in, Closed}
-use Rattle.read_expression.specs.declared.reading.Read as Rd
-use Rattle.read_expression.specs.declared.reading.Read.TheVariants as R
+use Rattle.numbers.specs.declared.refusals.Refusal as code
+use Rattle.read_expression.specs.declared.reading.Cursor.{Cursor}
 
 module _ (t : Bytes) (p l c n v : ℕ) (cells rows : List ℕ) where
   -- none follows
   pub bare-closed : (on_in v ≡ 1 → ⊥) → Position t p l c → (s : ℕ) → s ≡ sides_before rows n → (rows' : List ℕ)
       → rows' ≡ sets rows (row_size * n) (kind_in v ∷ line_in v ∷ 0 ∷ 0 ∷ 0 ∷ 0 ∷ 0 ∷ s ∷ [])
-      → (k : ℕ) → Given (optional (is_one (on_in v)) expression) (Closed t c n v cells cells rows rows') t p l c k (R.Done p l c)
+      → (k : ℕ) → Given (optional (is_one (on_in v)) expression) (Closed t c n v cells cells rows rows') t p l c k (Ok (record { position = p; line = l; rows = c }))
   unfolding Given is_one predicate_at
   bare-closed h w s y rows' e k = record {
     value = none;
@@ -40,8 +39,7 @@ module _ (t : Bytes) (p l c n v : ℕ) (cells rows : List ℕ) where
     holds = record { number = 0; written = rw (← y) e; stands = λ cells'' g b. refl; cells-kept = kept-all 0 _ _ };
   }
 
-  module _ (on : on_in v ≡ 1) (cells' : List ℕ) (r : Rd.Read) (g : (k : ℕ)
-      → Given (times 1 expression) (Rows t c cells cells') t p l c k r) (rows' : List ℕ) where
+  module _ (on : on_in v ≡ 1) (cells' rows' : List ℕ) where
     one : is_one (on_in v) ≡ true
     unfolding is_one
     one = eq-eqb (on_in v) 1 on
@@ -49,28 +47,25 @@ module _ (t : Bytes) (p l c n v : ℕ) (cells rows : List ℕ) where
     refuses : (k : ℕ) (x : Refusal) → times 1 expression (here t p l c k) ≡ refused x → optional (is_one (on_in v)) expression (here t p l c k) ≡ refused x
     refuses k x e = rw one (single-no expression (here t p l c k) x e)
 
-    pub predicate-wrong : {x : ℕ} → r ≡ R.Wrong x → (k : ℕ) → Given (optional (is_one (on_in v)) expression) (Closed t c n v cells cells' rows rows') t p l c k (R.Wrong x)
-    unfolding Given wrong_at
-    predicate-wrong z k = refuses k _ (rw z at (g k))
-
-    pub predicate-limit : {x : ℕ} → r ≡ R.Limit x → (k : ℕ) → Given (optional (is_one (on_in v)) expression) (Closed t c n v cells cells' rows rows') t p l c k (R.Limit x)
-    unfolding Given limit_at
-    predicate-limit z k = refuses k _ (rw z at (g k))
+    pub predicate-refused : (w : code.Refusal) → ((k : ℕ) → Given (times 1 expression) (Rows t c cells cells') t p l c k (Err w))
+        → (k : ℕ) → Given (optional (is_one (on_in v)) expression) (Closed t c n v cells cells' rows rows') t p l c k (Err w)
+    unfolding Given
+    predicate-refused w g k = refuses k _ (g k)
 
     -- one was read
-    module _ {p' l' c' : ℕ} (z : r ≡ R.Done p' l' c') where
-      took : (k : ℕ) → Took (times 1 expression) (Rows t c cells cells' c') t p l c k p' l' c'
+    module _ (q : Cursor) (g : (k : ℕ) → Given (times 1 expression) (Rows t c cells cells') t p l c k (Ok q)) where
+      took : (k : ℕ) → Took (times 1 expression) (Rows t c cells cells' q.rows) t p l c k q.position q.line q.rows
       unfolding Given
-      took k = rw z at (g k)
+      took k = g k
 
       pub predicate-closed : length cells ≡ table_size → (s : ℕ) → s ≡ sides_before rows n
           → rows' ≡ sets rows (row_size * n) (kind_in v ∷ line_in v ∷ (c + 1) ∷ 0 ∷ 0 ∷ 0 ∷ 0 ∷ s ∷ [])
-          → (k : ℕ) → Given (optional (is_one (on_in v)) expression) (Closed t c n v cells cells' rows rows') t p l c k (R.Done p' l' c')
+          → (k : ℕ) → Given (optional (is_one (on_in v)) expression) (Closed t c n v cells cells' rows rows') t p l c k (Ok q)
       unfolding Given predicate_at
       predicate-closed h s u e k =
           let w = took k in
-          let i = single expression (here t p l c k) w.value (here t p' l' c' k) w.is in
-          let rs : Rows t c cells cells' c' (cons i.expr nil) = (rw i.one at w.holds) in
+          let i = single expression (here t p l c k) w.value (here t q.position q.line q.rows k) w.is in
+          let rs : Rows t c cells cells' q.rows (cons i.expr nil) = (rw i.one at w.holds) in
           record {
             value = some i.expr;
             is = rw one i.is;

@@ -1,5 +1,5 @@
 -- All trees of FROM, by a loop over them.
-use Rattle.std.specs.Prelude.{ℕ, suc, ◌+◌, ◌*◌, ◌-◌, ◌≤◌, ◌<◌, ◌≡◌, true, false, length, replicate}
+use Rattle.std.specs.Prelude.{ℕ, suc, ◌+◌, ◌*◌, ◌-◌, ◌≤◌, ◌<◌, ◌≡◌, true, false, length, replicate, Ok, Err}
 use Rattle.std.proofs.Common.{arith, ◌∙◌}
 use Rattle.std.proofs.Math.Path.{refl, sym, ap}
 use mathlib.Core.List.{List, [], ◌∷◌, append-nil, reverse, reverse-cons}
@@ -14,7 +14,7 @@ use Rattle.rules.specs.Reader.{Place, key, line_here, one_of, turns}
 use Rattle.rules.specs.ReadStatement.{from_heads, from_tree, froms}
 use Rattle.text.specs.Lines.{line_end}
 use Rattle.text.specs.Reading.{place-length}
-use Rattle.text.specs.Answers.{wrong_at, limit_at, bind_ok, bind-no, prefixed, prefixed-none, prefixed-twice, give-first}
+use Rattle.text.specs.Answers.{limit_at, bind_ok, bind-no, prefixed, prefixed-none, prefixed-twice, give-first}
 use Rattle.numbers.specs.Kept.{Kept, kept-all, kept_on, kept-first}
 use Rattle.ast.specs.Table.{row_size, table_size}
 use Rattle.read_expression.specs.Reading.{here, Position}
@@ -27,9 +27,10 @@ use Rattle.from.specs.Trees.{TreeTook, TreeReady, TreeRead}
 use Rattle.from.specs.Loop.{loop-begin, loop-limit, loop-table}
 use Rattle.from.specs.Closed.{loop-end}
 use Rattle.from.specs.declared.record.FromRecord.{FromRecord}
-use Rattle.from.specs.declared.Tree as Tr
-use Rattle.from.specs.declared.Tree.TheVariants as T
-use Rattle.from.specs.declared.Froms.TheVariants as F
+use Rattle.from.specs.declared.Froms.{Froms}
+use Rattle.numbers.specs.declared.refusals.Reason.TheVariants.{LimitPassed}
+use Rattle.numbers.specs.declared.refusals.Refusal as code
+use Rattle.numbers.specs.Reasons.{reason_of}
 
 -- A TREE THAT IS ONE TABLE
 unfoldable no_joins : List ℕ
@@ -41,13 +42,13 @@ no_joins_lem t p h = omega (arith, length-replicate {A = ℕ} 5041 0)
 
 module _ {t : Bytes} {p l c k n : ℕ} {cells rows : List ℕ} (w : TreeReady t p l c k n cells rows) {r : FromRecord}
     (f : (l c k : ℕ) → IsFromRow t (line_end t p) (one_of from_heads (line_here (here t p l c k))) r) (z : r.kind ≡ 1) where
-  pub table-limit : most_from_tables ≤ k → TreeRead t p l c k n cells cells rows rows (T.Limit l)
-  unfolding TreeRead
+  pub table-limit : most_from_tables ≤ k → TreeRead t p l c k n cells cells rows rows (Err (record { reason = LimitPassed; line = l }))
+  unfolding TreeRead limit_at reason_of
   table-limit m = loop-limit (loop-begin no_joins w (no_joins_lem t p w.position.short)) f z m
 
   pub table-took : k < most_from_tables → (rows' : List ℕ)
       → rows' ≡ sets rows (row_size * n) (1 ∷ l ∷ 0 ∷ r.a ∷ r.b ∷ r.c ∷ r.d ∷ 0 ∷ []) → length rows' ≡ length rows
-      → TreeRead t p l c k n cells cells rows rows' (T.Done r.next (l + 1) c (k + 1) (n + 1))
+      → TreeRead t p l c k n cells cells rows rows' (Ok (record { at = record { position = r.next; line = l + 1; rows = c }; tables = k + 1; rows = n + 1 }))
   unfolding TreeRead
   table-took m rows' e g = loop-end (loop-table (loop-begin no_joins w (no_joins_lem t p w.position.short)) f z m rows' e g) refl
 
@@ -106,7 +107,7 @@ module _ {t : Bytes} {p₀ l₀ c₀ : ℕ} {cells₀ : List ℕ} {p l c k n : �
   rest-is = rw fueled at h.is
 
   -- no more
-  pub froms-end : any (same (key (here t p l c k))) from_words ≡ false → FromsRead t p₀ l₀ c₀ cells₀ cells rows (F.Done p l c n)
+  pub froms-end : any (same (key (here t p l c k))) from_words ≡ false → FromsRead t p₀ l₀ c₀ cells₀ cells rows (Ok (record { at = record { position = p; line = l; rows = c }; tables = k; rows = n }))
   unfolding FromsRead prefixed
   froms-end e = record {
     value = reverse h.trees;
@@ -121,28 +122,24 @@ module _ {t : Bytes} {p₀ l₀ c₀ : ℕ} {cells₀ : List ℕ} {p l c k n : �
   }
 
   -- one more
-  module _ (e : any (same (key (here t p l c k))) from_words ≡ true) (cells' rows' : List ℕ) (r : Tr.Tree) (g : TreeRead t p l c k n cells cells' rows rows' r) where
+  module _ (e : any (same (key (here t p l c k))) from_words ≡ true) (cells' rows' : List ℕ) where
     froms-refused : (x : Refusal) → turns from_tree (here t p l c k) ≡ refused x → turns froms (here t p₀ l₀ c₀ 0) ≡ refused x
     unfolding prefixed
     froms-refused x w = sym rest-is ∙ rw (froms-no (here t p l c k) (h.fuel - 1) e x w)
 
-    pub froms-wrong : {x : ℕ} → r ≡ T.Wrong x → FromsRead t p₀ l₀ c₀ cells₀ cells' rows' (F.Wrong x)
-    unfolding FromsRead TreeRead wrong_at
-    froms-wrong z = froms-refused _ (rw z at g)
+    pub froms-stopped : (w : code.Refusal) → TreeRead t p l c k n cells cells' rows rows' (Err w) → FromsRead t p₀ l₀ c₀ cells₀ cells' rows' (Err w)
+    unfolding FromsRead TreeRead
+    froms-stopped w g = froms-refused _ g
 
-    pub froms-limit : {x : ℕ} → r ≡ T.Limit x → FromsRead t p₀ l₀ c₀ cells₀ cells' rows' (F.Limit x)
-    unfolding FromsRead TreeRead limit_at
-    froms-limit z = froms-refused _ (rw z at g)
-
-    module _ {p' l' c' k' n' : ℕ} (z : r ≡ T.Done p' l' c' k' n') where
-      took : TreeTook t p l c k n cells cells' rows rows' p' l' c' k' n'
+    module _ (f : Froms) (g : TreeRead t p l c k n cells cells' rows rows' (Ok f)) where
+      took : TreeTook t p l c k n cells cells' rows rows' f.at.position f.at.line f.at.rows f.tables f.rows
       unfolding TreeRead
-      took = rw z at g
+      took = g
 
-      pub froms-moved : (p < p') × (p' ≤ length t)
+      pub froms-moved : (p < f.at.position) × (f.at.position ≤ length t)
       froms-moved = (took.moved, took.position.within)
 
-      pub froms-on : length cells' ≡ length cells → length rows' ≡ length rows → FromsLoop t p₀ l₀ c₀ cells₀ p' l' c' k' n' cells' rows'
+      pub froms-on : length cells' ≡ length cells → length rows' ≡ length rows → FromsLoop t p₀ l₀ c₀ cells₀ f.at.position f.at.line f.at.rows f.tables f.rows cells' rows'
       froms-on cl rl = record {
         trees = took.value ∷ h.trees;
         fuel = h.fuel - 1;
@@ -163,6 +160,6 @@ module _ {t : Bytes} {p₀ l₀ c₀ : ℕ} {cells₀ : List ℕ} {p l c k n : �
             (kept-first (row_size * c₀) took.cells-kept (omega (arith, h.more)));
       }
         where
-          below : (cells'' : List ℕ) → Kept 0 (row_size * c') cells' cells'' → Kept 0 (row_size * c) cells cells''
+          below : (cells'' : List ℕ) → Kept 0 (row_size * f.at.rows) cells' cells'' → Kept 0 (row_size * c) cells cells''
           below cells'' y = kept_on took.cells-kept
               (kept-first (row_size * c) y (omega (arith, took.more)))

@@ -1,21 +1,21 @@
 -- One tree of FROM: the contracts of reading it and of closing a join.
-use Rattle.std.specs.Prelude.{ℕ, ◌+◌, ◌*◌, ◌/◌, ◌%◌, ◌≤◌, ◌<◌, ◌≡◌, List, [], ◌∷◌, length}
+use Rattle.std.specs.Prelude.{ℕ, ◌+◌, ◌*◌, ◌/◌, ◌%◌, ◌≤◌, ◌<◌, ◌≡◌, List, [], ◌∷◌, length, Result, Ok, Err}
 use Rattle.std.proofs.Math.Option.{Option}
 use Rattle.std.proofs.lemmas.List.Edits.{sets}
 use Rattle.rules.specs.Limits.{most_from_tables}
-use Rattle.rules.specs.Refusals.{statement, ok}
+use Rattle.rules.specs.Refusals.{statement, ok, refused}
 use Rattle.rules.specs.Lists.{Bytes}
 use Rattle.rules.specs.Ast.{Expr, From}
 use Rattle.rules.specs.Reader.{turns}
 use Rattle.rules.specs.ReadStatement.{from_tree}
-use Rattle.text.specs.Answers.{wrong_at, limit_at}
+use Rattle.numbers.specs.declared.refusals.Refusal as code
+use Rattle.numbers.specs.Reasons.{told}
 use Rattle.numbers.specs.Kept.{Kept}
 use Rattle.ast.specs.Table.{row_size, table_size}
 use Rattle.read_expression.specs.Reading.{here, Position}
 use Rattle.from.specs.Layout.{predicate_at, trees_before}
 use Rattle.from.specs.Rows.{sides_before}
-use Rattle.from.specs.declared.Tree as Tr
-use Rattle.from.specs.declared.Tree.TheVariants as T
+use Rattle.from.specs.declared.Froms.{Froms}
 
 -- the numbers of an open join: its line, its kind, whether a predicate follows, and whether its left side is read
 unfoldable pub line_in : ℕ → ℕ
@@ -47,10 +47,9 @@ pub record TreeTook (t : Bytes) (p l c k n : ℕ) (cells cells' rows rows' : Lis
       → trees_before b t cells'' rows' n' ≡ value ∷ trees_before b t cells'' rows n
   pub cells-kept : Kept 0 (row_size * c) cells cells'
 
-unfoldable pub TreeRead : (t : Bytes) (p l c k n : ℕ) (cells cells' rows rows' : List ℕ) → Tr.Tree → Type 0
-TreeRead t p l c k n cells cells' rows rows' (T.Done p' l' c' k' n') = TreeTook t p l c k n cells cells' rows rows' p' l' c' k' n'
-TreeRead t p l c k n cells cells' rows rows' (T.Wrong x) = turns from_tree (here t p l c k) ≡ wrong_at statement x
-TreeRead t p l c k n cells cells' rows rows' (T.Limit x) = turns from_tree (here t p l c k) ≡ limit_at statement x
+unfoldable pub TreeRead : (t : Bytes) (p l c k n : ℕ) (cells cells' rows rows' : List ℕ) → Result Froms code.Refusal → Type 0
+TreeRead t p l c k n cells cells' rows rows' (Ok f) = TreeTook t p l c k n cells cells' rows rows' f.at.position f.at.line f.at.rows f.tables f.rows
+TreeRead t p l c k n cells cells' rows rows' (Err w) = turns from_tree (here t p l c k) ≡ refused (told statement w)
 
 -- a tree may stand here, and its rows have room
 pub record TreeReady (t : Bytes) (p l c k n : ℕ) (cells rows : List ℕ) : Type 0 where

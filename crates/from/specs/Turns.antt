@@ -1,17 +1,15 @@
 -- One turn of the loop over the open joins: the contract.
-use Rattle.std.specs.Prelude.{ℕ, ◌<◌, ◌≡◌, List}
-use Rattle.rules.specs.Refusals.{statement}
+use Rattle.std.specs.Prelude.{ℕ, ◌<◌, ◌≡◌, List, Option, Result, Ok, Err, Some, None}
+use Rattle.rules.specs.Refusals.{statement, refused}
 use Rattle.rules.specs.Lists.{Bytes}
 use Rattle.rules.specs.Reader.{turns}
 use Rattle.rules.specs.ReadStatement.{from_tree}
-use Rattle.text.specs.Answers.{wrong_at, limit_at}
+use Rattle.numbers.specs.declared.refusals.Refusal as code
+use Rattle.numbers.specs.Reasons.{told}
 use Rattle.read_expression.specs.Reading.{here}
 use Rattle.from.specs.Trees.{TreeTook, TreeRead}
 use Rattle.from.specs.Loop.{TreeLoop, turns_left}
 use Rattle.from.specs.declared.Stand.{Stand}
-use Rattle.from.specs.declared.Tree.TheVariants as T
-use Rattle.from.specs.declared.Turn as Tu
-use Rattle.from.specs.declared.Turn.TheVariants as U
 
 -- where a tree starts, and the numbers that stood there
 pub record Start : Type 0 where
@@ -25,7 +23,7 @@ pub record Start : Type 0 where
 
 -- reading a tree from its start on has come to s
 abbrev pub Reads : Bytes → Start → Stand → List ℕ → List ℕ → List ℕ → Type 0
-Reads t g s stack cells rows = TreeLoop t g.p g.l g.c g.k g.n g.cells g.rows s.done s.p s.l s.c s.k s.n s.d stack cells rows
+Reads t g s stack cells rows = TreeLoop t g.p g.l g.c g.k g.n g.cells g.rows s.done s.froms.at.position s.froms.at.line s.froms.at.rows s.froms.tables s.froms.rows s.open stack cells rows
 
 -- a tree was begun somewhere, and reading it has come to s
 pub record TreeBegun (t : Bytes) (s : Stand) (stack cells rows : List ℕ) : Type 0 where
@@ -39,33 +37,28 @@ pub record RowsBegun (t : Bytes) (s : Stand) (stack rows : List ℕ) : Type 0 wh
 
 pub record Turned (t : Bytes) (g : Start) (s s' : Stand) (stack' cells' rows' : List ℕ) : Type 0 where
   pub reads : Reads t g s' stack' cells' rows'
-  pub falls : turns_left t s'.p s'.d s'.done < turns_left t s.p s.d s.done
+  pub falls : turns_left t s'.froms.at.position s'.open s'.done < turns_left t s.froms.at.position s.open s.done
 
 -- what a turn says of a tree that was read from g on to s
-unfoldable pub TurnRead : Bytes → Start → Stand → (stack' cells' rows' : List ℕ) → Tu.Turn → Type 0
-TurnRead t g s stack' cells' rows' (U.On s') = Turned t g s s' stack' cells' rows'
-TurnRead t g s stack' cells' rows' U.End = TreeTook t g.p g.l g.c g.k g.n g.cells cells' g.rows rows' s.p s.l s.c s.k s.n
-TurnRead t g s stack' cells' rows' (U.Wrong x) = turns from_tree (here t g.p g.l g.c g.k) ≡ wrong_at statement x
-TurnRead t g s stack' cells' rows' (U.Limit x) = turns from_tree (here t g.p g.l g.c g.k) ≡ limit_at statement x
+unfoldable pub TurnRead : Bytes → Start → Stand → (stack' cells' rows' : List ℕ) → Result (Option Stand) code.Refusal → Type 0
+TurnRead t g s stack' cells' rows' (Ok (Some s')) = Turned t g s s' stack' cells' rows'
+TurnRead t g s stack' cells' rows' (Ok None) = TreeTook t g.p g.l g.c g.k g.n g.cells cells' g.rows rows' s.froms.at.position s.froms.at.line s.froms.at.rows s.froms.tables s.froms.rows
+TurnRead t g s stack' cells' rows' (Err w) = turns from_tree (here t g.p g.l g.c g.k) ≡ refused (told statement w)
 
 -- a turn from s on, whatever tree is being read
-abbrev pub TurnFrom : Bytes → Stand → (stack stack' cells cells' rows rows' : List ℕ) → Tu.Turn → Type 0
+abbrev pub TurnFrom : Bytes → Stand → (stack stack' cells cells' rows rows' : List ℕ) → Result (Option Stand) code.Refusal → Type 0
 TurnFrom t s stack stack' cells cells' rows rows' r = (g : Start) → Reads t g s stack cells rows → TurnRead t g s stack' cells' rows' r
 
 -- what a turn was
-module _ (t : Bytes) (g : Start) (s : Stand) (stack' cells' rows' : List ℕ) (r : Tu.Turn) (h : TurnRead t g s stack' cells' rows' r) where
-  pub turn_on : {s' : Stand} → r ≡ U.On s' → Turned t g s s' stack' cells' rows'
+module _ (t : Bytes) (g : Start) (s : Stand) (stack' cells' rows' : List ℕ) where
+  pub turn_on : {s' : Stand} → TurnRead t g s stack' cells' rows' (Ok (Some s')) → Turned t g s s' stack' cells' rows'
   unfolding TurnRead
-  turn_on z = rw z at h
+  turn_on h = h
 
-  pub turn_end : r ≡ U.End → TreeRead t g.p g.l g.c g.k g.n g.cells cells' g.rows rows' (T.Done s.p s.l s.c s.k s.n)
+  pub turn_end : TurnRead t g s stack' cells' rows' (Ok None) → TreeRead t g.p g.l g.c g.k g.n g.cells cells' g.rows rows' (Ok s.froms)
   unfolding TurnRead TreeRead
-  turn_end z = rw z at h
+  turn_end h = h
 
-  pub turn-wrong : {x : ℕ} → r ≡ U.Wrong x → TreeRead t g.p g.l g.c g.k g.n g.cells cells' g.rows rows' (T.Wrong x)
+  pub turn-refused : (w : code.Refusal) → TurnRead t g s stack' cells' rows' (Err w) → TreeRead t g.p g.l g.c g.k g.n g.cells cells' g.rows rows' (Err w)
   unfolding TurnRead TreeRead
-  turn-wrong z = rw z at h
-
-  pub turn-limit : {x : ℕ} → r ≡ U.Limit x → TreeRead t g.p g.l g.c g.k g.n g.cells cells' g.rows rows' (T.Limit x)
-  unfolding TurnRead TreeRead
-  turn-limit z = rw z at h
+  turn-refused w h = h

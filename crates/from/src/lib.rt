@@ -19,7 +19,8 @@ ghost use Rattle.from.specs.Turns.{TreeBegun, RowsBegun, TurnFrom};
 use self::record::{TABLE, from_record, from_stands};
 use self::roots::sides;
 use ast::rows::ROW_SIZE;
-use read_expression::reading::{Read, read_expressions};
+use numbers::refusals::{Reason, Refusal};
+use read_expression::reading::{Cursor, read_expressions};
 
 // Most tables in FROM.
 const MOST_TABLES: u32 = 16;
@@ -32,42 +33,20 @@ const FEW_OPEN: usize = 64;
 
 const SHORT_REST: usize = 845;
 
-// What was read: the position behind it, its line, the expression rows and the FROM rows so far; or 2 or 3 at a line.
+// Where reading FROM stands: in the text, and how many tables and FROM rows there are so far.
 #[derive(Clone, Copy)]
-pub enum Froms {
-    Done(usize, u32, u32, u32),
-    Wrong(u32),
-    Limit(u32),
+pub struct Froms {
+    pub at: Cursor,
+    pub tables: u32,
+    pub rows: u32,
 }
 
-// One tree that was read: the position behind it, its line, the expression rows, the tables and the FROM rows so far; or 2 or 3 at a line.
-#[derive(Clone, Copy)]
-enum Tree {
-    Done(usize, u32, u32, u32, u32),
-    Wrong(u32),
-    Limit(u32),
-}
-
-// Where reading a tree stands: the position, its line, the expression rows, the tables and the FROM rows so far, how many joins are open, and
-// whether a side was read.
+// The same inside a tree: how many joins are open, and whether a side was read.
 #[derive(Clone, Copy)]
 struct Stand {
-    p: usize,
-    l: u32,
-    c: u32,
-    k: u32,
-    n: u32,
-    d: usize,
+    froms: Froms,
+    open: usize,
     done: bool,
-}
-
-// A turn: where reading stands behind it, or the tree has ended; or 2 or 3 at a line.
-#[derive(Clone, Copy)]
-enum Turn {
-    On(Stand),
-    End,
-    Wrong(u32),
-    Limit(u32),
 }
 
 // FROM row n.
@@ -100,17 +79,15 @@ fn put_row(
 // The predicate of an open join, if it has one, and its row.
 fn close_join(
     t: &[u8],
-    p: usize,
-    l: u32,
-    c: u32,
+    at: Cursor,
     n: u32,
     v: u32,
     cells: &mut [u32],
     rows: &mut [u32],
-) -> Read
-    requires fact_1 { Position t.now p l c }
+) -> Result<Cursor, Refusal>
+    requires fact_1 { Position t.now at.position at.line at.rows }
     requires fact_2 { (n ≤ 30) × (length cells.old ≡ table_size) × (length rows.old ≡ 248) }
-    ensures { (k : ℕ) → Given (optional (is_one (on_in v)) expression) (Closed t.now c n v cells.old cells.new rows.old rows.new) t.now p l c k result }
+    ensures { (k : ℕ) → Given (optional (is_one (on_in v)) expression) (Closed t.now at.rows n v cells.old cells.new rows.old rows.new) t.now at.position at.line at.rows k result }
 {
     let line = v / 32;
     let kind = v / 4 % 8;
@@ -118,98 +95,103 @@ fn close_join(
     let s = sides(rows, n);
     if on != 1 {
         put_row(rows, n, kind, line, 0, 0, 0, 0, 0, s);
-        return Read::Done(p, l, c);
+        return Ok(at);
     }
-    let r = read_expressions(t, p, l, c, 1, cells);
-    match r {
-        Read::Done(e, m, x) => {
-            put_row(rows, n, kind, line, c + 1, 0, 0, 0, 0, s);
-            Read::Done(e, m, x)
-        }
-        Read::Wrong(x) => Read::Wrong(x),
-        Read::Limit(x) => Read::Limit(x),
-    }
+    let behind = read_expressions(t, at, 1, cells)?;
+    put_row(rows, n, kind, line, at.rows + 1, 0, 0, 0, 0, s);
+    Ok(behind)
 }
 
 // The record of a side that is to be read: a join more is open, or a table is read.
-fn next_side(t: &[u8], s: Stand, stack: &mut [u32], rows: &mut [u32]) -> Turn
+fn next_side(
+    t: &[u8],
+    s: Stand,
+    stack: &mut [u32],
+    rows: &mut [u32],
+) -> Result<Option<Stand>, Refusal>
     requires fact_1 { RowsBegun t.now s stack.old rows.old }
     requires fact_2 { s.done ≡ false }
     ensures { (cells : List ℕ) → TurnFrom t.now s stack.old stack.new cells cells rows.old rows.new result }
 {
-    let h = from_record(t, s.p);
+    let at = s.froms.at;
+    let h = from_record(t, at.position);
     if h.kind == 0 {
-        return Turn::Wrong(s.l);
+        return Err(Reason::WrongRecord.at(at.line));
     }
-    let d = s.d;
+    let next = Cursor {
+        position: h.next,
+        line: at.line + 1,
+        rows: at.rows,
+    };
+    let d = s.open;
     if h.kind != TABLE {
-        stack[d] = s.l * 32 + h.kind * 4 + h.on * 2;
-        return Turn::On(Stand {
-            p: h.next,
-            l: s.l + 1,
-            c: s.c,
-            k: s.k,
-            n: s.n,
-            d: d + 1,
+        stack[d] = at.line * 32 + h.kind * 4 + h.on * 2;
+        return Ok(Some(Stand {
+            froms: Froms {
+                at: next,
+                ..s.froms
+            },
+            open: d + 1,
             done: false,
-        });
+        }));
     }
-    if MOST_TABLES <= s.k {
-        return Turn::Limit(s.l);
+    let froms = s.froms;
+    if MOST_TABLES <= froms.tables {
+        return Err(Reason::LimitPassed.at(at.line));
     }
-    put_row(rows, s.n, TABLE, s.l, 0, h.a, h.b, h.c, h.d, 0);
-    Turn::On(Stand {
-        p: h.next,
-        l: s.l + 1,
-        c: s.c,
-        k: s.k + 1,
-        n: s.n + 1,
-        d: d,
+    put_row(rows, froms.rows, TABLE, at.line, 0, h.a, h.b, h.c, h.d, 0);
+    Ok(Some(Stand {
+        froms: Froms {
+            at: next,
+            tables: froms.tables + 1,
+            rows: froms.rows + 1,
+        },
+        open: d,
         done: true,
-    })
+    }))
 }
 
 // Behind a side that was read: the right one follows, or the join is closed, or the tree has ended.
-fn end_side(t: &[u8], s: Stand, stack: &mut [u32], cells: &mut [u32], rows: &mut [u32]) -> Turn
+fn end_side(
+    t: &[u8],
+    s: Stand,
+    stack: &mut [u32],
+    cells: &mut [u32],
+    rows: &mut [u32],
+) -> Result<Option<Stand>, Refusal>
     requires fact_1 { TreeBegun t.now s stack.old cells.old rows.old }
     requires fact_2 { s.done ≡ true }
     ensures { TurnFrom t.now s stack.old stack.new cells.old cells.new rows.old rows.new result }
 {
-    if s.d == 0 {
-        return Turn::End;
+    if s.open == 0 {
+        return Ok(None);
     }
-    let d = s.d - 1;
+    let d = s.open - 1;
     let v = stack[d];
     if v % 2 == 0 {
         stack[d] = v + 1;
-        return Turn::On(Stand {
-            p: s.p,
-            l: s.l,
-            c: s.c,
-            k: s.k,
-            n: s.n,
-            d: s.d,
-            done: false,
-        });
+        return Ok(Some(Stand { done: false, ..s }));
     }
-    let r = close_join(t, s.p, s.l, s.c, s.n, v, cells, rows);
-    match r {
-        Read::Done(p, l, c) => Turn::On(Stand {
-            p: p,
-            l: l,
-            c: c,
-            k: s.k,
-            n: s.n + 1,
-            d: d,
-            done: true,
-        }),
-        Read::Wrong(x) => Turn::Wrong(x),
-        Read::Limit(x) => Turn::Limit(x),
-    }
+    let at = close_join(t, s.froms.at, s.froms.rows, v, cells, rows)?;
+    Ok(Some(Stand {
+        froms: Froms {
+            at,
+            tables: s.froms.tables,
+            rows: s.froms.rows + 1,
+        },
+        open: d,
+        done: true,
+    }))
 }
 
-// One record, or the end of a side.
-fn take_turn(t: &[u8], s: Stand, stack: &mut [u32], cells: &mut [u32], rows: &mut [u32]) -> Turn
+// One record, or the end of a side; none where the tree has ended.
+fn take_turn(
+    t: &[u8],
+    s: Stand,
+    stack: &mut [u32],
+    cells: &mut [u32],
+    rows: &mut [u32],
+) -> Result<Option<Stand>, Refusal>
     requires { TreeBegun t.now s stack.old cells.old rows.old }
     ensures { TurnFrom t.now s stack.old stack.new cells.old cells.new rows.old rows.new result }
 {
@@ -220,126 +202,91 @@ fn take_turn(t: &[u8], s: Stand, stack: &mut [u32], cells: &mut [u32], rows: &mu
     next_side(t, s, stack, rows)
 }
 
-// The tree at a position, behind k tables and n FROM rows, by a stack of the joins that are open, the innermost last: line, kind, whether a
-// predicate follows, and whether the left side is read.
+// The tree that stands here, by a stack of the joins that are open, the innermost last: line, kind, whether a predicate follows, and whether the
+// left side is read.
 fn read_joins(
     t: &[u8],
-    p: usize,
-    l: u32,
-    c: u32,
-    k: u32,
-    n: u32,
+    froms: Froms,
     stack: &mut [u32],
     cells: &mut [u32],
     rows: &mut [u32],
-) -> Tree
-    requires fact_1 { TreeReady t.now p l c k n cells.old rows.old }
-    requires fact_2 { length t.now < p + 13 * length stack.old + 13 }
-    ensures { TreeRead t.now p l c k n cells.old cells.new rows.old rows.new result }
+) -> Result<Froms, Refusal>
+    requires fact_1 { TreeReady t.now froms.at.position froms.at.line froms.at.rows froms.tables froms.rows cells.old rows.old }
+    requires fact_2 { length t.now < froms.at.position + 13 * length stack.old + 13 }
+    ensures { TreeRead t.now froms.at.position froms.at.line froms.at.rows froms.tables froms.rows cells.old cells.new rows.old rows.new result }
 {
     let mut s = Stand {
-        p: p,
-        l: l,
-        c: c,
-        k: k,
-        n: n,
-        d: 0,
+        froms,
+        open: 0,
         done: false,
     };
-    loop {
-        let r = take_turn(t, s, stack, cells, rows);
-        match r {
-            Turn::On(x) => {
-                s = x;
-            }
-            Turn::End => {
-                return Tree::Done(s.p, s.l, s.c, s.k, s.n);
-            }
-            Turn::Wrong(x) => {
-                return Tree::Wrong(x);
-            }
-            Turn::Limit(x) => {
-                return Tree::Limit(x);
-            }
-        }
+    while let Some(x) = take_turn(t, s, stack, cells, rows)? {
+        s = x;
     }
+    Ok(s.froms)
 }
 
 // The same, with a stack of its own, long enough for the rest of the text.
 fn read_joined(
     t: &[u8],
-    p: usize,
-    l: u32,
-    c: u32,
-    k: u32,
-    n: u32,
+    froms: Froms,
     cells: &mut [u32],
     rows: &mut [u32],
-) -> Tree
-    requires { TreeReady t.now p l c k n cells.old rows.old }
-    ensures { TreeRead t.now p l c k n cells.old cells.new rows.old rows.new result }
+) -> Result<Froms, Refusal>
+    requires { TreeReady t.now froms.at.position froms.at.line froms.at.rows froms.tables froms.rows cells.old rows.old }
+    ensures { TreeRead t.now froms.at.position froms.at.line froms.at.rows froms.tables froms.rows cells.old cells.new rows.old rows.new result }
 {
-    if t.len() - p < SHORT_REST {
+    if t.len() - froms.at.position < SHORT_REST {
         let mut few = [0u32; FEW_OPEN];
-        return read_joins(t, p, l, c, k, n, &mut few, cells, rows);
+        return read_joins(t, froms, &mut few, cells, rows);
     }
     let mut stack = [0u32; MOST_OPEN];
-    read_joins(t, p, l, c, k, n, &mut stack, cells, rows)
+    read_joins(t, froms, &mut stack, cells, rows)
 }
 
-// The tree at a position, behind k tables and n FROM rows.
-fn read_tree(
+// The tree that stands here, behind so many tables and rows.
+fn read_tree(t: &[u8], froms: Froms, cells: &mut [u32], rows: &mut [u32]) -> Result<Froms, Refusal>
+    requires { TreeReady t.now froms.at.position froms.at.line froms.at.rows froms.tables froms.rows cells.old rows.old }
+    ensures { TreeRead t.now froms.at.position froms.at.line froms.at.rows froms.tables froms.rows cells.old cells.new rows.old rows.new result }
+{
+    let at = froms.at;
+    let h = from_record(t, at.position);
+    if h.kind != TABLE {
+        return read_joined(t, froms, cells, rows);
+    }
+    if MOST_TABLES <= froms.tables {
+        return Err(Reason::LimitPassed.at(at.line));
+    }
+    put_row(rows, froms.rows, TABLE, at.line, 0, h.a, h.b, h.c, h.d, 0);
+    Ok(Froms {
+        at: Cursor {
+            position: h.next,
+            line: at.line + 1,
+            rows: at.rows,
+        },
+        tables: froms.tables + 1,
+        rows: froms.rows + 1,
+    })
+}
+
+// The FROM items that stand here.
+pub fn read_froms(
     t: &[u8],
-    p: usize,
-    l: u32,
-    c: u32,
-    k: u32,
-    n: u32,
+    at: Cursor,
     cells: &mut [u32],
     rows: &mut [u32],
-) -> Tree
-    requires { TreeReady t.now p l c k n cells.old rows.old }
-    ensures { TreeRead t.now p l c k n cells.old cells.new rows.old rows.new result }
-{
-    let h = from_record(t, p);
-    if h.kind != TABLE {
-        return read_joined(t, p, l, c, k, n, cells, rows);
-    }
-    if MOST_TABLES <= k {
-        return Tree::Limit(l);
-    }
-    put_row(rows, n, TABLE, l, 0, h.a, h.b, h.c, h.d, 0);
-    Tree::Done(h.next, l + 1, c, k + 1, n + 1)
-}
-
-// The FROM items at a position, from row c on.
-pub fn read_froms(t: &[u8], p: usize, l: u32, c: u32, cells: &mut [u32], rows: &mut [u32]) -> Froms
-    requires fact_1 { Position t.now p l c }
+) -> Result<Froms, Refusal>
+    requires fact_1 { Position t.now at.position at.line at.rows }
     requires fact_2 { (length cells.old ≡ table_size) × (length rows.old ≡ 248) }
-    ensures { FromsRead t.now p l c cells.old cells.new rows.new result }
+    ensures { FromsRead t.now at.position at.line at.rows cells.old cells.new rows.new result }
 {
-    let mut at = p;
-    let mut line = l;
-    let mut first = c;
-    let mut k: u32 = 0;
-    let mut n: u32 = 0;
-    while from_stands(t, at) {
-        let r = read_tree(t, at, line, first, k, n, cells, rows);
-        match r {
-            Tree::Done(e, m, s, tables, count) => {
-                at = e;
-                line = m;
-                first = s;
-                k = tables;
-                n = count;
-            }
-            Tree::Wrong(x) => {
-                return Froms::Wrong(x);
-            }
-            Tree::Limit(x) => {
-                return Froms::Limit(x);
-            }
-        }
+    let mut froms = Froms {
+        at,
+        tables: 0,
+        rows: 0,
+    };
+    while from_stands(t, froms.at.position) {
+        froms = read_tree(t, froms, cells, rows)?;
     }
-    Froms::Done(at, line, first, n)
+    Ok(froms)
 }

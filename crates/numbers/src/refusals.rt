@@ -44,6 +44,13 @@ impl Reason {
     {
         self as u32
     }
+
+    // The refusal for this reason at a line.
+    pub fn at(self, line: u32) -> Refusal
+        ensures { result ≡ record { reason = self; line = line } }
+    {
+        Refusal { reason: self, line }
+    }
 }
 
 // A refusal of the statement: why, and the line of the record where it arose.

@@ -1,5 +1,5 @@
 -- What the reader of expressions has at each of its answers: the rules' reading so far, and the rows written.
-use Rattle.std.specs.Prelude.{ℕ, suc, ◌+◌, ◌*◌, ◌-◌, ◌≤◌, ◌<◌, ◌≡◌, List, [], ◌∷◌, ◌++◌, length}
+use Rattle.std.specs.Prelude.{ℕ, suc, ◌+◌, ◌*◌, ◌-◌, ◌≤◌, ◌<◌, ◌≡◌, List, [], ◌∷◌, ◌++◌, length, Result, Ok, Err}
 use Rattle.std.proofs.Common.{arith, add-zero, sym, ◌∙◌, append-nil, length-append}
 use Rattle.std.proofs.Math.Path.{refl, ap}
 use Rattle.std.proofs.Math.Option.{some}
@@ -14,15 +14,15 @@ use Rattle.rules.specs.ReadExpression.{Head, is_head, heads, times, operands, de
 use Rattle.rules.specs.Area.{value_numbers}
 use Rattle.text.specs.Lines.{line_end}
 use Rattle.text.specs.Reading.{place, text_of}
-use Rattle.text.specs.Answers.{wrong_at, limit_at}
 use Rattle.numbers.specs.Values.{ValueFits}
 use Rattle.std.specs.Prelude as std
 use Rattle.literal.specs.Records.{IsLiteral, literal-none, literal-some}
 use Rattle.literal.specs.declared.record.Literal.{Literal}
 use Rattle.numbers.specs.Stores.{sets-in-front}
 use Rattle.ast.specs.Table.{row_size}
-use Rattle.read_expression.specs.declared.reading.Read as Rd
-use Rattle.read_expression.specs.declared.reading.Read.TheVariants as R
+use Rattle.numbers.specs.declared.refusals.Reason.TheVariants.{WrongRecord, LimitPassed}
+use Rattle.numbers.specs.declared.refusals.Refusal as code
+use Rattle.read_expression.specs.declared.reading.Cursor.{Cursor}
 use Rattle.read_expression.specs.declared.heads.Row.{Row}
 use Rattle.read_expression.specs.Encode.{head_numbers, is_numbers, arity, row_of, encode, encode_all}
 use Rattle.read_expression.proofs.Encoded.{encode-length}
@@ -31,7 +31,7 @@ use Rattle.read_expression.specs.RowOf.{RowOf}
 use Rattle.read_expression.specs.Reading.{here, Position, Took, Given, Rows, IsRow}
 use Rattle.read_expression.specs.RecordHere.{row-of-none, row-of-some, row-of-is, row-of-not-is, head-inside, literal-inside, position-next, line-passed, literal-wrong, literal-read, deep-wrong, deep-full, deep-cut, deep-read}
 use Rattle.read_expression.specs.Times.{joined, joined-none, before, before-none, before-twice, times-end, times-no, times-on, times-count}
-use Rattle.read_expression.specs.Given.{given-done, given-wrong, given-limit, gives-done, gives-wrong, gives-limit}
+use Rattle.read_expression.specs.Given.{given-done, given-refused, gives-done, gives-refused, gives-wrong, gives-limit}
 use Rattle.read_expression.proofs.Rows.{rows_none, rows_join, rows-length}
 use Rattle.read_expression.proofs.Built.{build, built, operands-ok, operands-no, is-wrong, is_read, one_ok, is-built}
 
@@ -54,7 +54,7 @@ module _ {t : Bytes} {e : Read Expr} {n p₀ l₀ c₀ : ℕ} {cells₀ : List �
   pub loop-length : length cells ≡ length cells₀
   loop-length = rows-length h.rows
 
-  pub loop-end : left ≤ 0 → Given (times n e) (Rows t c₀ cells₀ cells) t p₀ l₀ c₀ k (R.Done p l c)
+  pub loop-end : left ≤ 0 → Given (times n e) (Rows t c₀ cells₀ cells) t p₀ l₀ c₀ k (Ok (record { position = p; line = l; rows = c }))
   unfolding before
   loop-end z = gives-done _ _ _ _ _ _ _ p l c (record {
     value = h.so_far;
@@ -65,20 +65,14 @@ module _ {t : Bytes} {e : Read Expr} {n p₀ l₀ c₀ : ℕ} {cells₀ : List �
     holds = h.rows;
   })
 
-  module _ (z : 0 < left) (H : ℕ → Expr → Type 0) {r : Rd.Read} (g : Given e H t p l c k r) (cells' : List ℕ) where
-    pub loop-wrong : (x : ℕ) → r ≡ R.Wrong x → Given (times n e) (Rows t c₀ cells₀ cells') t p₀ l₀ c₀ k (R.Wrong x)
-    unfolding before wrong_at
-    loop-wrong x f = gives-wrong _ _ _ _ _ _ _ x (h.is ∙ ap (before h.so_far) (times-no left e _ z _ (given-wrong _ _ _ _ _ _ _ x g f)))
+  pub loop-refused : 0 < left → (H : ℕ → Expr → Type 0) (cells' : List ℕ) (w : code.Refusal) → Given e H t p l c k (Err w) → Given (times n e) (Rows t c₀ cells₀ cells') t p₀ l₀ c₀ k (Err w)
+  unfolding before
+  loop-refused z H cells' w g = gives-refused _ _ _ _ _ _ _ w (h.is ∙ ap (before h.so_far) (times-no left e _ z _ (given-refused _ H _ _ _ _ _ w g)))
 
-    pub loop-limit : (x : ℕ) → r ≡ R.Limit x → Given (times n e) (Rows t c₀ cells₀ cells') t p₀ l₀ c₀ k (R.Limit x)
-    unfolding before limit_at
-    loop-limit x f = gives-limit _ _ _ _ _ _ _ x (h.is ∙ ap (before h.so_far) (times-no left e _ z _ (given-limit _ _ _ _ _ _ _ x g f)))
-
-  pub loop-on : {r : Rd.Read} (cells' : List ℕ) → 0 < left
-      → Given e (λ c' a. Rows t c cells cells' c' (cons a nil)) t p l c k r → (p' l' c' : ℕ) → r ≡ R.Done p' l' c'
-      → Loop t e n p₀ l₀ c₀ cells₀ k p' l' c' (left - 1) cells'
-  loop-on cells' z g p' l' c' f =
-      let w = given-done _ _ _ _ _ _ _ p' l' c' g f in
+  pub loop-on : (cells' : List ℕ) → 0 < left → (a : Cursor) → Given e (λ c' a. Rows t c cells cells' c' (cons a nil)) t p l c k (Ok a)
+      → Loop t e n p₀ l₀ c₀ cells₀ k a.position a.line a.rows (left - 1) cells'
+  loop-on cells' z a g =
+      let w = given-done _ _ _ _ _ _ _ a g in
       record {
         so_far = joined h.so_far (cons w.value nil);
         is = h.is ∙ ap (before h.so_far) (times-on left e _ z w.value _ w.is) ∙ before-twice h.so_far (cons w.value nil) _;
@@ -93,13 +87,13 @@ unfolding row_of is_numbers
 is-numbers l n v e = rw e
 
 module _ {t : Bytes} (p l d k : ℕ) {r : std.Option Literal} (s : (x : Text) (l c n : ℕ) → base_address x ≡ most_bytes → IsLiteral most_bytes t (one_of literals (line_here (place x t p l c n))) r) where
-  pub is-row-wrong : (H : ℕ → Value → Type 0) → r ≡ std.None → Given literal_here H t p l d k (R.Wrong l)
+  pub is-row-wrong : (H : ℕ → Value → Type 0) → r ≡ std.None → Given literal_here H t p l d k (Err (record { reason = WrongRecord; line = l }))
   unfolding base_address
   is-row-wrong H z = gives-wrong _ H _ _ _ _ _ l (literal-wrong t p l d k (literal-none (s statement l d k refl) z))
 
   pub is_row : (c line : ℕ) {q : ℕ} (v : Literal) (cells : List ℕ) {cells' : List ℕ} → Position t p l d → r ≡ std.Some v → q ≡ line_end t p
       → cells' ≡ sets cells (row_size * c) (7 ∷ line ∷ (d - c) ∷ v.kind ∷ v.a ∷ v.b ∷ 0 ∷ 0 ∷ [])
-      → Given literal_here (IsRow t c d line cells cells') t p l d k (R.Done q (l + 1) d)
+      → Given literal_here (IsRow t c d line cells cells') t p l d k (Ok (record { position = q; line = l + 1; rows = d }))
   unfolding base_address text_of
   is_row c line {q} x cells w z f e =
       let v = literal-some x (s statement l d k refl) z in
@@ -154,14 +148,14 @@ pub operands-position : {t : Bytes} {p l c q : ℕ} {row : Row} → Position t p
 operands-position {t} {p} {l} {c} w s z m f = let h = row-of-some (s l c 0) z in position-next w (head-inside t p l c 0 h.0 h.1) f (omega arith)
 
 module _ {t : Bytes} (p l c k : ℕ) {row : Row} (s : (l c k : ℕ) → RowOf t (one_of heads (line_here (here t p l c k))) row) (d : ℕ) (H : ℕ → Expr → Type 0) where
-  pub no_record : row.kind ≡ 0 → Given (deep d) H t p l c k (R.Wrong l)
+  pub no_record : row.kind ≡ 0 → Given (deep d) H t p l c k (Err (record { reason = WrongRecord; line = l }))
   no_record z = gives-wrong _ _ _ _ _ _ _ l (deep-wrong t p l c k d (row-of-none (s l c k) z))
 
   module _ (z : row.kind ≡ 0 → ⊥) where
-    pub no_room : most_cells ≤ c → Given (deep d) H t p l c k (R.Limit l)
+    pub no_room : most_cells ≤ c → Given (deep d) H t p l c k (Err (record { reason = LimitPassed; line = l }))
     no_room m = let h = row-of-some (s l c k) z in gives-limit _ _ _ _ _ _ _ l (deep-full t p l c k d h.0 h.1 m)
 
-    pub too-deep : c < most_cells → d ≡ 0 → Given (deep d) H t p l c k (R.Limit l)
+    pub too-deep : c < most_cells → d ≡ 0 → Given (deep d) H t p l c k (Err (record { reason = LimitPassed; line = l }))
     too-deep m e = let h = row-of-some (s l c k) z in gives-limit _ _ _ _ _ _ _ l (deep-cut t p l c k d h.0 h.1 m e)
 
     -- its operands are read
@@ -171,24 +165,17 @@ module _ {t : Bytes} (p l c k : ℕ) {row : Row} (s : (l c k : ℕ) → RowOf t 
           let h = row-of-some (s l c k) z in
           deep-read t p l c k d h.0 h.1 m y f ∙ operands-no h.0 l (deep (d - 1)) _ x (ap (λ n. times n (deep (d - 1)) (here t q (l + 1) (c + 1) k)) (sym h.2.many) ∙ e)
 
-      module _ (G : ℕ → Exprs → Type 0) {r : Rd.Read} (g : Given (times row.operands (deep (d - 1))) G t q (l + 1) (c + 1) k r) where
-        pub operands-wrong : (x : ℕ) → r ≡ R.Wrong x → Given (deep d) H t p l c k (R.Wrong x)
-        unfolding wrong_at
-        operands-wrong x e = gives-wrong _ _ _ _ _ _ _ x (operands-refused _ (given-wrong _ _ _ _ _ _ _ x g e))
-
-        pub operands-limit : (x : ℕ) → r ≡ R.Limit x → Given (deep d) H t p l c k (R.Limit x)
-        unfolding limit_at
-        operands-limit x e = gives-limit _ _ _ _ _ _ _ x (operands-refused _ (given-limit _ _ _ _ _ _ _ x g e))
+      pub operands-no-more : (G : ℕ → Exprs → Type 0) (w : code.Refusal) → Given (times row.operands (deep (d - 1))) G t q (l + 1) (c + 1) k (Err w) → Given (deep d) H t p l c k (Err w)
+      operands-no-more G w g = gives-refused _ _ _ _ _ _ _ w (operands-refused _ (given-refused _ G _ _ _ _ _ w g))
 
 module _ {t : Bytes} (p l c k : ℕ) {row : Row} (s : (l c k : ℕ) → RowOf t (one_of heads (line_here (here t p l c k))) row) (d : ℕ) (z : row.kind ≡ 0 → ⊥) (m : c < most_cells)
-    (y : d ≡ 0 → ⊥) {q : ℕ} (f : q ≡ line_end t p) (cells cells₁ : List ℕ) {r : Rd.Read}
-    (g : Given (times row.operands (deep (d - 1))) (Rows t (c + 1) cells cells₁) t q (l + 1) (c + 1) k r)
-    (p₁ l₁ c₁ : ℕ) (o : r ≡ R.Done p₁ l₁ c₁) where
+    (y : d ≡ 0 → ⊥) {q : ℕ} (f : q ≡ line_end t p) (cells cells₁ : List ℕ) (p₁ l₁ c₁ : ℕ)
+    (g : Given (times row.operands (deep (d - 1))) (Rows t (c + 1) cells cells₁) t q (l + 1) (c + 1) k (Ok (record { position = p₁; line = l₁; rows = c₁ }))) where
   h : (x : Head) × (one_of heads (line_here (here t p l c k)) ≡ some x) × RowOf t (some x) row
   h = row-of-some (s l c k) z
 
   took : Took (times row.operands (deep (d - 1))) (Rows t (c + 1) cells cells₁ c₁) t q (l + 1) (c + 1) k p₁ l₁ c₁
-  took = given-done _ _ _ _ _ _ _ p₁ l₁ c₁ g o
+  took = given-done _ _ _ _ _ _ _ _ g
 
   many : times (arity (some h.0)) (deep (d - 1)) (here t q (l + 1) (c + 1) k) ≡ ok (took.value, here t p₁ l₁ c₁ k)
   many = ap (λ n. times n (deep (d - 1)) (here t q (l + 1) (c + 1) k)) (sym h.2.many) ∙ took.is
@@ -199,7 +186,7 @@ module _ {t : Bytes} (p l c k : ℕ) {row : Row} (s : (l c k : ℕ) → RowOf t 
   pub deep-done : (cells₂ : List ℕ) → (row.kind ≡ 7 → ⊥)
       → cells₂ ≡ sets cells₁ (row_size * c)
       (row.kind ∷ l ∷ (c₁ - c) ∷ row.code ∷ row.a ∷ row.b ∷ row.c ∷ row.d ∷ [])
-      → Given (deep d) (λ c' e. Rows t c cells cells₂ c' (cons e nil)) t p l c k (R.Done p₁ l₁ c₁)
+      → Given (deep d) (λ c' e. Rows t c cells cells₂ c' (cons e nil)) t p l c k (Ok (record { position = p₁; line = l₁; rows = c₁ }))
   deep-done cells₂ n e =
       let other = row-of-not-is h.0 h.2 n in
       let b = built h.0 l took.value other (times-count _ _ _ _ _ many) in
@@ -256,11 +243,10 @@ module _ {t : Bytes} (p l c k : ℕ) {row : Row} (s : (l c k : ℕ) → RowOf t 
               (λ b. is-fits b t l a v.value (one.2 b) (v.holds.fits b));
         }
 
-    pub deep_is : (cells₂ : List ℕ) (r₂ : Rd.Read) → Given literal_here (IsRow t c c₁ l cells₁ cells₂) t p₁ l₁ c₁ k r₂
+    pub deep_is : (cells₂ : List ℕ) (r₂ : Result Cursor code.Refusal) → Given literal_here (IsRow t c c₁ l cells₁ cells₂) t p₁ l₁ c₁ k r₂
         → Given (deep d) (λ c' e. Rows t c cells cells₂ c' (cons e nil)) t p l c k r₂
-    deep_is cells₂ (R.Wrong x) v = gives-wrong _ _ _ _ _ _ _ x (reads ∙ unfold wrong_at in is-wrong (deep (d - 1)) _ l _ operand.0 operand.2 _ (given-wrong _ _ _ _ _ _ _ x v refl))
-    deep_is cells₂ (R.Limit x) v = gives-limit _ _ _ _ _ _ _ x (reads ∙ unfold limit_at in is-wrong (deep (d - 1)) _ l _ operand.0 operand.2 _ (given-limit _ _ _ _ _ _ _ x v refl))
-    deep_is cells₂ (R.Done p₂ l₂ c₂) v = gives-done _ _ _ _ _ _ _ p₂ l₂ c₂ (is-took cells₂ p₂ l₂ c₂ (given-done _ _ _ _ _ _ _ p₂ l₂ c₂ v refl))
+    deep_is cells₂ (Err w) v = gives-refused _ _ _ _ _ _ _ w (reads ∙ is-wrong (deep (d - 1)) _ l _ operand.0 operand.2 _ (given-refused _ _ _ _ _ _ _ w v))
+    deep_is cells₂ (Ok a) v = gives-done _ _ _ _ _ _ _ a.position a.line a.rows (is-took cells₂ a.position a.line a.rows (given-done _ _ _ _ _ _ _ a v))
 
 -- A LEAF
 module _ {t : Bytes} (p l c k : ℕ) {row : Row} (s : (l c k : ℕ) → RowOf t (one_of heads (line_here (here t p l c k))) row) (d : ℕ) (z : row.kind ≡ 0 → ⊥) (o : row.operands ≡ 0) where
@@ -274,8 +260,8 @@ module _ {t : Bytes} (p l c k : ℕ) {row : Row} (s : (l c k : ℕ) → RowOf t 
   -- a record without operands
   pub leaf-done : Position t p l c → c < most_cells → (d ≡ 0 → ⊥) → {q : ℕ} → q ≡ line_end t p → (cells cells' : List ℕ)
       → cells' ≡ sets cells (row_size * c) (row.kind ∷ l ∷ 1 ∷ row.code ∷ row.a ∷ row.b ∷ row.c ∷ row.d ∷ [])
-      → Given (deep d) (λ c' e. Rows t c cells cells' c' (cons e nil)) t p l c k (R.Done q (l + 1) (c + 1))
+      → Given (deep d) (λ c' e. Rows t c cells cells' c' (cons e nil)) t p l c k (Ok (record { position = q; line = l + 1; rows = c + 1 }))
   leaf-done w m y {q} f cells cells' e =
       let one : c + 1 - c ≡ 1 = omega arith in
-      let g : Given (times row.operands (deep (d - 1))) (Rows t (c + 1) cells cells) t q (l + 1) (c + 1) k (R.Done q (l + 1) (c + 1)) = loop-end (loop-start (operands-position w s z m f)) (omega (arith, o)) in
-      deep-done p l c k s d z m y f cells cells g q (l + 1) (c + 1) refl cells' no-is (rw one e)
+      let g : Given (times row.operands (deep (d - 1))) (Rows t (c + 1) cells cells) t q (l + 1) (c + 1) k (Ok (record { position = q; line = l + 1; rows = c + 1 })) = loop-end (loop-start (operands-position w s z m f)) (omega (arith, o)) in
+      deep-done p l c k s d z m y f cells cells q (l + 1) (c + 1) g cells' no-is (rw one e)

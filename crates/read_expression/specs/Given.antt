@@ -1,34 +1,36 @@
 -- A reader's answer taken apart, by what it is.
-use Rattle.std.specs.Prelude.{ℕ, ◌≡◌}
-use Rattle.rules.specs.Refusals.{statement}
+use Rattle.std.specs.Prelude.{ℕ, ◌≡◌, Ok, Err}
+use Rattle.rules.specs.Refusals.{statement, refused}
 use Rattle.rules.specs.Lists.{Bytes}
 use Rattle.rules.specs.Reader.{Read}
 use Rattle.text.specs.Answers.{wrong_at, limit_at}
-use Rattle.read_expression.specs.declared.reading.Read as Rd
-use Rattle.read_expression.specs.declared.reading.Read.TheVariants as R
+use Rattle.numbers.specs.declared.refusals.Reason.TheVariants.{WrongRecord, LimitPassed}
+use Rattle.numbers.specs.declared.refusals.Refusal.{Refusal}
+use Rattle.numbers.specs.Reasons.{reason_of, told}
+use Rattle.read_expression.specs.declared.reading.Cursor.{Cursor}
 use Rattle.read_expression.specs.Reading.{here, Took, Given}
 
 module _ {A : Type 0} (m : Read A) (H : ℕ → A → Type 0) (t : Bytes) (p l c k : ℕ) where
-  pub given-done : {r : Rd.Read} (p' l' c' : ℕ) → Given m H t p l c k r → r ≡ R.Done p' l' c' → Took m (H c') t p l c k p' l' c'
+  pub given-done : (a : Cursor) → Given m H t p l c k (Ok a) → Took m (H a.rows) t p l c k a.position a.line a.rows
   unfolding Given
-  given-done p' l' c' g e = rw e at g
+  given-done a g = g
 
-  pub given-wrong : {r : Rd.Read} (x : ℕ) → Given m H t p l c k r → r ≡ R.Wrong x → m (here t p l c k) ≡ wrong_at statement x
+  pub given-refused : (w : Refusal) → Given m H t p l c k (Err w) → m (here t p l c k) ≡ refused (told statement w)
   unfolding Given
-  given-wrong x g e = rw e at g
+  given-refused w g = g
 
-  pub given-limit : {r : Rd.Read} (x : ℕ) → Given m H t p l c k r → r ≡ R.Limit x → m (here t p l c k) ≡ limit_at statement x
-  unfolding Given
-  given-limit x g e = rw e at g
-
-  pub gives-done : (p' l' c' : ℕ) → Took m (H c') t p l c k p' l' c' → Given m H t p l c k (R.Done p' l' c')
+  pub gives-done : (p' l' c' : ℕ) → Took m (H c') t p l c k p' l' c' → Given m H t p l c k (Ok (record { position = p'; line = l'; rows = c' }))
   unfolding Given
   gives-done p' l' c' w = w
 
-  pub gives-wrong : (x : ℕ) → m (here t p l c k) ≡ wrong_at statement x → Given m H t p l c k (R.Wrong x)
+  pub gives-refused : (w : Refusal) → m (here t p l c k) ≡ refused (told statement w) → Given m H t p l c k (Err w)
   unfolding Given
+  gives-refused w e = e
+
+  pub gives-wrong : (x : ℕ) → m (here t p l c k) ≡ wrong_at statement x → Given m H t p l c k (Err (record { reason = WrongRecord; line = x }))
+  unfolding Given wrong_at reason_of
   gives-wrong x e = e
 
-  pub gives-limit : (x : ℕ) → m (here t p l c k) ≡ limit_at statement x → Given m H t p l c k (R.Limit x)
-  unfolding Given
+  pub gives-limit : (x : ℕ) → m (here t p l c k) ≡ limit_at statement x → Given m H t p l c k (Err (record { reason = LimitPassed; line = x }))
+  unfolding Given limit_at reason_of
   gives-limit x e = e

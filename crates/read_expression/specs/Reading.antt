@@ -1,18 +1,18 @@
 -- Reading a statement by position: where reading stands, and what a reader's answer says of the rules' reading.
-use Rattle.std.specs.Prelude.{ℕ, ◌+◌, ◌*◌, ◌-◌, ◌≤◌, ◌≡◌, List, length}
+use Rattle.std.specs.Prelude.{ℕ, ◌+◌, ◌*◌, ◌-◌, ◌≤◌, ◌≡◌, List, length, Result, Ok, Err}
 use Rattle.std.proofs.lemmas.List.Edits.{sets}
-use Rattle.rules.specs.Refusals.{statement, ok}
+use Rattle.rules.specs.Refusals.{statement, ok, refused}
 use Rattle.rules.specs.Limits.{most_bytes, most_cells}
 use Rattle.rules.specs.Lists.{Bytes}
 use Rattle.rules.specs.Schema.{Value}
 use Rattle.rules.specs.Ast.{Exprs, size_all}
 use Rattle.rules.specs.Reader.{Place, Read}
 use Rattle.text.specs.Reading.{place}
-use Rattle.text.specs.Answers.{wrong_at, limit_at}
 use Rattle.numbers.specs.Values.{ValueFits}
 use Rattle.ast.specs.Table.{row_size}
-use Rattle.read_expression.specs.declared.reading.Read as Rd
-use Rattle.read_expression.specs.declared.reading.Read.TheVariants as R
+use Rattle.numbers.specs.declared.refusals.Refusal.{Refusal}
+use Rattle.numbers.specs.Reasons.{told}
+use Rattle.read_expression.specs.declared.reading.Cursor.{Cursor}
 use Rattle.read_expression.specs.Encode.{is_numbers, row_of, encode_all}
 use Rattle.read_expression.specs.Fits.{FitsAll}
 
@@ -37,10 +37,9 @@ pub record Took {A : Type 0} (m : Read A) (H : A → Type 0) (t : Bytes) (p l c 
   pub holds : H value
 
 -- what an answer says of the reading m from a position on: what was read, which H holds of behind so many rows, or its refusal
-unfoldable pub Given : {A : Type 0} (m : Read A) (H : ℕ → A → Type 0) (t : Bytes) (p l c k : ℕ) → Rd.Read → Type 0
-Given m H t p l c k (R.Done p' l' c') = Took m (H c') t p l c k p' l' c'
-Given m H t p l c k (R.Wrong x) = m (here t p l c k) ≡ wrong_at statement x
-Given m H t p l c k (R.Limit x) = m (here t p l c k) ≡ limit_at statement x
+unfoldable pub Given : {A : Type 0} (m : Read A) (H : ℕ → A → Type 0) (t : Bytes) (p l c k : ℕ) → Result Cursor Refusal → Type 0
+Given m H t p l c k (Ok a) = Took m (H a.rows) t p l c k a.position a.line a.rows
+Given m H t p l c k (Err w) = m (here t p l c k) ≡ refused (told statement w)
 
 -- the rows from c to c' are those of these expressions, and nothing else was written
 pub record Rows (t : Bytes) (c : ℕ) (cells cells' : List ℕ) (c' : ℕ) (es : Exprs) : Type 0 where

@@ -11,17 +11,18 @@ ghost use Rattle.read_expression.specs.Reading.{Position, Given, Rows, IsRow};
 use crate::heads::{Row, WRONG, head};
 use ast::rows::{IS, ROW_SIZE, STATEMENT_ROWS};
 use literal::record::literal_at;
+use numbers::refusals::{Reason, Refusal};
 use text::MOST_BYTES;
 
 // Most levels of an expression, a leaf 1.
 const DEPTH: u32 = 32;
 
-// What was read: the position behind it, its line, and the rows so far; or 2 or 3 at a line.
+// Where reading stands: the position in the text, its line, and how many expression rows there are so far.
 #[derive(Clone, Copy)]
-pub enum Read {
-    Done(usize, u32, u32),
-    Wrong(u32),
-    Limit(u32),
+pub struct Cursor {
+    pub position: usize,
+    pub line: u32,
+    pub rows: u32,
 }
 
 // The row c of a record: what it says, its line, and how many rows its tree has.
@@ -40,16 +41,15 @@ pub fn put_row(cells: &mut [u32], c: u32, line: u32, rows: u32, h: Row)
     cells[i + 7] = h.d;
 }
 
-// The literal at a position, behind the operand of an `is` at row c, whose rows end before d; and that row.
-fn read_is(t: &[u8], p: usize, l: u32, d: u32, c: u32, line: u32, cells: &mut [u32]) -> Read
-    requires fact_1 { Position t.now p l d }
-    requires fact_2 { (c < d) × (length cells.old ≡ table_size) }
-    ensures { (k : ℕ) → Given literal_here (IsRow t.now c d line cells.old cells.new) t.now p l d k result }
+// The literal behind the operand of an `is` at row c; and that row, on its line.
+fn read_is(t: &[u8], at: Cursor, c: u32, line: u32, cells: &mut [u32]) -> Result<Cursor, Refusal>
+    requires fact_1 { Position t.now at.position at.line at.rows }
+    requires fact_2 { (c < at.rows) × (length cells.old ≡ table_size) }
+    ensures { (k : ℕ) → Given literal_here (IsRow t.now c at.rows line cells.old cells.new) t.now at.position at.line at.rows k result }
 {
-    let f = text::fields(t, p);
-    let next = f.next;
-    let Some(v) = literal_at(t, MOST_BYTES, p, f) else {
-        return Read::Wrong(l);
+    let f = text::fields(t, at.position);
+    let Some(v) = literal_at(t, MOST_BYTES, at.position, f) else {
+        return Err(Reason::WrongRecord.at(at.line));
     };
     let h = Row {
         kind: IS,
@@ -60,81 +60,72 @@ fn read_is(t: &[u8], p: usize, l: u32, d: u32, c: u32, line: u32, cells: &mut [u
         d: 0,
         operands: 1,
     };
-    put_row(cells, c, line, d - c, h);
-    Read::Done(next, l + 1, d)
+    put_row(cells, c, line, at.rows - c, h);
+    Ok(Cursor {
+        position: f.next,
+        line: at.line + 1,
+        rows: at.rows,
+    })
 }
 
 // n expressions in a row, at most `depth` deep.
 #[cycle(read_deep_read_times)]
-fn read_times(t: &[u8], p: usize, l: u32, c: u32, depth: u32, n: u32, cells: &mut [u32]) -> Read
-    requires { (Position t.now p l c) × ((depth ≤ 32) × (n ≤ most_cells + 1) × (length cells.old ≡ table_size)) }
-    ensures { (k : ℕ) → Given (times n (deep depth)) (Rows t.now c cells.old cells.new) t.now p l c k result }
+fn read_times(
+    t: &[u8],
+    at: Cursor,
+    depth: u32,
+    n: u32,
+    cells: &mut [u32],
+) -> Result<Cursor, Refusal>
+    requires { (Position t.now at.position at.line at.rows) × ((depth ≤ 32) × (n ≤ most_cells + 1) × (length cells.old ≡ table_size)) }
+    ensures { (k : ℕ) → Given (times n (deep depth)) (Rows t.now at.rows cells.old cells.new) t.now at.position at.line at.rows k result }
 {
-    let mut q = p;
-    let mut m = l;
-    let mut d = c;
-    let mut left = n;
-    while 0 < left {
-        let r = read_deep(t, q, m, d, depth, cells);
-        match r {
-            Read::Wrong(x) => {
-                return Read::Wrong(x);
-            }
-            Read::Limit(x) => {
-                return Read::Limit(x);
-            }
-            Read::Done(q2, m2, d2) => {
-                q = q2;
-                m = m2;
-                d = d2;
-                left -= 1;
-            }
-        }
+    let mut behind = at;
+    for _ in 0..n {
+        behind = read_deep(t, behind, depth, cells)?;
     }
-    Read::Done(q, m, d)
+    Ok(behind)
 }
 
 // An expression at most `depth` deep.
 #[cycle(read_deep_read_times)]
-fn read_deep(t: &[u8], p: usize, l: u32, c: u32, depth: u32, cells: &mut [u32]) -> Read
-    requires { (Position t.now p l c) × ((depth ≤ 32) × (length cells.old ≡ table_size)) }
-    ensures { (k : ℕ) → Given (deep depth) (λ c' e. Rows t.now c cells.old cells.new c' (cons e nil)) t.now p l c k result }
+fn read_deep(t: &[u8], at: Cursor, depth: u32, cells: &mut [u32]) -> Result<Cursor, Refusal>
+    requires { (Position t.now at.position at.line at.rows) × ((depth ≤ 32) × (length cells.old ≡ table_size)) }
+    ensures { (k : ℕ) → Given (deep depth) (λ c' e. Rows t.now at.rows cells.old cells.new c' (cons e nil)) t.now at.position at.line at.rows k result }
 {
-    let f = text::fields(t, p);
-    let next = f.next;
-    let h = head(t, p, f);
+    let f = text::fields(t, at.position);
+    let h = head(t, at.position, f);
     if h.kind == WRONG {
-        return Read::Wrong(l);
+        return Err(Reason::WrongRecord.at(at.line));
     }
-    if STATEMENT_ROWS <= c {
-        return Read::Limit(l);
+    if STATEMENT_ROWS <= at.rows {
+        return Err(Reason::LimitPassed.at(at.line));
     }
     if depth == 0 {
-        return Read::Limit(l);
+        return Err(Reason::LimitPassed.at(at.line));
     }
+    let operands = Cursor {
+        position: f.next,
+        line: at.line + 1,
+        rows: at.rows + 1,
+    };
     if h.operands == 0 {
-        put_row(cells, c, l, 1, h);
-        return Read::Done(next, l + 1, c + 1);
+        put_row(cells, at.rows, at.line, 1, h);
+        return Ok(operands);
     }
-    let r = read_times(t, next, l + 1, c + 1, depth - 1, h.operands, cells);
-    match r {
-        Read::Wrong(x) => Read::Wrong(x),
-        Read::Limit(x) => Read::Limit(x),
-        Read::Done(q, m, d) => {
-            if h.kind == IS {
-                return read_is(t, q, m, d, c, l, cells);
-            }
-            put_row(cells, c, l, d - c, h);
-            Read::Done(q, m, d)
-        }
+    let behind = read_times(t, operands, depth - 1, h.operands, cells)?;
+    if h.kind == IS {
+        return read_is(t, behind, at.rows, at.line, cells);
     }
+    put_row(cells, at.rows, at.line, behind.rows - at.rows, h);
+    Ok(behind)
 }
 
-// n expressions in a row, from row c on. Where they are refused the rows from c on mean nothing.
-pub fn read_expressions(t: &[u8], p: usize, l: u32, c: u32, n: u32, cells: &mut [u32]) -> Read
-    requires fact_1 { Position t.now p l c }
+// n expressions in a row. Where they are refused the rows from this one on mean nothing.
+pub fn read_expressions(t: &[u8], at: Cursor, n: u32, cells: &mut [u32]) -> Result<Cursor, Refusal>
+    requires fact_1 { Position t.now at.position at.line at.rows }
     requires fact_2 { (n ≤ most_cells + 1) × (length cells.old ≡ table_size) }
-    ensures { (k : ℕ) → Given (times n expression) (Rows t.now c cells.old cells.new) t.now p l c k result }
+    ensures { (k : ℕ) → Given (times n expression) (Rows t.now at.rows cells.old cells.new) t.now at.position at.line at.rows k result }
 {
-    read_times(t, p, l, c, DEPTH, n, cells)
+    read_times(t, at, DEPTH, n, cells)
 }

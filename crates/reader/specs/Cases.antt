@@ -1,7 +1,7 @@
 -- Reading by cases: what each refusal, and what was read, says of the rules' answer.
 use Prim.Native.Nat.{ℕ, zero, suc, ◌≤◌, ◌<◌}
 use Rattle.std.proofs.Common.{arith, ap, ◌∙◌}
-use Rattle.std.specs.Prelude.{◌≡◌, List, [], ◌∷◌, length, get_or}
+use Rattle.std.specs.Prelude.{◌≡◌, List, [], ◌∷◌, length, get_or, Result, Ok, Err}
 use Rattle.std.proofs.Math.Path.{refl, sym}
 use borrow.Author.Tests.{lt-ltb, le-ltb, eq-eqb, ne_eqb}
 use Rattle.rules.specs.Refusals.{catalog, statement, refusal_number, Refusal, ok, refused, refuse, wrong_record, limit_passed, ◌>>=◌}
@@ -25,8 +25,8 @@ use Rattle.statement.specs.Whole.{statement_of, statement_answer, Counts, Select
 use Rattle.statement.specs.Access as access
 use Rattle.statement.specs.Stays.{SectionsStay}
 use Rattle.statement.specs.declared.access.Kind.TheVariants as K
-use Rattle.statement.specs.declared.Outcome as Oc
-use Rattle.statement.specs.declared.Outcome.TheVariants as O
+use Rattle.numbers.specs.declared.refusals.Refusal as code
+use Rattle.numbers.specs.Reasons.{reason_of, told}
 use Rattle.reader.specs.Texts.{kind_of, not_other, both_of, read_texts}
 use Rattle.reader.specs.Reading.{texts_of, is_other, texts_by, TextsRead}
 use Rattle.reader.specs.declared.Texts.TheVariants as T
@@ -102,7 +102,7 @@ pub record CatalogRead (c q : Bytes) (tables : List ℕ) (k : Rd.Read) : Type 0 
   pub is : catalog_of c q tables k ≡ catalog_answer c
 
 -- the statement was read
-pub record StatementRead (c q : Bytes) (cells froms parts : List ℕ) (o : Oc.Outcome) : Type 0 where
+pub record StatementRead (c q : Bytes) (cells froms parts : List ℕ) (o : Result ℕ code.Refusal) : Type 0 where
   pub is : statement_of c q cells froms parts o ≡ statement_answer q
   pub size : Counts (statement_size (statement_at c q cells froms parts)) o
   pub stays : SelectStays q cells parts o
@@ -125,7 +125,7 @@ module _ {c q : Bytes} {tables : List ℕ} {k : Rd.Read} (g : CatalogRead c q ta
     unfolding both_of ◌>>=◌ catalog_of limit_at refusal_number text_number
     catalog-limit {l} z = refused-read (record { reason = limit_passed; text = catalog; line = l }) (both ∙ rw (both_of, catalog-read, z))
 
-  module _ (z : k ≡ A.Done) {cells froms parts : List ℕ} {o : Oc.Outcome} (h : StatementRead c q cells froms parts o) where
+  module _ (z : k ≡ A.Done) {cells froms parts : List ℕ} {o : Result ℕ code.Refusal} (h : StatementRead c q cells froms parts o) where
     statement-read : read_statement q ≡ statement_of c q cells froms parts o
     unfolding statement_answer
     statement-read = sym (h.is ∙ rw (statement_answer, le-ltb most_bytes (length q) g.short_statement))
@@ -134,27 +134,23 @@ module _ {c q : Bytes} {tables : List ℕ} {k : Rd.Read} (g : CatalogRead c q ta
     unfolding both_of ◌>>=◌ catalog_of
     after = both ∙ rw (both_of, catalog-read, z, statement-read)
 
-    pub statement-wrong : {l : ℕ} → o ≡ O.Wrong l → TextsRead c q tables cells froms parts (T.Refused 2 2 l)
-    unfolding ◌>>=◌ statement_of wrong_at refusal_number text_number
-    statement-wrong {l} y = refused-read (record { reason = wrong_record; text = statement; line = l }) (after ∙ rw y)
+    pub statement-refused : {w : code.Refusal} → o ≡ Err w → TextsRead c q tables cells froms parts (T.Refused (refusal_number (reason_of w.reason)) 2 w.line)
+    unfolding ◌>>=◌ statement_of text_number
+    statement-refused {w} y = refused-read (told statement w) (after ∙ rw y)
 
-    pub statement-limit : {l : ℕ} → o ≡ O.Limit l → TextsRead c q tables cells froms parts (T.Refused 3 2 l)
-    unfolding ◌>>=◌ statement_of limit_at refusal_number text_number
-    statement-limit {l} y = refused-read (record { reason = limit_passed; text = statement; line = l }) (after ∙ rw y)
-
-    taken : {n : ℕ} → o ≡ O.Done n → read_texts c q ≡ (not_other (statement_at c q cells froms parts) >>= λ s'. ok (catalog_at c q tables, s'))
+    taken : {n : ℕ} → o ≡ Ok n → read_texts c q ≡ (not_other (statement_at c q cells froms parts) >>= λ s'. ok (catalog_at c q tables, s'))
     unfolding ◌>>=◌ statement_of
     taken y = after ∙ rw y
 
-    counted : {n : ℕ} → o ≡ O.Done n → n ≡ statement_size (statement_at c q cells froms parts)
+    counted : {n : ℕ} → o ≡ Ok n → n ≡ statement_size (statement_at c q cells froms parts)
     unfolding Counts
     counted y = rw y at h.size
 
-    staying : {n : ℕ} → o ≡ O.Done n → K.Select ≡ access.kind_of (access.kind_number parts) → SectionsStay q cells parts
+    staying : {n : ℕ} → o ≡ Ok n → K.Select ≡ access.kind_of (access.kind_number parts) → SectionsStay q cells parts
     unfolding SelectStays
     staying y = rw y at h.stays
 
-    pub texts-read : {n : ℕ} → o ≡ O.Done n → TextsRead c q tables cells froms parts (texts_by (get_or parts 0 0) (get_or parts 1 0) n (get_or tables 0 0))
+    pub texts-read : {n : ℕ} → o ≡ Ok n → TextsRead c q tables cells froms parts (texts_by (get_or parts 0 0) (get_or parts 1 0) n (get_or tables 0 0))
     unfolding statement_at catalog_at
     texts-read {n} y = record {
       is = sym (ap texts_of (taken y) ∙ texts-of-kind _ _ _ _ _ _ _ (catalog_at c q tables) (get_or parts 0 0) n (get_or tables 0 0) (counted y) (sym (tables-length c q tables 0 (get_or tables 0 0))));

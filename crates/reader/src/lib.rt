@@ -7,7 +7,7 @@ ghost use Rattle.reader.specs.Reading.{texts_by, TextsRead};
 
 use numbers::refusals::{LIMIT_PASSED, OTHER_STATEMENT, WRONG_RECORD};
 use schema::read::Read;
-use statement::{CELL_NUMBERS, FROM_NUMBERS, Outcome, PART_NUMBERS, read_statement};
+use statement::{CELL_NUMBERS, FROM_NUMBERS, PART_NUMBERS, read_statement};
 
 // The texts' numbers.
 pub const CATALOG: u32 = 1;
@@ -63,9 +63,8 @@ pub fn read_texts(
         Read::Done => {
             let s = read_statement(statement, cells, froms, parts);
             match s {
-                Outcome::Wrong(l) => Texts::Refused(WRONG_RECORD, STATEMENT, l),
-                Outcome::Limit(l) => Texts::Refused(LIMIT_PASSED, STATEMENT, l),
-                Outcome::Done(n) => taken(parts[0], parts[1], n, tables[0]),
+                Err(w) => Texts::Refused(w.reason.number(), STATEMENT, w.line),
+                Ok(n) => taken(parts[0], parts[1], n, tables[0]),
             }
         }
     }

@@ -1,5 +1,5 @@
 -- A section that has an entry at least.
-use Rattle.std.specs.Prelude.{ℕ, suc, ◌-◌, ◌≤◌, ◌≡◌, refl, Bool, true, false}
+use Rattle.std.specs.Prelude.{ℕ, suc, ◌-◌, ◌≤◌, ◌≡◌, refl, Bool, true, false, Ok, Err}
 use Rattle.std.proofs.Common.{arith, sym, ◌∙◌}
 use Rattle.std.proofs.Math.Path.{ap}
 use mathlib.Core.List.{List, []}
@@ -10,7 +10,6 @@ use Rattle.rules.specs.Lists.{Bytes}
 use Rattle.rules.specs.Reader.{Place, Read, ◌>>=◌, at, stop, at_least_one}
 use Rattle.claims.specs.Answers.{anything, ensured}
 use Rattle.claims.specs.Reading.Rules.{Reaches, reads_then, reads-give}
-use Rattle.text.specs.Answers.{wrong_at, limit_at}
 use Rattle.text.specs.Reading.{place}
 use Rattle.numbers.specs.Kept.{kept-all}
 use Rattle.read_expression.specs.Reading.{here, Took, Given}
@@ -20,8 +19,10 @@ use Rattle.sections.specs.Terms.{SectionRead}
 use Rattle.sections.specs.Kinds.{turns-some}
 use Rattle.sections.specs.Store.{entries-length}
 use Rattle.sections.specs.OneEntry.{entries-end}
-use Rattle.read_expression.specs.declared.reading.Read as Rd
-use Rattle.read_expression.specs.declared.reading.Read.TheVariants as R
+use Rattle.numbers.specs.declared.refusals.Reason.TheVariants.{WrongRecord}
+use Rattle.numbers.specs.declared.refusals.Refusal as code
+use Rattle.numbers.specs.Reasons.{reason_of}
+use Rattle.read_expression.specs.declared.reading.Cursor.{Cursor}
 
 -- a step of whose value nothing is wanted
 reads-past : {A B : Type 0} (m : Read A) (f : A → Read B) (p : Place) (Q : B → Place → Type 0) → ((a : A) (q : Place) → Reaches (f a q) Q) → Reaches (◌>>=◌ m f p) Q
@@ -77,32 +78,26 @@ module _ (kind : ℕ) (p : Place) where
       go false s = absurd (z (let x = sym e ∙ section-none s in let y : ◌≡◌ {A = List Entry × Place} (xs, q) ([], p) = cc in ap (λ (r : List Entry × Place). length r.0) y))
 
 -- the answer for a section, whose number of entries is stored at s
-module _ (t : Bytes) (p l c kind : ℕ) (cells cells' parts parts' : List ℕ) {r : Rd.Read} (h : (k : ℕ) → Given (section kind) (SectionRead t kind c cells cells' parts parts') t p l c k r) where
-  given-as : (k : ℕ) (x : Rd.Read) → r ≡ x → Given (section kind) (SectionRead t kind c cells cells' parts parts') t p l c k x
-  given-as k x e = rw e at (h k)
+module _ (t : Bytes) (p l c kind : ℕ) (cells cells' parts parts' : List ℕ) where
+  pub some-no : (w : code.Refusal) → ((k : ℕ) → Given (section kind) (SectionRead t kind c cells cells' parts parts') t p l c k (Err w))
+      → (k : ℕ) → Given (some_section kind) (SectionRead t kind c cells cells' parts parts') t p l c k (Err w)
+  unfolding Given
+  some-no w h k = some-refused kind (here t p l c k) (h k)
 
-  pub some-wrong : {x : ℕ} → r ≡ R.Wrong x → (k : ℕ) → Given (some_section kind) (SectionRead t kind c cells cells' parts parts') t p l c k (R.Wrong x)
-  unfolding Given wrong_at
-  some-wrong {x} e k = some-refused kind (here t p l c k) (given-as k (R.Wrong x) e)
-
-  pub some-limit : {x : ℕ} → r ≡ R.Limit x → (k : ℕ) → Given (some_section kind) (SectionRead t kind c cells cells' parts parts') t p l c k (R.Limit x)
-  unfolding Given limit_at
-  some-limit {x} e k = some-refused kind (here t p l c k) (given-as k (R.Limit x) e)
-
-  module _ {p' l' c' : ℕ} (e : r ≡ R.Done p' l' c') {s : ℕ} (z : s ≡ start_of kind) where
-    took : (k : ℕ) → Took (section kind) (SectionRead t kind c cells cells' parts parts' c') t p l c k p' l' c'
+  module _ (q : Cursor) (h : (k : ℕ) → Given (section kind) (SectionRead t kind c cells cells' parts parts') t p l c k (Ok q)) {s : ℕ} (z : s ≡ start_of kind) where
+    took : (k : ℕ) → Took (section kind) (SectionRead t kind c cells cells' parts parts' q.rows) t p l c k q.position q.line q.rows
     unfolding Given
-    took k = given-as k (R.Done p' l' c') e
+    took k = h k
 
     count : (k : ℕ) → length (took k).value ≡ get_or parts' s 0
     unfolding section_at
     count k = ap length (sym ((took k).holds.is cells' parts' (kept-all 0 _ cells') (kept-all 0 _ parts') [])) ∙ entries-length [] t cells' parts' _ _ ∙ ap (λ i. get_or parts' i 0) (sym z)
 
-    pub some-none : get_or parts' s 0 ≡ 0 → (k : ℕ) → Given (some_section kind) (SectionRead t kind c cells cells' parts parts') t p l c k (R.Wrong l)
-    unfolding Given wrong_at stop place
+    pub some-none : get_or parts' s 0 ≡ 0 → (k : ℕ) → Given (some_section kind) (SectionRead t kind c cells cells' parts parts') t p l c k (Err (record { reason = WrongRecord; line = l }))
+    unfolding Given reason_of stop place
     some-none n k = some-empty kind (here t p l c k) (took k).is (count k ∙ n)
 
-    pub some-done : (get_or parts' s 0 ≡ 0 → ⊥) → (k : ℕ) → Given (some_section kind) (SectionRead t kind c cells cells' parts parts') t p l c k (R.Done p' l' c')
+    pub some-done : (get_or parts' s 0 ≡ 0 → ⊥) → (k : ℕ) → Given (some_section kind) (SectionRead t kind c cells cells' parts parts') t p l c k (Ok q)
     unfolding Given
     some-done n k =
         let x = took k in

@@ -1,8 +1,9 @@
 -- One entry of a section: what the rules make of the record that stands here and of the rest, and what stands in the numbers.
-use Rattle.std.specs.Prelude.{ℕ, suc, ◌+◌, ◌*◌, ◌≤◌, ◌<◌, ◌≡◌, true, false, List, [], ◌∷◌}
+use Rattle.std.specs.Prelude.{ℕ, suc, ◌+◌, ◌*◌, ◌≤◌, ◌<◌, ◌≡◌, true, false, List, [], ◌∷◌, Result, Ok, Err, Some, None}
 use native.Mathlib.Omega.{arith}
 use Rattle.std.proofs.Math.Path.{refl, ap}
 use Rattle.std.proofs.Common.{sym, ◌∙◌}
+use Rattle.std.specs.Prelude as std
 use Rattle.std.proofs.Math.Option.{Option, none, some}
 use Rattle.std.proofs.Math.ListN.{length}
 use Rattle.std.proofs.lemmas.List.Edits.{sets}
@@ -12,7 +13,7 @@ use Rattle.rules.specs.Ast.{Exprs}
 use Rattle.rules.specs.Reader.{Place, at, rest, next, stop}
 use Rattle.rules.specs.ReadExpression.{times, expression}
 use Rattle.ast.specs.Table.{row_size, table_size, arguments_at, tree_at}
-use Rattle.text.specs.Answers.{wrong_at, limit_at, bind_ok, bind-no, within-wrong, within-limit, within-ok, prefixed, give-first}
+use Rattle.text.specs.Answers.{bind_ok, bind-no, within-wrong, within-limit, within-ok, prefixed, give-first}
 use Rattle.text.specs.Lines.{line_end, line-moves, line-most}
 use Rattle.text.specs.Reading.{place, place-next}
 use Rattle.read_expression.specs.Reading.{here, Position, Took, Given, Rows}
@@ -26,10 +27,11 @@ use Rattle.read_expression.specs.Times.{times-count}
 use Rattle.sections.specs.Kinds.{entry-within, keyword-inside}
 use Rattle.sections.specs.Store.{entry_numbers, entry-twelve, entry-back}
 use Rattle.entries.specs.declared.Head.{Head}
-use Rattle.read_expression.specs.declared.reading.Read as Rd
-use Rattle.read_expression.specs.declared.reading.Read.TheVariants as R
-use Rattle.sections.specs.declared.Step.{Step}
-use Rattle.sections.specs.declared.Step.TheVariants as S
+use Rattle.numbers.specs.declared.refusals.Reason.TheVariants.{WrongRecord, LimitPassed}
+use Rattle.numbers.specs.declared.refusals.Refusal as code
+use Rattle.numbers.specs.Reasons.{reason_of, told}
+use Rattle.read_expression.specs.declared.reading.Cursor.{Cursor}
+use Rattle.sections.specs.declared.EntryEnd.{EntryEnd}
 
 -- THE RULES
 module _ (kind fuel n : ℕ) (b : Option Bytes) (p : Place) where
@@ -97,12 +99,11 @@ pub record EntryEnds (t : Bytes) (p l c kind n : ℕ) (b : Option Bytes) (cells 
   pub parts_same : parts' ≡ parts
 
 -- what an answer says of the entry that may stand here
-unfoldable pub EntryRead : (t : Bytes) (p l c kind n last len : ℕ) (cells cells' parts parts' : List ℕ) (k : ℕ) → Step → Type 0
-EntryRead t p l c kind n last len cells cells' parts parts' k (S.Entry p' l' c' a m) =
-    EntryTook t p l c kind n (last_name t last len) cells cells' parts parts' k p' l' c' (last_name t a m)
-EntryRead t p l c kind n last len cells cells' parts parts' k S.End = EntryEnds t p l c kind n (last_name t last len) cells cells' parts parts' k
-EntryRead t p l c kind n last len cells cells' parts parts' k (S.Wrong x) = (fuel : ℕ) → entries kind (suc fuel) n (last_name t last len) (here t p l c k) ≡ wrong_at statement x
-EntryRead t p l c kind n last len cells cells' parts parts' k (S.Limit x) = (fuel : ℕ) → entries kind (suc fuel) n (last_name t last len) (here t p l c k) ≡ limit_at statement x
+unfoldable pub EntryRead : (t : Bytes) (p l c kind n last len : ℕ) (cells cells' parts parts' : List ℕ) (k : ℕ) → Result (std.Option EntryEnd) code.Refusal → Type 0
+EntryRead t p l c kind n last len cells cells' parts parts' k (Ok (Some e)) =
+    EntryTook t p l c kind n (last_name t last len) cells cells' parts parts' k e.behind.position e.behind.line e.behind.rows (last_name t e.address e.length)
+EntryRead t p l c kind n last len cells cells' parts parts' k (Ok None) = EntryEnds t p l c kind n (last_name t last len) cells cells' parts parts' k
+EntryRead t p l c kind n last len cells cells' parts parts' k (Err w) = (fuel : ℕ) → entries kind (suc fuel) n (last_name t last len) (here t p l c k) ≡ refused (told statement w)
 
 -- the twelve numbers of the entry, by those of its record
 numbers_as : {t : Bytes} {kind : ℕ} {b : Option Bytes} {p : Place} {r : Head} (v : Entered t kind b p r) (l c : ℕ) → entry_numbers l c v.head ≡ l ∷ r.expressions ∷ c ∷ numbers_of r
@@ -111,20 +112,20 @@ numbers_as {t} {kind} {b} {p} {r} v l c = ap (λ xs. l ∷ v.head.expressions �
 
 module _ {t : Bytes} {p l c kind n : ℕ} {cells parts : List ℕ} (w : EntryReady t p l c kind n cells parts) (last len : ℕ) {r : Head}
     (h : (l c k : ℕ) → IsHead t kind (last_name t last len) (here t p l c k) r) where
-  pub entry-end : r.state ≡ 0 → (k : ℕ) → EntryRead t p l c kind n last len cells cells parts parts k S.End
+  pub entry-end : r.state ≡ 0 → (k : ℕ) → EntryRead t p l c kind n last len cells cells parts parts k (Ok None)
   unfolding EntryRead
   entry-end e k = record { is = λ fuel. entries-end kind fuel n _ _ ((h l c k).missing e); cells_same = refl; parts_same = refl }
 
-  pub entry-wrong : r.state ≡ 1 → (k : ℕ) → EntryRead t p l c kind n last len cells cells parts parts k (S.Wrong l)
-  unfolding EntryRead wrong_at stop place
+  pub entry-wrong : r.state ≡ 1 → (k : ℕ) → EntryRead t p l c kind n last len cells cells parts parts k (Err (record { reason = WrongRecord; line = l }))
+  unfolding EntryRead reason_of stop place
   entry-wrong e k fuel = entries-wrong kind fuel n _ _ ((h l c k).wrong e).0 ((h l c k).wrong e).1
 
   module _ (z : (r.state ≡ 0) → ⊥) (o : (r.state ≡ 1) → ⊥) where
     entered : (k : ℕ) → Entered t kind (last_name t last len) (here t p l c k) r
     entered k = (h l c k).entered (omega (arith, (h l c k).states, z, o))
 
-    pub entry-limit : most_of kind ≤ n → (k : ℕ) → EntryRead t p l c kind n last len cells cells parts parts k (S.Limit l)
-    unfolding EntryRead limit_at stop place
+    pub entry-limit : most_of kind ≤ n → (k : ℕ) → EntryRead t p l c kind n last len cells cells parts parts k (Err (record { reason = LimitPassed; line = l }))
+    unfolding EntryRead reason_of stop place
     entry-limit m k fuel = let x = entered k in entries-limit kind fuel n _ _ x.stands x.head x.is m
 
     module _ (m : n < most_of kind) {e : ℕ} (ee : e ≡ line_end t p) where
@@ -140,29 +141,23 @@ module _ {t : Bytes} {p l c kind n : ℕ} {cells parts : List ℕ} (w : EntryRea
       at_next : (k : ℕ) → next (here t p l c k) ≡ here t e (l + 1) c k
       at_next k = place-next statement t p l c k ∙ ap (λ x. here t x (l + 1) c k) (sym ee)
 
-      module _ (cells' : List ℕ) {a : Rd.Read} (g : (k : ℕ)
-          → Given (times r.expressions expression) (Rows t c cells cells') t e (l + 1) c k a) where
-        read_as : (k : ℕ) (x : Rd.Read) → a ≡ x → Given (times (entered k).head.expressions expression)
-            (Rows t c cells cells') t e (l + 1) c k x
-        read_as k x y = rw ((entered k).expressions, y) at (g k)
+      module _ (cells' : List ℕ) where
+        read_as : (k : ℕ) (x : Result Cursor code.Refusal) → Given (times r.expressions expression) (Rows t c cells cells') t e (l + 1) c k x
+            → Given (times (entered k).head.expressions expression) (Rows t c cells cells') t e (l + 1) c k x
+        read_as k x g = rw (entered k).expressions at g
 
-        pub entry-refused : {x : ℕ} → a ≡ R.Wrong x → (k : ℕ) → EntryRead t p l c kind n last len cells cells' parts parts k (S.Wrong x)
-        unfolding EntryRead Given wrong_at
-        entry-refused {x} y k fuel =
+        pub entry-refused : (x : code.Refusal) → ((k : ℕ) → Given (times r.expressions expression) (Rows t c cells cells') t e (l + 1) c k (Err x))
+            → (k : ℕ) → EntryRead t p l c kind n last len cells cells' parts parts k (Err x)
+        unfolding EntryRead Given
+        entry-refused x g k fuel =
             let v = entered k in
-            entries-no kind fuel n _ _ v.stands v.head v.is m _ (ap (times v.head.expressions expression) (at_next k) ∙ read_as k (R.Wrong x) y)
+            entries-no kind fuel n _ _ v.stands v.head v.is m _ (ap (times v.head.expressions expression) (at_next k) ∙ read_as k (Err x) (g k))
 
-        pub entry-limited : {x : ℕ} → a ≡ R.Limit x → (k : ℕ) → EntryRead t p l c kind n last len cells cells' parts parts k (S.Limit x)
-        unfolding EntryRead Given limit_at
-        entry-limited {x} y k fuel =
-            let v = entered k in
-            entries-no kind fuel n _ _ v.stands v.head v.is m _ (ap (times v.head.expressions expression) (at_next k) ∙ read_as k (R.Limit x) y)
-
-        module _ {p' l' c' : ℕ} (y : a ≡ R.Done p' l' c') where
-          took : (k : ℕ) → Took (times (entered k).head.expressions expression) (Rows t c cells cells' c') t e
-              (l + 1) c k p' l' c'
+        module _ (q : Cursor) (g : (k : ℕ) → Given (times r.expressions expression) (Rows t c cells cells') t e (l + 1) c k (Ok q)) where
+          took : (k : ℕ) → Took (times (entered k).head.expressions expression) (Rows t c cells cells' q.rows) t e
+              (l + 1) c k q.position q.line q.rows
           unfolding Given
-          took k = read_as k (R.Done p' l' c') y
+          took k = read_as k (Ok q) (g k)
 
           start-next : entry_start kind n + 12 ≡ entry_start kind (suc n)
           unfolding entry_start
@@ -175,7 +170,7 @@ module _ {t : Bytes} {p l c kind n : ℕ} {cells parts : List ℕ} (w : EntryRea
             stored : (k : ℕ) → Stored parts' (entry_start kind n) (entry_numbers l c (entered k).head)
             stored k = rw (u, numbers_as (entered k) l c) (stored-sets parts (entry_start kind n) (l ∷ r.expressions ∷ c ∷ numbers_of r) (entry-room w m refl))
 
-            pub entry-took : (k : ℕ) → EntryRead t p l c kind n last len cells cells' parts parts' k (S.Entry p' l' c' r.a r.b)
+            pub entry-took : (k : ℕ) → EntryRead t p l c kind n last len cells cells' parts parts' k (Ok (Some (record { behind = q; address = r.a; length = r.b })))
             unfolding EntryRead place
             entry-took k =
                 let d = entered k in
@@ -185,18 +180,18 @@ module _ {t : Bytes} {p l c kind n : ℕ} {cells parts : List ℕ} (w : EntryRea
                 record {
                   value = entry;
                   is = λ fuel. entries-on kind fuel n _ _ d.stands d.head d.is m es _ (ap (times d.head.expressions expression) (at_next k) ∙ x.is)
-                      ∙ ap (λ z. prefixed (entry ∷ []) (entries kind fuel (suc n) z (here t p' l' c' k))) (sym d.last);
+                      ∙ ap (λ z. prefixed (entry ∷ []) (entries kind fuel (suc n) z (here t q.position q.line q.rows k))) (sym d.last);
                   position = x.position;
                   moved = omega (arith, moved, x.moved);
                   more = x.more;
                   few = m;
                   stands = λ cells'' parts'' α β b.
                       let f : Kept (entry_start kind n) (entry_start kind n + length (entry_numbers l c d.head)) parts' parts'' = rw (entry-twelve l c d.head, start-next) β in
-                      let q = rows_back x.holds w.cells-room x.position.rows cells'' α b in
+                      let z' = rows_back x.holds w.cells-room x.position.rows cells'' α b in
                       let z = times-count d.head.expressions expression _ _ es x.is in
                       entry-back b t cells'' parts'' (entry_start kind n) l c d.head (d.named b) (d.refers b)
                       (stored-kept _ _ f (omega arith) (omega arith) (stored k)) es (ap (λ z. arguments_at (tree_at b t cells'') cells'' z c) (sym z)
-                      ∙ q);
+                      ∙ z');
                   cells-kept = rows-kept x.holds;
                   parts-kept = rw u (kept-sets-behind parts (entry_start kind n) (l ∷ r.expressions ∷ c ∷ numbers_of r) 0 (entry_start kind n) (omega arith));
                 }

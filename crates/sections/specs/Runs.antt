@@ -2,7 +2,7 @@
 use Prim.Native.Nat.{ℕ, suc, ◌+◌, ◌*◌, ◌-◌, ◌≤◌, ◌<◌}
 use native.Mathlib.Omega.{arith}
 use Rattle.std.proofs.Common.{add-one, ◌∙◌}
-use Rattle.std.specs.Prelude.{◌≡◌, refl, true, false, set}
+use Rattle.std.specs.Prelude.{◌≡◌, refl, true, false, set, Ok, Err, Some, None}
 use Rattle.std.proofs.Math.Path.{sym, ap}
 use mathlib.Core.List.{List, [], ◌∷◌, ◌++◌, append-nil}
 use Rattle.std.proofs.Math.Option.{Option, none}
@@ -11,7 +11,7 @@ use Rattle.std.proofs.Math.Seq.{get_or-set_same}
 use Rattle.rules.specs.Refusals.{statement, ok}
 use Rattle.rules.specs.Lists.{Bytes}
 use Rattle.rules.specs.Reader.{give}
-use Rattle.text.specs.Answers.{wrong_at, limit_at, prefixed, prefixed-none, prefixed-twice}
+use Rattle.text.specs.Answers.{prefixed, prefixed-none, prefixed-twice}
 use Rattle.text.specs.Reading.{place-length}
 use Rattle.read_expression.specs.Reading.{here, Position, Took, Given}
 use Rattle.entries.specs.Entries.{Entry, most_of, is_once, entries, turns_of, section}
@@ -23,9 +23,8 @@ use Rattle.numbers.specs.Kept.{Kept, kept-part, kept_on, kept_set, kept-all, kep
 use Rattle.ast.specs.Table.{row_size, table_size}
 use Rattle.sections.specs.Store.{entries-more}
 use Rattle.sections.specs.OneEntry.{entry_start, EntryReady, EntryTook, EntryRead}
-use Rattle.read_expression.specs.declared.reading.Read.TheVariants as R
-use Rattle.sections.specs.declared.Step.{Step}
-use Rattle.sections.specs.declared.Step.TheVariants as S
+use Rattle.numbers.specs.declared.refusals.Refusal as code
+use Rattle.sections.specs.declared.EntryEnd.{EntryEnd}
 
 -- the turns that the rules take from p on
 unfoldable pub turns_at : Bytes → ℕ → ℕ → ℕ
@@ -144,52 +143,47 @@ module _ {t : Bytes} {p₀ l₀ c₀ kind : ℕ} {cells₀ parts₀ : List ℕ} 
   rest : (k : ℕ) → prefixed (h k).value (entries kind (suc (turns_at t kind p₀ - (n + 1))) n (last_name t last len) (here t p l c k)) ≡ section kind (here t p₀ l₀ c₀ k)
   rest k = rw left at (h k).is
 
-  module _ (cells' parts' : List ℕ) {r : Step} (g : (k : ℕ) → EntryRead t p l c kind n last len cells cells' parts parts' k r) where
-    entry-as : (k : ℕ) (x : Step) → r ≡ x → EntryRead t p l c kind n last len cells cells' parts parts' k x
-    entry-as k x e = rw e at (g k)
-
-    pub section-wrong : {x : ℕ} → r ≡ S.Wrong x → (k : ℕ) → Given (section kind) (SectionRead t kind c₀ cells₀ cells' parts₀ parts') t p₀ l₀ c₀ k (R.Wrong x)
-    unfolding Given EntryRead prefixed wrong_at
-    section-wrong {x} e k = sym (rw (entry-as k (S.Wrong x) e (turns_at t kind p₀ - (n + 1))) at (rest k))
-
-    pub section-limit : {x : ℕ} → r ≡ S.Limit x → (k : ℕ) → Given (section kind) (SectionRead t kind c₀ cells₀ cells' parts₀ parts') t p₀ l₀ c₀ k (R.Limit x)
-    unfolding Given EntryRead prefixed limit_at
-    section-limit {x} e k = sym (rw (entry-as k (S.Limit x) e (turns_at t kind p₀ - (n + 1))) at (rest k))
+  module _ (cells' parts' : List ℕ) where
+    pub section-refused : (w : code.Refusal) → ((k : ℕ) → EntryRead t p l c kind n last len cells cells' parts parts' k (Err w))
+        → (k : ℕ) → Given (section kind) (SectionRead t kind c₀ cells₀ cells' parts₀ parts') t p₀ l₀ c₀ k (Err w)
+    unfolding Given EntryRead prefixed
+    section-refused w g k = sym (rw (g k (turns_at t kind p₀ - (n + 1))) at (rest k))
 
     -- no entry stands there: their number is stored
-    pub section-end : kind ≤ 11 → length parts' ≡ numbers → {s : ℕ} → s ≡ start_of kind → r ≡ S.End
-        → (k : ℕ) → Given (section kind) (SectionRead t kind c₀ cells₀ cells' parts₀ (set parts' s n)) t p₀ l₀ c₀ k (R.Done p l c)
+    pub section-end : kind ≤ 11 → length parts' ≡ numbers → {s : ℕ} → s ≡ start_of kind
+        → ((k : ℕ) → EntryRead t p l c kind n last len cells cells' parts parts' k (Ok None))
+        → (k : ℕ) → Given (section kind) (SectionRead t kind c₀ cells₀ cells' parts₀ (set parts' s n)) t p₀ l₀ c₀ k (Ok (record { position = p; line = l; rows = c }))
     unfolding Given EntryRead prefixed
-    section-end m f z e k =
-        let x = entry-as k S.End e in
+    section-end m f z g k =
+        let x = g k in
         let y : ok ((h k).value ++ [], here t p l c k) ≡ section kind (here t p₀ l₀ c₀ k) = (rw (x.is (turns_at t kind p₀ - (n + 1))) at (rest k)) in
         rw (x.cells_same, x.parts_same) (all_read (h k).read (sym y ∙ ap (λ v. ok (v, here t p l c k)) (append-nil (h k).value)) m (ap length (sym x.parts_same) ∙ f) z)
 
-    module _ {p' l' c' a b : ℕ} (e : r ≡ S.Entry p' l' c' a b) where
-      took : (k : ℕ) → EntryTook t p l c kind n (last_name t last len) cells cells' parts parts' k p' l' c' (last_name t a b)
+    module _ (e : EntryEnd) (g : (k : ℕ) → EntryRead t p l c kind n last len cells cells' parts parts' k (Ok (Some e))) where
+      took : (k : ℕ) → EntryTook t p l c kind n (last_name t last len) cells cells' parts parts' k e.behind.position e.behind.line e.behind.rows (last_name t e.address e.length)
       unfolding EntryRead
-      took k = entry-as k (S.Entry p' l' c' a b) e
+      took k = g k
 
-      pub entry-moved : (p < p') × (p' ≤ length t) × (n < most_of kind)
+      pub entry-moved : (p < e.behind.position) × (e.behind.position ≤ length t) × (n < most_of kind)
       entry-moved = ((took 0).moved, (took 0).position.within, (took 0).few)
 
-      behind : (k : ℕ) → prefixed ((h k).value ++ ((took k).value ∷ [])) (entries kind (turns_at t kind p₀ - (n + 1)) (n + 1) (last_name t a b) (here t p' l' c' k)) ≡ section kind (here t p₀ l₀ c₀ k)
+      behind : (k : ℕ) → prefixed ((h k).value ++ ((took k).value ∷ [])) (entries kind (turns_at t kind p₀ - (n + 1)) (n + 1) (last_name t e.address e.length) (here t e.behind.position e.behind.line e.behind.rows k)) ≡ section kind (here t p₀ l₀ c₀ k)
       behind k =
           let x = rw ((took k).is (turns_at t kind p₀ - (n + 1)), ← add-one n) at (rest k) in
-          sym (prefixed-twice (h k).value ((took k).value ∷ []) (entries kind (turns_at t kind p₀ - (n + 1)) (n + 1) (last_name t a b) (here t p' l' c' k))) ∙ x
+          sym (prefixed-twice (h k).value ((took k).value ∷ []) (entries kind (turns_at t kind p₀ - (n + 1)) (n + 1) (last_name t e.address e.length) (here t e.behind.position e.behind.line e.behind.rows k))) ∙ x
 
       -- a clause has one entry
       pub section-once : is_once kind ≡ true → kind ≤ 11 → length parts' ≡ numbers → {s : ℕ} → s ≡ start_of kind
-          → (k : ℕ) → Given (section kind) (SectionRead t kind c₀ cells₀ cells' parts₀ (set parts' s (n + 1))) t p₀ l₀ c₀ k (R.Done p' l' c')
+          → (k : ℕ) → Given (section kind) (SectionRead t kind c₀ cells₀ cells' parts₀ (set parts' s (n + 1))) t p₀ l₀ c₀ k (Ok e.behind)
       unfolding Given turns_at prefixed entries give
       section-once o m f z k =
           let xs = (h k).value ++ ((took k).value ∷ []) in
           let u : turns_at t kind p₀ ≡ 1 = turns-once kind (length t - p₀) o in
           let v : turns_at t kind p₀ - (n + 1) ≡ 0 = omega (arith, u) in
-          let y : ok (xs ++ [], here t p' l' c' k) ≡ section kind (here t p₀ l₀ c₀ k) = (rw v at (behind k)) in
-          all_read (one-read (h k).read (took k)) (sym y ∙ ap (λ w. ok (w, here t p' l' c' k)) (append-nil xs)) m f z
+          let y : ok (xs ++ [], here t e.behind.position e.behind.line e.behind.rows k) ≡ section kind (here t p₀ l₀ c₀ k) = (rw v at (behind k)) in
+          all_read (one-read (h k).read (took k)) (sym y ∙ ap (λ w. ok (w, here t e.behind.position e.behind.line e.behind.rows k)) (append-nil xs)) m f z
 
-      pub section-on : is_once kind ≡ false → (k : ℕ) → SectionLoop t p₀ l₀ c₀ kind cells₀ parts₀ k p' l' c' (n + 1) a b cells' parts'
+      pub section-on : is_once kind ≡ false → (k : ℕ) → SectionLoop t p₀ l₀ c₀ kind cells₀ parts₀ k e.behind.position e.behind.line e.behind.rows (n + 1) e.address e.length cells' parts'
       unfolding turns_at
       section-on o k =
           let u : turns_at t kind p₀ ≡ suc (length t - p₀) = turns_more kind (length t - p₀) o in

@@ -15,19 +15,18 @@ ghost use Rattle.ast.specs.Table.{table_size};
 
 use entries::{Head, entry_head};
 use numbers::put_four;
-use read_expression::reading::{Read, read_expressions};
+use numbers::refusals::{Reason, Refusal};
+use read_expression::reading::{Cursor, read_expressions};
 
 // How many numbers an entry has.
 const ENTRY_SIZE: usize = 12;
 
-// One entry: read, with the position behind it, its line, the rows so far, and its name's address and length; or none stands
-// there, or 2 or 3 at a line.
+// Behind an entry that was read: where reading stands, and the address and the length of the entry's name.
 #[derive(Clone, Copy)]
-enum Step {
-    Entry(usize, u32, u32, u32, u32),
-    End,
-    Wrong(u32),
-    Limit(u32),
+struct EntryEnd {
+    behind: Cursor,
+    address: u32,
+    length: u32,
 }
 
 // Where a section starts in the parts.
@@ -101,122 +100,95 @@ fn put_entry(parts: &mut [u32], i: usize, line: u32, row: u32, h: Head)
     put_four(parts, i + 8, h.unique, h.index, h.c, h.d);
 }
 
-// The entry at a position, behind n of them, the last one with this name.
+// The entry that stands here, if one does, behind n of them, the last one with this name.
 fn read_entry(
     t: &[u8],
-    p: usize,
-    l: u32,
-    c: u32,
+    at: Cursor,
     kind: u32,
     n: u32,
     last: u32,
     len: u32,
     cells: &mut [u32],
     parts: &mut [u32],
-) -> Step
-    requires { EntryReady t.now p l c kind n cells.old parts.old }
-    ensures { (k : ℕ) → EntryRead t.now p l c kind n last len cells.old cells.new parts.old parts.new k result }
+) -> Result<Option<EntryEnd>, Refusal>
+    requires { EntryReady t.now at.position at.line at.rows kind n cells.old parts.old }
+    ensures { (k : ℕ) → EntryRead t.now at.position at.line at.rows kind n last len cells.old cells.new parts.old parts.new k result }
 {
-    let f = text::fields(t, p);
-    let e = f.next;
-    let h = entry_head(t, p, f, kind, last, len);
+    let f = text::fields(t, at.position);
+    let h = entry_head(t, at.position, f, kind, last, len);
     if h.state == 0 {
-        return Step::End;
+        return Ok(None);
     }
     if h.state == 1 {
-        return Step::Wrong(l);
+        return Err(Reason::WrongRecord.at(at.line));
     }
     let most = most_of(kind);
     if most <= n {
-        return Step::Limit(l);
+        return Err(Reason::LimitPassed.at(at.line));
     }
-    let r = read_expressions(t, e, l + 1, c, h.expressions, cells);
-    match r {
-        Read::Wrong(x) => Step::Wrong(x),
-        Read::Limit(x) => Step::Limit(x),
-        Read::Done(q, m, d) => {
-            let i = entry_start(kind, n);
-            put_entry(parts, i, l, c, h);
-            Step::Entry(q, m, d, h.a, h.b)
-        }
-    }
+    let first = Cursor {
+        position: f.next,
+        line: at.line + 1,
+        rows: at.rows,
+    };
+    let behind = read_expressions(t, first, h.expressions, cells)?;
+    let i = entry_start(kind, n);
+    put_entry(parts, i, at.line, at.rows, h);
+    Ok(Some(EntryEnd {
+        behind,
+        address: h.a,
+        length: h.b,
+    }))
 }
 
-// The section of a kind at a position, from row c on.
+// The section of a kind that stands here.
 pub fn read_section(
     t: &[u8],
-    p: usize,
-    l: u32,
-    c: u32,
+    at: Cursor,
     kind: u32,
     cells: &mut [u32],
     parts: &mut [u32],
-) -> Read
-    requires fact_1 { Position t.now p l c }
+) -> Result<Cursor, Refusal>
+    requires fact_1 { Position t.now at.position at.line at.rows }
     requires fact_2 { (kind ≤ 11) × (length cells.old ≡ table_size) × (length parts.old ≡ 3863) }
-    ensures { (k : ℕ) → Given (section kind) (SectionRead t.now kind c cells.old cells.new parts.old parts.new) t.now p l c k result }
+    ensures { (k : ℕ) → Given (section kind) (SectionRead t.now kind at.rows cells.old cells.new parts.old parts.new) t.now at.position at.line at.rows k result }
 {
     let once = is_once(kind);
     let start = start_of(kind);
-    let mut q = p;
-    let mut m = l;
-    let mut d = c;
+    let mut behind = at;
     let mut n: u32 = 0;
     let mut last: u32 = 0;
     let mut len: u32 = 0;
-    loop {
-        let r = read_entry(t, q, m, d, kind, n, last, len, cells, parts);
-        match r {
-            Step::End => {
-                parts[start] = n;
-                return Read::Done(q, m, d);
-            }
-            Step::Wrong(x) => {
-                return Read::Wrong(x);
-            }
-            Step::Limit(x) => {
-                return Read::Limit(x);
-            }
-            Step::Entry(q2, m2, d2, a, b) => {
-                n += 1;
-                if once {
-                    parts[start] = n;
-                    return Read::Done(q2, m2, d2);
-                }
-                q = q2;
-                m = m2;
-                d = d2;
-                last = a;
-                len = b;
-            }
+    while let Some(e) = read_entry(t, behind, kind, n, last, len, cells, parts)? {
+        n += 1;
+        if once {
+            parts[start] = n;
+            return Ok(e.behind);
         }
+        behind = e.behind;
+        last = e.address;
+        len = e.length;
     }
+    parts[start] = n;
+    Ok(behind)
 }
 
 // The same, with one entry at least.
 pub fn read_some(
     t: &[u8],
-    p: usize,
-    l: u32,
-    c: u32,
+    at: Cursor,
     kind: u32,
     cells: &mut [u32],
     parts: &mut [u32],
-) -> Read
-    requires fact_1 { Position t.now p l c }
+) -> Result<Cursor, Refusal>
+    requires fact_1 { Position t.now at.position at.line at.rows }
     requires fact_2 { (kind ≤ 11) × (length cells.old ≡ table_size) × (length parts.old ≡ 3863) }
-    ensures { (k : ℕ) → Given (some_section kind) (SectionRead t.now kind c cells.old cells.new parts.old parts.new) t.now p l c k result }
+    ensures { (k : ℕ) → Given (some_section kind) (SectionRead t.now kind at.rows cells.old cells.new parts.old parts.new) t.now at.position at.line at.rows k result }
 {
-    let r = read_section(t, p, l, c, kind, cells, parts);
-    match r {
-        Read::Wrong(x) => Read::Wrong(x),
-        Read::Limit(x) => Read::Limit(x),
-        Read::Done(q, m, d) => {
-            let start = start_of(kind);
-            if parts[start] == 0 {
-                return Read::Wrong(l);
-            }
-            Read::Done(q, m, d)
-        }
+    let behind = read_section(t, at, kind, cells, parts)?;
+    let start = start_of(kind);
+    if parts[start] == 0 {
+        return Err(Reason::WrongRecord.at(at.line));
     }
+    Ok(behind)
 }

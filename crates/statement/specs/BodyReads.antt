@@ -1,9 +1,9 @@
 -- What stands behind a statement's first record, read into the slices.
-use Rattle.std.specs.Prelude.{ℕ, ◌≤◌, ◌≡◌, Bool, List, length, get_or}
+use Rattle.std.specs.Prelude.{ℕ, ◌≤◌, ◌≡◌, Bool, List, length, get_or, Result, Ok, Err}
 use Rattle.std.proofs.Common.{arith, ap, ◌∙◌}
 use Rattle.std.proofs.Math.Decide.{ℕ_discrete}
 use Rattle.std.proofs.Math.Path.{refl}
-use Rattle.rules.specs.Refusals.{statement, ok}
+use Rattle.rules.specs.Refusals.{statement, Refusal, ok, refused}
 use Rattle.rules.specs.Lists.{Bytes}
 use Rattle.rules.specs.Lines.{Word}
 use Rattle.rules.specs.Ast.{Statement}
@@ -11,7 +11,7 @@ use Rattle.rules.specs.Ast as Ast
 use Rattle.rules.specs.Reader.{Place, Read, give, ◌>>=◌}
 use Rattle.rules.specs.ReadStatement.{StatementHead, select_head, other_head, delete_head, insert_head, update_head, create_head, drop_head}
 use Rattle.ast.specs.Table.{statement_rows, table_size}
-use Rattle.text.specs.Answers.{wrong_at, limit_at, bind_ok}
+use Rattle.text.specs.Answers.{bind_ok, bind-no}
 use Rattle.numbers.specs.Codes.{coded, coded-miss, coded-end}
 use Rattle.numbers.specs.Kept.{Kept, kept-all}
 use Rattle.read_expression.specs.Reading.{here, Position, Given}
@@ -22,10 +22,12 @@ use Rattle.statement.specs.Layout.{select_of, insert_of, update_of, delete_of, c
 use Rattle.sections.specs.Terms.{end_of, SectionRead}
 use Rattle.statement.specs.Bodies.{update_sections, delete_sections, create_sections, sections_of}
 use Rattle.statement.specs.Stays.{stays-begin, stays_on, stays-end, SectionsStay}
-use Rattle.statement.specs.Answers.{bind-wrong, bind-limit, bind-same, given-done, given-wrong, given-limit}
+use Rattle.statement.specs.Answers.{bind-same}
+use Rattle.read_expression.specs.Given.{given-done, given-refused}
 use Rattle.statement.specs.FirstRecord.{head_of}
-use Rattle.read_expression.specs.declared.reading.Read as Rd
-use Rattle.read_expression.specs.declared.reading.Read.TheVariants as R
+use Rattle.numbers.specs.declared.refusals.Refusal as code
+use Rattle.numbers.specs.Reasons.{told}
+use Rattle.read_expression.specs.declared.reading.Cursor.{Cursor}
 
 -- the slices' lengths
 pub record Room (cells froms parts : List ℕ) : Type 0 where
@@ -59,13 +61,12 @@ pub record BodyTook (m : Read Statement) (t : Bytes) (h : StatementHead) (p : �
   pub sections : h ≡ select_head → SectionsStay t cells' parts'
 
 -- what an answer says of such a reading
-unfoldable pub BodyBy : (m : Read Statement) (t : Bytes) (h : StatementHead) (p : ℕ) (cells' froms' parts parts' : List ℕ) → Rd.Read → Type 0
-BodyBy m t h p cells' froms' parts parts' (R.Done p' l' c') = BodyTook m t h p cells' froms' parts parts' p' l' c'
-BodyBy m t h p cells' froms' parts parts' (R.Wrong x) = m (here t p 2 0 0) ≡ wrong_at statement x
-BodyBy m t h p cells' froms' parts parts' (R.Limit x) = m (here t p 2 0 0) ≡ limit_at statement x
+unfoldable pub BodyBy : (m : Read Statement) (t : Bytes) (h : StatementHead) (p : ℕ) (cells' froms' parts parts' : List ℕ) → Result Cursor code.Refusal → Type 0
+BodyBy m t h p cells' froms' parts parts' (Ok q) = BodyTook m t h p cells' froms' parts parts' q.position q.line q.rows
+BodyBy m t h p cells' froms' parts parts' (Err w) = m (here t p 2 0 0) ≡ refused (told statement w)
 
 -- and of the sections
-abbrev pub BodyRead : (t : Bytes) (h : StatementHead) (p : ℕ) (cells' froms' parts parts' : List ℕ) → Rd.Read → Type 0
+abbrev pub BodyRead : (t : Bytes) (h : StatementHead) (p : ℕ) (cells' froms' parts parts' : List ℕ) → Result Cursor code.Refusal → Type 0
 BodyRead t h p cells' froms' parts parts' r = BodyBy (sections_of h 1) t h p cells' froms' parts parts' r
 
 -- ONE STEP AFTER ANOTHER
@@ -74,11 +75,8 @@ module _ {A B C : Type 0} (m : Read A) (f : A → Read B) (g : B → Read C) (p 
   pub inner-ok : (v : A) (q : Place) → m p ≡ ok (v, q) → ((m >>= f) >>= g) p ≡ (f v >>= g) q
   inner-ok v q e = bind-same (m >>= f) (f v) g p q (bind_ok m f p v q e)
 
-  pub inner-wrong : (x : ℕ) → m p ≡ wrong_at statement x → ((m >>= f) >>= g) p ≡ wrong_at statement x
-  inner-wrong x e = bind-wrong (m >>= f) g p x (bind-wrong m f p x e)
-
-  pub inner-limit : (x : ℕ) → m p ≡ limit_at statement x → ((m >>= f) >>= g) p ≡ limit_at statement x
-  inner-limit x e = bind-limit (m >>= f) g p x (bind-limit m f p x e)
+  pub inner-no : (r : Refusal) → m p ≡ refused r → ((m >>= f) >>= g) p ≡ refused r
+  inner-no r e = bind-no (m >>= f) g p r (bind-no m f p r e)
 
 -- m is the last to be read: the statement is made of it
 module _ (t : Bytes) (h : StatementHead) (p : ℕ) (cells' froms' parts parts' : List ℕ) {A B : Type 0} (m : Read A) (H : ℕ → A → Type 0) (a : A → B) (e : B → Statement) (q l c k : ℕ)
@@ -89,18 +87,17 @@ module _ (t : Bytes) (h : StatementHead) (p : ℕ) (cells' froms' parts parts' :
   unfolding give
   last_ok v z x = come ∙ inner-ok m (λ v. give (a v)) (λ d. give (e d)) _ v z x ∙ bind_ok (give (a v)) (λ d. give (e d)) z (a v) z refl
 
-  pub body-last : (r : Rd.Read) → Given m H t q l c k r → BodyRead t h p cells' froms' parts parts' r
+  pub body-last : (r : Result Cursor code.Refusal) → Given m H t q l c k r → BodyRead t h p cells' froms' parts parts' r
   unfolding Given BodyBy
-  body-last (R.Wrong x) g = come ∙ inner-wrong m (λ v. give (a v)) (λ d. give (e d)) _ x g
-  body-last (R.Limit x) g = come ∙ inner-limit m (λ v. give (a v)) (λ d. give (e d)) _ x g
-  body-last (R.Done p' l' c') g = record {
+  body-last (Err w) g = come ∙ inner-no m (λ v. give (a v)) (λ d. give (e d)) _ _ g
+  body-last (Ok z) g = record {
     value = e (a g.value);
     tables = k;
     is = last_ok g.value _ g.is;
     position = g.position;
-    stand = (stands c' g.value g.more g.holds).0;
-    kept = (stands c' g.value g.more g.holds).1;
-    sections = stay c' g.value g.more g.position.rows g.holds;
+    stand = (stands z.rows g.value g.more g.holds).0;
+    kept = (stands z.rows g.value g.more g.holds).1;
+    sections = stay z.rows g.value g.more g.position.rows g.holds;
   }
 
 -- STATEMENTS OF ONE SECTION
@@ -112,7 +109,7 @@ create-is : (n : Word) (p : Place) → sections_of (create_head n) 1 p ≡ ((sec
 unfolding sections_of create_sections
 create-is n p = refl
 
-module _ (t : Bytes) (p : ℕ) (cells cells' froms parts parts' : List ℕ) (r : Rd.Read) where
+module _ (t : Bytes) (p : ℕ) (cells cells' froms parts parts' : List ℕ) (r : Result Cursor code.Refusal) where
   one-read : {B : Type 0} (h : StatementHead) (kind : ℕ) (a : List Entry → B) (e : B → Statement) → sections_of h 1 (here t p 2 0 0) ≡ ((section kind >>= λ xs. give (a xs)) >>= λ d. give (e d)) (here t p 2 0 0)
       → ((b : Bytes) → body_at b t cells' froms parts' h 1 ≡ e (a (section_at b t cells' parts' kind))) → 8 ≤ start_of kind → (h ≡ select_head → SectionsStay t cells' parts') → Given (section kind) (SectionRead t kind 0 cells cells' parts parts') t p 2 0 0 r
       → BodyRead t h p cells' froms parts parts' r
@@ -131,21 +128,18 @@ update-is : (n : Word) (p : Place) → sections_of (update_head n) 1 p ≡ ((som
 unfolding sections_of update_sections
 update-is n p = refl
 
-module _ (t : Bytes) (n : Word) (p : ℕ) (cells cells' froms parts parts' : List ℕ) (r : Rd.Read) (s : Given (some_section 10) (SectionRead t 10 0 cells cells' parts parts') t p 2 0 0 r) where
-  pub update-wrong : (x : ℕ) → r ≡ R.Wrong x → BodyRead t (update_head n) p cells' froms parts parts' (R.Wrong x)
+module _ (t : Bytes) (n : Word) (p : ℕ) (cells cells' froms parts parts' : List ℕ) where
+  pub update-refused : (w : code.Refusal) → Given (some_section 10) (SectionRead t 10 0 cells cells' parts parts') t p 2 0 0 (Err w) → BodyRead t (update_head n) p cells' froms parts parts' (Err w)
   unfolding BodyBy
-  update-wrong x e = update-is n _ ∙ inner-wrong (some_section 10) _ _ _ x (given-wrong _ _ _ _ _ _ _ _ s e)
+  update-refused w s = update-is n _ ∙ inner-no (some_section 10) _ _ _ _ (given-refused _ _ _ _ _ _ _ w s)
 
-  pub update-limit : (x : ℕ) → r ≡ R.Limit x → BodyRead t (update_head n) p cells' froms parts parts' (R.Limit x)
-  unfolding BodyBy
-  update-limit x e = update-is n _ ∙ inner-limit (some_section 10) _ _ _ x (given-limit _ _ _ _ _ _ _ _ s e)
-
-  pub update-read : (cells'' parts'' : List ℕ) (p' l' c' : ℕ) (r' : Rd.Read) → r ≡ R.Done p' l' c' → Given (section 1) (SectionRead t 1 c' cells' cells'' parts' parts'') t p' l' c' 0 r'
+  pub update-read : (cells'' parts'' : List ℕ) (q : Cursor) (r' : Result Cursor code.Refusal) → Given (some_section 10) (SectionRead t 10 0 cells cells' parts parts') t p 2 0 0 (Ok q)
+      → Given (section 1) (SectionRead t 1 q.rows cells' cells'' parts' parts'') t q.position q.line q.rows 0 r'
       → BodyRead t (update_head n) p cells'' froms parts parts'' r'
-  update-read cells'' parts'' p' l' c' r' e g =
-      let x = given-done _ _ _ _ _ _ _ _ s e in
+  update-read cells'' parts'' q r' s g =
+      let x = given-done _ _ _ _ _ _ _ _ s in
       let u = stays_on (stays-begin 8 cells parts) x.holds x.more (unfold start_of in omega arith) in
-      body-last t (update_head n) p cells'' froms parts parts'' (section 1) (SectionRead t 1 c' cells' cells'' parts' parts'') (update_of 1 n x.value) Ast.update p' l' c' 0 (update-is n _ ∙ inner-ok (some_section 10) _ _ _ _ _ x.is) (λ c'' w l v.
+      body-last t (update_head n) p cells'' froms parts parts'' (section 1) (SectionRead t 1 q.rows cells' cells'' parts' parts'') (update_of 1 n x.value) Ast.update q.position q.line q.rows 0 (update-is n _ ∙ inner-ok (some_section 10) _ _ _ _ _ x.is) (λ c'' w l v.
       let y = stays-end (stays_on u v l (unfold start_of end_of most_of in omega arith)) in
       (λ b. unfold body_at in rw (y.0.1 b, y.1 b), y.0.0)) (λ c'' w l m v e. record { same = λ x k b kind o. cc }) r' g
 
@@ -159,11 +153,11 @@ unfolding sections_of give
 drop-is n y p = refl
 
 module _ (t : Bytes) (p : ℕ) (cells froms parts : List ℕ) (h : Position t p 2 0) where
-  other-read : BodyRead t other_head p cells froms parts parts (R.Done p 2 0)
+  other-read : BodyRead t other_head p cells froms parts parts (Ok (record { position = p; line = 2; rows = 0 }))
   unfolding BodyBy body_at
   other-read = record { value = _; tables = 0; is = other-is _; position = h; stand = λ b. refl; kept = kept-all 0 _ _; sections = λ e. record { same = λ x k b kind l. cc } }
 
-  drop-read : (n : Word) (y : Bool) → BodyRead t (drop_head n y) p cells froms parts parts (R.Done p 2 0)
+  drop-read : (n : Word) (y : Bool) → BodyRead t (drop_head n y) p cells froms parts parts (Ok (record { position = p; line = 2; rows = 0 }))
   unfolding BodyBy body_at
   drop-read n y = record { value = _; tables = 0; is = drop-is n y _; position = h; stand = λ b. refl; kept = kept-all 0 _ _; sections = λ e. record { same = λ x k b kind l. cc } }
 
@@ -171,7 +165,7 @@ module _ (t : Bytes) (p : ℕ) (cells froms parts : List ℕ) (h : Position t p 
 -- what a code does not stand for
 -- no other kind has a body
 pub no_body : (t : Bytes) (p : ℕ) (cells froms parts : List ℕ) → Position t p 2 0 → (kind : ℕ) → (kind ≡ 1 → ⊥) → (kind ≡ 2 → ⊥) → (kind ≡ 4 → ⊥) → (kind ≡ 5 → ⊥) → (kind ≡ 6 → ⊥) → (n : Word) (y : Bool)
-    → BodyRead t (head_of kind n y) p cells froms parts parts (R.Done p 2 0)
+    → BodyRead t (head_of kind n y) p cells froms parts parts (Ok (record { position = p; line = 2; rows = 0 }))
 no_body t p cells froms parts w kind e₁ e₂ e₄ e₅ e₆ n y = elim (ℕ_discrete kind 3) [
   | yes z ↦ rw (kind-drop z) (drop-read t p cells froms parts w n y)
   | no z ↦ rw (kind-other z) (other-read t p cells froms parts w)

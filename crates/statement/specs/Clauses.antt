@@ -1,10 +1,10 @@
 -- The sections of several kinds in a row: those of a SELECT behind its FROM.
-use Rattle.std.specs.Prelude.{ℕ, zero, suc, ◌+◌, ◌*◌, ◌-◌, ◌≤◌, ◌<◌, ◌≡◌, refl, List, [], ◌∷◌, get_or}
+use Rattle.std.specs.Prelude.{ℕ, zero, suc, ◌+◌, ◌*◌, ◌-◌, ◌≤◌, ◌<◌, ◌≡◌, refl, List, [], ◌∷◌, get_or, Result, Ok, Err}
 use Rattle.std.proofs.Common.{arith, add-one, sym, ap, ◌∙◌}
-use Rattle.rules.specs.Refusals.{statement, Answer, ok, refused}
+use Rattle.rules.specs.Refusals.{Refusal, Answer, ok, refused}
 use Rattle.rules.specs.Lists.{Bytes}
 use Rattle.rules.specs.Reader.{Place, Read, give, ◌>>=◌}
-use Rattle.text.specs.Answers.{wrong_at, limit_at, bind_ok}
+use Rattle.text.specs.Answers.{bind_ok, bind-no}
 use Rattle.numbers.specs.Kept.{Kept, kept-all, kept_on, kept-first}
 use Rattle.ast.specs.Table.{row_size}
 use Rattle.read_expression.specs.Reading.{here, Position, Took, Given}
@@ -12,9 +12,9 @@ use Rattle.entries.specs.Entries.{Entry, most_of, section}
 use Rattle.sections.specs.Layout.{start_of, section_at}
 use Rattle.sections.specs.Terms.{end_of, SectionRead}
 use Rattle.statement.specs.Stays.{Stays, stays-more}
-use Rattle.statement.specs.Answers.{bind-wrong, bind-limit, given-done, given-wrong, given-limit}
-use Rattle.read_expression.specs.declared.reading.Read as Rd
-use Rattle.read_expression.specs.declared.reading.Read.TheVariants as R
+use Rattle.read_expression.specs.Given.{given-done}
+use Rattle.numbers.specs.declared.refusals.Refusal as code
+use Rattle.read_expression.specs.declared.reading.Cursor.{Cursor}
 
 -- the sections of n kinds from k on
 unfoldable pub run : ℕ → ℕ → Read (List (List Entry))
@@ -94,29 +94,21 @@ unfolding run give
 none_left k p = refl
 
 module _ (kind n : ℕ) (p : Place) where
-  run-wrong-at : (x : ℕ) → section kind p ≡ wrong_at statement x → run kind (suc n) p ≡ wrong_at statement x
+  run-no : (r : Refusal) → section kind p ≡ refused r → run kind (suc n) p ≡ refused r
   unfolding run
-  run-wrong-at x e = bind-wrong (section kind) _ p x e
-
-  run-limit-at : (x : ℕ) → section kind p ≡ limit_at statement x → run kind (suc n) p ≡ limit_at statement x
-  unfolding run
-  run-limit-at x e = bind-limit (section kind) _ p x e
+  run-no r e = bind-no (section kind) _ p r e
 
   module _ (xs : List Entry) (q : Place) (e : section kind p ≡ ok (xs, q)) where
-    run-then-wrong : (x : ℕ) → run (suc kind) n q ≡ wrong_at statement x → run kind (suc n) p ≡ wrong_at statement x
+    run-then-no : (r : Refusal) → run (suc kind) n q ≡ refused r → run kind (suc n) p ≡ refused r
     unfolding run
-    run-then-wrong x h = bind_ok (section kind) _ p xs q e ∙ bind-wrong (run (suc kind) n) _ q x h
-
-    run-then-limit : (x : ℕ) → run (suc kind) n q ≡ limit_at statement x → run kind (suc n) p ≡ limit_at statement x
-    unfolding run
-    run-then-limit x h = bind_ok (section kind) _ p xs q e ∙ bind-limit (run (suc kind) n) _ q x h
+    run-then-no r h = bind_ok (section kind) _ p xs q e ∙ bind-no (run (suc kind) n) _ q r h
 
     run-then-ok : (xss : List (List Entry)) (z : Place) → run (suc kind) n q ≡ ok (xss, z) → run kind (suc n) p ≡ ok (xs ∷ xss, z)
     unfolding run give
     run-then-ok xss z h = bind_ok (section kind) _ p xs q e ∙ bind_ok (run (suc kind) n) _ q xss z h
 
 -- no section
-pub run_none : (t : Bytes) (kind n p l c k : ℕ) (cells parts : List ℕ) → Position t p l c → n ≡ 0 → Given (run kind n) (RunRead t kind n c cells cells parts parts) t p l c k (R.Done p l c)
+pub run_none : (t : Bytes) (kind n p l c k : ℕ) (cells parts : List ℕ) → Position t p l c → n ≡ 0 → Given (run kind n) (RunRead t kind n c cells cells parts parts) t p l c k (Ok (record { position = p; line = l; rows = c }))
 unfolding Given
 run_none t kind n p l c k cells parts h e = rw e (record {
   value = [];
@@ -128,23 +120,20 @@ run_none t kind n p l c k cells parts h e = rw e (record {
 })
 
 -- the first section, and those behind it
-module _ (t : Bytes) (kind n p l c k : ℕ) (cells cells' parts parts' : List ℕ) (r : Rd.Read) (s : Given (section kind) (SectionRead t kind c cells cells' parts parts') t p l c k r) (less : n ≡ suc (n - 1)) where
-  pub run-wrong : (cells'' parts'' : List ℕ) (x : ℕ) → r ≡ R.Wrong x → Given (run kind n) (RunRead t kind n c cells cells'' parts parts'') t p l c k (R.Wrong x)
+module _ (t : Bytes) (kind n p l c k : ℕ) (cells cells' parts parts' : List ℕ) (less : n ≡ suc (n - 1)) where
+  pub run-refused : (cells'' parts'' : List ℕ) (w : code.Refusal) → Given (section kind) (SectionRead t kind c cells cells' parts parts') t p l c k (Err w)
+      → Given (run kind n) (RunRead t kind n c cells cells'' parts parts'') t p l c k (Err w)
   unfolding Given
-  run-wrong cells'' parts'' x e = rw less (run-wrong-at kind (n - 1) _ x (given-wrong _ _ _ _ _ _ _ _ s e))
+  run-refused cells'' parts'' w s = rw less (run-no kind (n - 1) _ _ s)
 
-  pub run-limit : (cells'' parts'' : List ℕ) (x : ℕ) → r ≡ R.Limit x → Given (run kind n) (RunRead t kind n c cells cells'' parts parts'') t p l c k (R.Limit x)
-  unfolding Given
-  run-limit cells'' parts'' x e = rw less (run-limit-at kind (n - 1) _ x (given-limit _ _ _ _ _ _ _ _ s e))
-
-  module _ (few : kind + n ≤ 7) (p' l' c' : ℕ) (e : r ≡ R.Done p' l' c') where
-    took : Took (section kind) (SectionRead t kind c cells cells' parts parts' c') t p l c k p' l' c'
-    took = given-done _ _ _ _ _ _ _ _ s e
+  module _ (few : kind + n ≤ 7) (q : Cursor) (s : Given (section kind) (SectionRead t kind c cells cells' parts parts') t p l c k (Ok q)) where
+    took : Took (section kind) (SectionRead t kind c cells cells' parts parts' q.rows) t p l c k q.position q.line q.rows
+    took = given-done _ _ _ _ _ _ _ _ s
 
     sides : (start_of kind ≡ edge kind) × (end_of kind ≡ edge (suc kind)) × (edge (suc kind) ≤ 2367) × (edge kind ≤ edge (suc kind))
     sides = edges kind (omega arith)
 
-    run-read : (cells'' parts'' : List ℕ) (c'' : ℕ) (xss : List (List Entry)) → c' ≤ c'' → RunRead t (suc kind) (n - 1) c' cells' cells'' parts' parts'' c'' xss
+    run-read : (cells'' parts'' : List ℕ) (c'' : ℕ) (xss : List (List Entry)) → q.rows ≤ c'' → RunRead t (suc kind) (n - 1) q.rows cells' cells'' parts' parts'' c'' xss
         → RunRead t kind (suc (n - 1)) c cells cells'' parts parts'' c'' (took.value ∷ xss)
     unfolding run_at
     run-read cells'' parts'' c'' xss m h =
@@ -160,22 +149,21 @@ module _ (t : Bytes) (kind n p l c k : ℕ) (cells cells' parts parts' : List �
           parts-kept = kept_on (rw sides.0 at first.parts-kept) (kept-first _ h.parts-kept sides.3);
         }
 
-    pub run_more : (cells'' parts'' : List ℕ) (r' : Rd.Read) → Given (run (kind + 1) (n - 1)) (RunRead t (kind + 1) (n - 1) c' cells' cells'' parts' parts'') t p' l' c' k r'
+    pub run_more : (cells'' parts'' : List ℕ) (r' : Result Cursor code.Refusal) → Given (run (kind + 1) (n - 1)) (RunRead t (kind + 1) (n - 1) q.rows cells' cells'' parts' parts'') t q.position q.line q.rows k r'
         → Given (run kind n) (RunRead t kind n c cells cells'' parts parts'') t p l c k r'
     unfolding Given
     run_more cells'' parts'' r' g = rw less (go r' (rw (add-one kind) at g))
       where
-        go : (r' : Rd.Read) → Given (run (suc kind) (n - 1)) (RunRead t (suc kind) (n - 1) c' cells' cells'' parts' parts'') t p' l' c' k r'
+        go : (r' : Result Cursor code.Refusal) → Given (run (suc kind) (n - 1)) (RunRead t (suc kind) (n - 1) q.rows cells' cells'' parts' parts'') t q.position q.line q.rows k r'
             → Given (run kind (suc (n - 1))) (RunRead t kind (suc (n - 1)) c cells cells'' parts parts'') t p l c k r'
-        go (R.Wrong x) h = run-then-wrong kind (n - 1) _ _ _ took.is x h
-        go (R.Limit x) h = run-then-limit kind (n - 1) _ _ _ took.is x h
-        go (R.Done p'' l'' c'') h = record {
+        go (Err w) h = run-then-no kind (n - 1) _ _ _ took.is _ h
+        go (Ok z) h = record {
           value = took.value ∷ h.value;
           is = run-then-ok kind (n - 1) _ _ _ took.is _ _ h.is;
           position = h.position;
           moved = omega (arith, took.moved, h.moved);
           more = omega (arith, took.more, h.more);
-          holds = run-read cells'' parts'' c'' h.value h.more h.holds;
+          holds = run-read cells'' parts'' z.rows h.value h.more h.holds;
         }
 
 -- A RUN MORE

@@ -1,5 +1,5 @@
 -- The record `end`, with nothing behind it.
-use Rattle.std.specs.Prelude.{ℕ, ◌+◌, ◌-◌, ◌≤◌, ◌<◌, ◌≡◌, Bool, true, false, length, get_or, take, drop}
+use Rattle.std.specs.Prelude.{ℕ, ◌+◌, ◌-◌, ◌≤◌, ◌<◌, ◌≡◌, Bool, true, false, length, get_or, take, drop, Result, Ok, Err}
 use Rattle.std.proofs.Common.{arith, ◌∙◌, drop_of_length-le}
 use Rattle.std.proofs.Math.Decide.{dec_lt}
 use Rattle.std.proofs.Math.Path.{refl, sym, ap}
@@ -14,14 +14,15 @@ use Rattle.rules.specs.ReadStatement.{StatementHead}
 use Rattle.text.specs.Lines.{line-moves, line-most, Fields}
 use Rattle.text.specs.Reading.{place, place-next, place_end, place-more, at-is, rest-none, rest-other}
 use Rattle.text.specs.Records.{no-field}
-use Rattle.text.specs.Answers.{wrong_at, bind_ok, then_ok, then-no}
+use Rattle.text.specs.Answers.{wrong_at, bind_ok, bind-no, then_ok, then-no}
 use Rattle.text.specs.declared.Line.{Line}
 use Rattle.read_expression.specs.Reading.{here, Position, Given}
 use Rattle.statement.specs.Bodies.{sections_of}
-use Rattle.statement.specs.Answers.{bind-wrong, bind-limit}
 use Rattle.statement.specs.BodyReads.{BodyTook, BodyBy, BodyRead}
-use Rattle.read_expression.specs.declared.reading.Read as Rd
-use Rattle.read_expression.specs.declared.reading.Read.TheVariants as R
+use Rattle.numbers.specs.declared.refusals.Refusal as code
+use Rattle.numbers.specs.declared.refusals.Reason.TheVariants.{WrongRecord}
+use Rattle.numbers.specs.Reasons.{reason_of}
+use Rattle.read_expression.specs.declared.reading.Cursor.{Cursor}
 
 -- `end`, and the statement s
 unfoldable pub ended : Statement → Read Statement
@@ -34,7 +35,7 @@ abbrev pub Is : Statement → ℕ → Statement → Type 0
 Is s c v = v ≡ s
 
 -- the statement with its `end`
-abbrev pub WholeRead : (t : Bytes) (h : StatementHead) (p : ℕ) (cells' froms' parts parts' : List ℕ) → Rd.Read → Type 0
+abbrev pub WholeRead : (t : Bytes) (h : StatementHead) (p : ℕ) (cells' froms' parts parts' : List ℕ) → Result Cursor code.Refusal → Type 0
 WholeRead t h p cells' froms' parts parts' r = BodyBy (sections_of h 1 >>= ended) t h p cells' froms' parts parts' r
 
 -- THE RULES
@@ -77,12 +78,12 @@ module _ (t : Bytes) (s : Statement) (p l c k : ℕ) (h : Position t p l c) (f :
   end-at : at (bytes "end") (here t p l c k) ≡ b
   end-at = at-is statement t p l c k f g (bytes "end") ∙ sym e
 
-  pub end-missing : b ≡ false → Given (ended s) (Is s) t p l c k (R.Wrong l)
-  unfolding Given wrong_at stop place
+  pub end-missing : b ≡ false → Given (ended s) (Is s) t p l c k (Err (record { reason = WrongRecord; line = l }))
+  unfolding Given reason_of stop place
   end-missing z = ended-missing s _ (end-at ∙ z)
 
-  pub end-fields : b ≡ true → (f.count ≡ 1 → ⊥) → Given (ended s) (Is s) t p l c k (R.Wrong l)
-  unfolding Given wrong_at stop place
+  pub end-fields : b ≡ true → (f.count ≡ 1 → ⊥) → Given (ended s) (Is s) t p l c k (Err (record { reason = WrongRecord; line = l }))
+  unfolding Given reason_of stop place
   end-fields z n = ended-fields s _ (end-at ∙ z) (no-field _ (rest-other statement t p l c k f g 0 (omega arith) n))
 
   module _ (z : b ≡ true) (n : f.count ≡ 1) where
@@ -93,14 +94,14 @@ module _ (t : Bytes) (s : Statement) (p l c k : ℕ) (h : Position t p l c) (f :
     behind : next (here t p l c k) ≡ here t f.next (l + 1) c k
     behind = place-next statement t p l c k ∙ rw g.next
 
-    pub end_more : f.next < length t → Given (ended s) (Is s) t p l c k (R.Wrong (l + 1))
-    unfolding Given
+    pub end_more : f.next < length t → Given (ended s) (Is s) t p l c k (Err (record { reason = WrongRecord; line = l + 1 }))
+    unfolding Given wrong_at reason_of
     end_more m = ended-more s _ (end-at ∙ z) alone _ _ (ap (λ q. q.left) behind ∙ place-more statement t f.next (l + 1) c k m) ∙ ap (stop wrong_record) behind ∙ at-line
       where
         at-line : stop {A = Statement} wrong_record (here t f.next (l + 1) c k) ≡ wrong_at statement (l + 1)
         at-line = unfold stop wrong_at place in refl
 
-    pub end-done : length t ≤ f.next → Given (ended s) (Is s) t p l c k (R.Done f.next (l + 1) c)
+    pub end-done : length t ≤ f.next → Given (ended s) (Is s) t p l c k (Ok (record { position = f.next; line = l + 1; rows = c }))
     unfolding Given
     end-done m =
         let i = end-inside t p l c k (end-at ∙ z) in
@@ -116,33 +117,28 @@ module _ (t : Bytes) (s : Statement) (p l c k : ℕ) (h : Position t p l c) (f :
         }
 
 -- THE WHOLE
-module _ (t : Bytes) (h : StatementHead) (p : ℕ) (cells' froms' parts parts' : List ℕ) (r : Rd.Read) (b : BodyRead t h p cells' froms' parts parts' r) where
-  pub whole-wrong : (x : ℕ) → r ≡ R.Wrong x → WholeRead t h p cells' froms' parts parts' (R.Wrong x)
+module _ (t : Bytes) (h : StatementHead) (p : ℕ) (cells' froms' parts parts' : List ℕ) where
+  pub whole-refused : (w : code.Refusal) → BodyRead t h p cells' froms' parts parts' (Err w) → WholeRead t h p cells' froms' parts parts' (Err w)
   unfolding BodyBy
-  whole-wrong x e = bind-wrong (sections_of h 1) ended _ x (rw e at b)
+  whole-refused w b = bind-no (sections_of h 1) ended _ _ b
 
-  pub whole-limit : (x : ℕ) → r ≡ R.Limit x → WholeRead t h p cells' froms' parts parts' (R.Limit x)
-  unfolding BodyBy
-  whole-limit x e = bind-limit (sections_of h 1) ended _ x (rw e at b)
-
-  module _ (p' l' c' : ℕ) (e : r ≡ R.Done p' l' c') where
-    body : BodyTook (sections_of h 1) t h p cells' froms' parts parts' p' l' c'
+  module _ (q : Cursor) (b : BodyRead t h p cells' froms' parts parts' (Ok q)) where
+    body : BodyTook (sections_of h 1) t h p cells' froms' parts parts' q.position q.line q.rows
     unfolding BodyBy
-    body = rw e at b
+    body = b
 
-    pub body-position : Position t p' l' c'
+    pub body-position : Position t q.position q.line q.rows
     body-position = body.position
 
-    pub whole-read : (r' : Rd.Read) → ((s : Statement) (k : ℕ) → Given (ended s) (Is s) t p' l' c' k r') → WholeRead t h p cells' froms' parts parts' r'
+    pub whole-read : (r' : Result Cursor code.Refusal) → ((s : Statement) (k : ℕ) → Given (ended s) (Is s) t q.position q.line q.rows k r') → WholeRead t h p cells' froms' parts parts' r'
     whole-read r' g = go r' (g body.value body.tables)
       where
-        come : (sections_of h 1 >>= ended) (here t p 2 0 0) ≡ ended body.value (here t p' l' c' body.tables)
+        come : (sections_of h 1 >>= ended) (here t p 2 0 0) ≡ ended body.value (here t q.position q.line q.rows body.tables)
         come = bind_ok (sections_of h 1) ended _ _ _ body.is
 
-        go : (r' : Rd.Read) → Given (ended body.value) (Is body.value) t p' l' c' body.tables r' → WholeRead t h p cells' froms' parts parts' r'
-        go (R.Wrong x) g = unfold BodyBy in come ∙ (unfold Given in g)
-        go (R.Limit x) g = unfold BodyBy in come ∙ (unfold Given in g)
-        go (R.Done q m d) g = unfold BodyBy Given in record {
+        go : (r' : Result Cursor code.Refusal) → Given (ended body.value) (Is body.value) t q.position q.line q.rows body.tables r' → WholeRead t h p cells' froms' parts parts' r'
+        go (Err w) g = unfold BodyBy in come ∙ (unfold Given in g)
+        go (Ok z) g = unfold BodyBy Given in record {
           value = g.value;
           tables = body.tables;
           is = come ∙ g.is;

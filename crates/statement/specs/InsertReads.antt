@@ -1,5 +1,5 @@
 -- INSERT: the names behind a `columns`, and the rows.
-use Rattle.std.specs.Prelude.{ℕ, zero, suc, ◌*◌, ◌≤◌, refl, List, [], ◌∷◌, get_or}
+use Rattle.std.specs.Prelude.{ℕ, zero, suc, ◌*◌, ◌≤◌, refl, List, [], ◌∷◌, get_or, Result, Ok, Err}
 use Rattle.std.proofs.Common.{arith, sym, ◌∙◌}
 use Rattle.std.proofs.Math.Path.{◌≡◌, ap}
 use Rattle.rules.specs.Lists.{Bytes}
@@ -16,10 +16,11 @@ use Rattle.statement.specs.Layout.{to_names, insert_of}
 use Rattle.sections.specs.Terms.{end_of, SectionRead}
 use Rattle.statement.specs.Bodies.{names_behind, insert_sections, sections_of}
 use Rattle.statement.specs.Stays.{Stays, stays-begin, stays_on, stays-more, stays-end}
-use Rattle.statement.specs.Answers.{given-done, given-wrong, given-limit, given-map}
-use Rattle.statement.specs.BodyReads.{body_at, BodyBy, BodyRead, inner-ok, inner-wrong, inner-limit, body-last}
-use Rattle.read_expression.specs.declared.reading.Read as Rd
-use Rattle.read_expression.specs.declared.reading.Read.TheVariants as R
+use Rattle.statement.specs.Answers.{given-map}
+use Rattle.read_expression.specs.Given.{given-done, given-refused}
+use Rattle.statement.specs.BodyReads.{body_at, BodyBy, BodyRead, inner-ok, inner-no, body-last}
+use Rattle.numbers.specs.declared.refusals.Refusal as code
+use Rattle.read_expression.specs.declared.reading.Cursor.{Cursor}
 
 -- names that were read behind the entries cs of `columns`, from row c on to row c'; where there is no `columns`, none
 pub record NamesRead (t : Bytes) (cs : List Entry) (c : ℕ) (cells cells' parts parts' : List ℕ) (c' : ℕ) (ns : List Entry) : Type 0 where
@@ -42,10 +43,10 @@ section-some b t cells parts n e = go (get_or parts 8 0) refl
     go (suc k) h = let x = (rw h at e) in let z : ◌≡◌ {A = ℕ} 0 1 = cc in omega arith
 
 module _ (t : Bytes) (cs : List Entry) (p l c k : ℕ) (cells parts : List ℕ) (d : (b : Bytes) → section_at b t cells parts 7 ≡ cs) where
-  pub names-none : Position t p l c → get_or parts 8 0 ≡ 0 → Given (names_behind cs) (NamesRead t cs c cells cells parts parts) t p l c k (R.Done p l c)
+  pub names-none : Position t p l c → get_or parts 8 0 ≡ 0 → Given (names_behind cs) (NamesRead t cs c cells cells parts parts) t p l c k (Ok (record { position = p; line = l; rows = c }))
   names-none h e = go cs (sym (d []) ∙ section-none [] t cells parts e)
     where
-      go : (cs : List Entry) → cs ≡ [] → Given (names_behind cs) (NamesRead t cs c cells cells parts parts) t p l c k (R.Done p l c)
+      go : (cs : List Entry) → cs ≡ [] → Given (names_behind cs) (NamesRead t cs c cells cells parts parts) t p l c k (Ok (record { position = p; line = l; rows = c }))
       go [] z = unfold Given names_behind give in record {
         value = [];
         is = refl;
@@ -56,7 +57,7 @@ module _ (t : Bytes) (cs : List Entry) (p l c k : ℕ) (cells parts : List ℕ) 
       }
       go (c ∷ cs) z = absurd (let z : ◌≡◌ {A = ℕ} 0 1 = cc in omega arith)
 
-  pub names-some : (get_or parts 8 0 ≡ 0 → ⊥) → (cells' parts' : List ℕ) (r : Rd.Read) → Given (section 8) (SectionRead t 8 c cells cells' parts parts') t p l c k r
+  pub names-some : (get_or parts 8 0 ≡ 0 → ⊥) → (cells' parts' : List ℕ) (r : Result Cursor code.Refusal) → Given (section 8) (SectionRead t 8 c cells cells' parts parts') t p l c k r
       → Given (names_behind cs) (NamesRead t cs c cells cells' parts parts') t p l c k r
   names-some n cells' parts' r g = go cs (d [])
     where
@@ -80,44 +81,40 @@ stays-names {m = m} h r l e =
     let s = stays-more h r.cells-kept (kept-first _ r.parts-kept e) l o in
     record { holds = λ x y f g. (s.holds x y f g, r.is x y f g) }
 
-module _ (t : Bytes) (n : Word) (p : ℕ) (cells cells₁ froms parts parts₁ : List ℕ) (r : Rd.Read) (s : Given (section 7) (SectionRead t 7 0 cells cells₁ parts parts₁) t p 2 0 0 r) where
-  pub insert-wrong : (x : ℕ) → r ≡ R.Wrong x → BodyRead t (insert_head n) p cells₁ froms parts parts₁ (R.Wrong x)
+module _ (t : Bytes) (n : Word) (p : ℕ) (cells cells₁ froms parts parts₁ : List ℕ) where
+  pub insert-refused : (w : code.Refusal) → Given (section 7) (SectionRead t 7 0 cells cells₁ parts parts₁) t p 2 0 0 (Err w) → BodyRead t (insert_head n) p cells₁ froms parts parts₁ (Err w)
   unfolding BodyBy
-  insert-wrong x e = insert-is n _ ∙ inner-wrong (section 7) _ _ _ x (given-wrong _ _ _ _ _ _ _ _ s e)
+  insert-refused w s = insert-is n _ ∙ inner-no (section 7) _ _ _ _ (given-refused _ _ _ _ _ _ _ w s)
 
-  pub insert-limit : (x : ℕ) → r ≡ R.Limit x → BodyRead t (insert_head n) p cells₁ froms parts parts₁ (R.Limit x)
-  unfolding BodyBy
-  insert-limit x e = insert-is n _ ∙ inner-limit (section 7) _ _ _ x (given-limit _ _ _ _ _ _ _ _ s e)
+  module _ (q₁ : Cursor) (s : Given (section 7) (SectionRead t 7 0 cells cells₁ parts parts₁) t p 2 0 0 (Ok q₁)) (cells₂ parts₂ : List ℕ) where
+    first : Took (section 7) (SectionRead t 7 0 cells cells₁ parts parts₁ q₁.rows) t p 2 0 0 q₁.position q₁.line q₁.rows
+    first = given-done _ _ _ _ _ _ _ _ s
 
-  module _ (p₁ l₁ c₁ : ℕ) (e : r ≡ R.Done p₁ l₁ c₁) (cells₂ parts₂ : List ℕ) (r₁ : Rd.Read)
-      (g : (cs : List Entry) (k : ℕ) → ((b : Bytes) → section_at b t cells₁ parts₁ 7 ≡ cs) → Given (names_behind cs) (NamesRead t cs c₁ cells₁ cells₂ parts₁ parts₂) t p₁ l₁ c₁ k r₁) where
-    first : Took (section 7) (SectionRead t 7 0 cells cells₁ parts parts₁ c₁) t p 2 0 0 p₁ l₁ c₁
-    first = given-done _ _ _ _ _ _ _ _ s e
+    -- the names' answer
+    abbrev Names : Result Cursor code.Refusal → Type 0
+    Names r = (cs : List Entry) (k : ℕ) → ((b : Bytes) → section_at b t cells₁ parts₁ 7 ≡ cs) → Given (names_behind cs) (NamesRead t cs q₁.rows cells₁ cells₂ parts₁ parts₂) t q₁.position q₁.line q₁.rows k r
 
-    names : Given (names_behind first.value) (NamesRead t first.value c₁ cells₁ cells₂ parts₁ parts₂) t p₁ l₁ c₁ 0 r₁
-    names = g first.value 0 (first.holds.is cells₁ parts₁ (kept-all 0 _ _) (kept-all 0 _ _))
+    names : (r : Result Cursor code.Refusal) → Names r → Given (names_behind first.value) (NamesRead t first.value q₁.rows cells₁ cells₂ parts₁ parts₂) t q₁.position q₁.line q₁.rows 0 r
+    names r g = g first.value 0 (first.holds.is cells₁ parts₁ (kept-all 0 _ _) (kept-all 0 _ _))
 
-    come : sections_of (insert_head n) 1 (here t p 2 0 0) ≡ ((names_behind first.value >>= λ ns. some_section 9 >>= λ rs. give (insert_of 1 n first.value ns rs)) >>= λ d. give (Ast.insert d)) (here t p₁ l₁ c₁ 0)
+    come : sections_of (insert_head n) 1 (here t p 2 0 0) ≡ ((names_behind first.value >>= λ ns. some_section 9 >>= λ rs. give (insert_of 1 n first.value ns rs)) >>= λ d. give (Ast.insert d)) (here t q₁.position q₁.line q₁.rows 0)
     come = insert-is n _ ∙ inner-ok (section 7) _ _ _ _ _ first.is
 
-    pub insert-names-wrong : (x : ℕ) → r₁ ≡ R.Wrong x → BodyRead t (insert_head n) p cells₂ froms parts parts₂ (R.Wrong x)
+    pub insert-names-refused : (w : code.Refusal) → Names (Err w) → BodyRead t (insert_head n) p cells₂ froms parts parts₂ (Err w)
     unfolding BodyBy
-    insert-names-wrong x z = come ∙ inner-wrong (names_behind first.value) _ _ _ x (given-wrong _ _ _ _ _ _ _ _ names z)
+    insert-names-refused w g = come ∙ inner-no (names_behind first.value) _ _ _ _ (given-refused _ _ _ _ _ _ _ w (names (Err w) g))
 
-    pub insert-names-limit : (x : ℕ) → r₁ ≡ R.Limit x → BodyRead t (insert_head n) p cells₂ froms parts parts₂ (R.Limit x)
-    unfolding BodyBy
-    insert-names-limit x z = come ∙ inner-limit (names_behind first.value) _ _ _ x (given-limit _ _ _ _ _ _ _ _ names z)
+    module _ (q₂ : Cursor) (g : Names (Ok q₂)) where
+      pub names-position : Position t q₂.position q₂.line q₂.rows
+      names-position = (given-done _ _ _ _ _ _ _ _ (names (Ok q₂) g)).position
 
-    pub names-position : (p₂ l₂ c₂ : ℕ) → r₁ ≡ R.Done p₂ l₂ c₂ → Position t p₂ l₂ c₂
-    names-position p₂ l₂ c₂ z = (given-done _ _ _ _ _ _ _ _ names z).position
-
-    pub insert-read : (p₂ l₂ c₂ : ℕ) → r₁ ≡ R.Done p₂ l₂ c₂ → (cells₃ parts₃ : List ℕ) (r₂ : Rd.Read) → Given (some_section 9) (SectionRead t 9 c₂ cells₂ cells₃ parts₂ parts₃) t p₂ l₂ c₂ 0 r₂
-        → BodyRead t (insert_head n) p cells₃ froms parts parts₃ r₂
-    insert-read p₂ l₂ c₂ z cells₃ parts₃ r₂ h =
-        let x = given-done _ _ _ _ _ _ _ _ names z in
-        let u = stays_on (stays-begin 8 cells parts) first.holds first.more (unfold start_of in omega arith) in
-        let v = stays-names u x.holds x.more (unfold start_of end_of most_of in omega arith) in
-        body-last t (insert_head n) p cells₃ froms parts parts₃ (some_section 9) (SectionRead t 9 c₂ cells₂ cells₃ parts₂ parts₃) (insert_of 1 n first.value x.value) Ast.insert p₂ l₂ c₂ 0
-        (come ∙ inner-ok (names_behind first.value) _ _ _ _ _ x.is) (λ c₃ rs l w.
-        let y = stays-end (stays_on v w l (unfold start_of in omega arith)) in
-        (λ b. unfold body_at insert_of in rw (y.0.0.1 b, y.0.1 b, y.1 b), y.0.0.0)) (λ c₃ rs l m w e. record { same = λ x k b kind o. cc }) r₂ h
+      pub insert-read : (cells₃ parts₃ : List ℕ) (r₂ : Result Cursor code.Refusal) → Given (some_section 9) (SectionRead t 9 q₂.rows cells₂ cells₃ parts₂ parts₃) t q₂.position q₂.line q₂.rows 0 r₂
+          → BodyRead t (insert_head n) p cells₃ froms parts parts₃ r₂
+      insert-read cells₃ parts₃ r₂ h =
+          let x = given-done _ _ _ _ _ _ _ _ (names (Ok q₂) g) in
+          let u = stays_on (stays-begin 8 cells parts) first.holds first.more (unfold start_of in omega arith) in
+          let v = stays-names u x.holds x.more (unfold start_of end_of most_of in omega arith) in
+          body-last t (insert_head n) p cells₃ froms parts parts₃ (some_section 9) (SectionRead t 9 q₂.rows cells₂ cells₃ parts₂ parts₃) (insert_of 1 n first.value x.value) Ast.insert q₂.position q₂.line q₂.rows 0
+          (come ∙ inner-ok (names_behind first.value) _ _ _ _ _ x.is) (λ c₃ rs l w.
+          let y = stays-end (stays_on v w l (unfold start_of in omega arith)) in
+          (λ b. unfold body_at insert_of in rw (y.0.0.1 b, y.0.1 b, y.1 b), y.0.0.0)) (λ c₃ rs l m w e. record { same = λ x k b kind o. cc }) r₂ h

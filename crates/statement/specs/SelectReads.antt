@@ -1,5 +1,5 @@
 -- SELECT: the items, FROM, and the clauses.
-use Rattle.std.specs.Prelude.{ℕ, zero, suc, ◌*◌, ◌≤◌, ◌≡◌, refl, List, [], length, get_or, set}
+use Rattle.std.specs.Prelude.{ℕ, zero, suc, ◌*◌, ◌≤◌, ◌≡◌, refl, List, [], length, get_or, set, Result, Ok, Err}
 use Rattle.std.proofs.Common.{arith, ◌∙◌, get_or-set_same}
 use Rattle.std.proofs.Math.Path.{sym}
 use Rattle.rules.specs.Lists.{Bytes}
@@ -19,13 +19,13 @@ use Rattle.sections.specs.Terms.{end_of, SectionRead}
 use Rattle.from.specs.Terms.{FromsTook, FromsRead}
 use Rattle.statement.specs.Bodies.{select_sections, sections_of}
 use Rattle.statement.specs.Stays.{Stays, stays-begin, stays_on, stays-more, stays-set}
-use Rattle.statement.specs.Answers.{bind-same, given-done, given-wrong, given-limit}
+use Rattle.statement.specs.Answers.{bind-same}
+use Rattle.read_expression.specs.Given.{given-done, given-refused}
 use Rattle.statement.specs.Clauses.{run, run_on, run_on_lem, run_at, run-same, edge, RunRead, stays-run}
-use Rattle.statement.specs.BodyReads.{body_at, BodyBy, BodyRead, inner-ok, inner-wrong, inner-limit, body-last}
-use Rattle.read_expression.specs.declared.reading.Read as Rd
-use Rattle.read_expression.specs.declared.reading.Read.TheVariants as R
-use Rattle.from.specs.declared.Froms as Fr
-use Rattle.from.specs.declared.Froms.TheVariants as F
+use Rattle.statement.specs.BodyReads.{body_at, BodyBy, BodyRead, inner-ok, inner-no, body-last}
+use Rattle.numbers.specs.declared.refusals.Refusal as code
+use Rattle.read_expression.specs.declared.reading.Cursor.{Cursor}
+use Rattle.from.specs.declared.Froms.{Froms}
 
 -- a SELECT of its items, its FROM and the sections from `where` on
 unfoldable select_by : List Entry → List From → List (List Entry) → Select
@@ -55,57 +55,54 @@ stays-froms {m = m} h f =
     let s = stays-more h f.cells-kept (kept-all 0 _ _) f.more o in
     record { holds = λ x y u v. (s.holds x y u v, f.stand x u) }
 
-module _ (t : Bytes) (p : ℕ) (cells cells₁ parts parts₁ : List ℕ) (r : Rd.Read) (s : Given (some_section 0) (SectionRead t 0 0 cells cells₁ parts parts₁) t p 2 0 0 r) where
-  pub select-wrong : (rows : List ℕ) (x : ℕ) → r ≡ R.Wrong x → BodyRead t select_head p cells₁ rows parts parts₁ (R.Wrong x)
+module _ (t : Bytes) (p : ℕ) (cells cells₁ parts parts₁ : List ℕ) where
+  pub select-refused : (rows : List ℕ) (w : code.Refusal) → Given (some_section 0) (SectionRead t 0 0 cells cells₁ parts parts₁) t p 2 0 0 (Err w) → BodyRead t select_head p cells₁ rows parts parts₁ (Err w)
   unfolding BodyBy
-  select-wrong rows x e = select-is _ ∙ inner-wrong (some_section 0) _ _ _ x (given-wrong _ _ _ _ _ _ _ _ s e)
+  select-refused rows w s = select-is _ ∙ inner-no (some_section 0) _ _ _ _ (given-refused _ _ _ _ _ _ _ w s)
 
-  pub select-limit : (rows : List ℕ) (x : ℕ) → r ≡ R.Limit x → BodyRead t select_head p cells₁ rows parts parts₁ (R.Limit x)
-  unfolding BodyBy
-  select-limit rows x e = select-is _ ∙ inner-limit (some_section 0) _ _ _ x (given-limit _ _ _ _ _ _ _ _ s e)
+  module _ (q₁ : Cursor) (s : Given (some_section 0) (SectionRead t 0 0 cells cells₁ parts parts₁) t p 2 0 0 (Ok q₁)) (cells₂ rows' : List ℕ) where
+    items : Took (some_section 0) (SectionRead t 0 0 cells cells₁ parts parts₁ q₁.rows) t p 2 0 0 q₁.position q₁.line q₁.rows
+    items = given-done _ _ _ _ _ _ _ _ s
 
-  module _ (p₁ l₁ c₁ : ℕ) (e : r ≡ R.Done p₁ l₁ c₁) (cells₂ rows' : List ℕ) (r₁ : Fr.Froms) (f : FromsRead t p₁ l₁ c₁ cells₁ cells₂ rows' r₁) where
-    items : Took (some_section 0) (SectionRead t 0 0 cells cells₁ parts parts₁ c₁) t p 2 0 0 p₁ l₁ c₁
-    items = given-done _ _ _ _ _ _ _ _ s e
-
-    come : sections_of select_head 1 (here t p 2 0 0) ≡ ((turns froms >>= λ fs. run_on 1 6 λ xss. give (select_by items.value fs xss)) >>= λ d. give (Ast.select d)) (here t p₁ l₁ c₁ 0)
+    come : sections_of select_head 1 (here t p 2 0 0) ≡ ((turns froms >>= λ fs. run_on 1 6 λ xss. give (select_by items.value fs xss)) >>= λ d. give (Ast.select d)) (here t q₁.position q₁.line q₁.rows 0)
     come = select-is _ ∙ inner-ok (some_section 0) _ _ _ _ _ items.is
 
-    pub select-from-wrong : (x : ℕ) → r₁ ≡ F.Wrong x → BodyRead t select_head p cells₂ rows' parts parts₁ (R.Wrong x)
+    pub select-from-refused : (w : code.Refusal) → FromsRead t q₁.position q₁.line q₁.rows cells₁ cells₂ rows' (Err w) → BodyRead t select_head p cells₂ rows' parts parts₁ (Err w)
     unfolding BodyBy FromsRead
-    select-from-wrong x z = come ∙ inner-wrong (turns froms) _ _ _ x (rw z at f)
+    select-from-refused w f = come ∙ inner-no (turns froms) _ _ _ _ f
 
-    pub select-from-limit : (x : ℕ) → r₁ ≡ F.Limit x → BodyRead t select_head p cells₂ rows' parts parts₁ (R.Limit x)
-    unfolding BodyBy FromsRead
-    select-from-limit x z = come ∙ inner-limit (turns froms) _ _ _ x (rw z at f)
-
-    module _ (p₂ l₂ c₂ n : ℕ) (z : r₁ ≡ F.Done p₂ l₂ c₂ n) where
-      pub from-took : FromsTook t p₁ l₁ c₁ cells₁ cells₂ rows' p₂ l₂ c₂ n
+    module _ (fs : Froms) (f : FromsRead t q₁.position q₁.line q₁.rows cells₁ cells₂ rows' (Ok fs)) where
+      pub from-took : FromsTook t q₁.position q₁.line q₁.rows cells₁ cells₂ rows' fs.at.position fs.at.line fs.at.rows fs.rows
       unfolding FromsRead
-      from-took = rw z at f
+      from-took = f
 
-      come-clauses : sections_of select_head 1 (here t p 2 0 0) ≡ ((run 1 6 >>= λ xss. give (select_by items.value from-took.value xss)) >>= λ d. give (Ast.select d)) (here t p₂ l₂ c₂ from-took.tables)
+      come-clauses : sections_of select_head 1 (here t p 2 0 0) ≡ ((run 1 6 >>= λ xss. give (select_by items.value from-took.value xss)) >>= λ d. give (Ast.select d)) (here t fs.at.position fs.at.line fs.at.rows from-took.tables)
       come-clauses = come ∙ inner-ok (turns froms) _ _ _ _ _ from-took.is ∙ bind-same _ _ _ _ _ (run_on_lem 1 6 _ _)
 
       -- all that was read, whatever stands behind its rows
-      stands : (cells₃ parts₃ : List ℕ) (c₃ : ℕ) (xss : List (List Entry)) → c₂ ≤ c₃ → RunRead t 1 6 c₂ cells₂ cells₃ parts₁ parts₃ c₃ xss
+      stands : (cells₃ parts₃ : List ℕ) (c₃ : ℕ) (xss : List (List Entry)) → fs.at.rows ≤ c₃ → RunRead t 1 6 fs.at.rows cells₂ cells₃ parts₁ parts₃ c₃ xss
           → (x : List ℕ) → Kept 0 (row_size * c₃) cells₃ x
-          → ((Kept 0 8 parts (set parts₃ 2367 n) × ((b : Bytes) → section_at b t x (set parts₃ 2367 n) 0 ≡ items.value)) × ((b : Bytes) → froms_at b t x rows' n ≡ from-took.value)) × ((b : Bytes) → run_at b t x (set parts₃ 2367 n) 1 6 ≡ xss)
+          → ((Kept 0 8 parts (set parts₃ 2367 fs.rows) × ((b : Bytes) → section_at b t x (set parts₃ 2367 fs.rows) 0 ≡ items.value)) × ((b : Bytes) → froms_at b t x rows' fs.rows ≡ from-took.value)) × ((b : Bytes) → run_at b t x (set parts₃ 2367 fs.rows) 1 6 ≡ xss)
       stands cells₃ parts₃ c₃ xss l h x k =
           let u = stays_on (stays-begin 8 cells parts) items.holds items.more (unfold start_of in omega arith) in
           let v = stays-froms u from-took in
-          stays-set (stays-run v h l (unfold edge end_of start_of most_of in omega arith) (unfold end_of start_of most_of in omega arith)) x k 2367 n (omega arith)
+          stays-set (stays-run v h l (unfold edge end_of start_of most_of in omega arith) (unfold end_of start_of most_of in omega arith)) x k 2367 fs.rows (omega arith)
 
-      pub select_read : (cells₃ parts₃ : List ℕ) (r₂ : Rd.Read) → ((k : ℕ) → Given (run 1 6) (RunRead t 1 6 c₂ cells₂ cells₃ parts₁ parts₃) t p₂ l₂ c₂ k r₂) → length parts₃ ≡ 3863
-          → BodyRead t select_head p cells₃ rows' parts (set parts₃ 2367 n) r₂
+      pub select_read : (cells₃ parts₃ : List ℕ) (r₂ : Result Cursor code.Refusal) → ((k : ℕ) → Given (run 1 6) (RunRead t 1 6 fs.at.rows cells₂ cells₃ parts₁ parts₃) t fs.at.position fs.at.line fs.at.rows k r₂) → length parts₃ ≡ 3863
+          → BodyRead t select_head p cells₃ rows' parts (set parts₃ 2367 fs.rows) r₂
       select_read cells₃ parts₃ r₂ g w =
-          body-last t select_head p cells₃ rows' parts (set parts₃ 2367 n) (run 1 6) (RunRead t 1 6 c₂ cells₂ cells₃ parts₁ parts₃) (select_by items.value from-took.value) Ast.select p₂ l₂ c₂ from-took.tables
+          body-last t select_head p cells₃ rows' parts (set parts₃ 2367 fs.rows) (run 1 6) (RunRead t 1 6 fs.at.rows cells₂ cells₃ parts₁ parts₃) (select_by items.value from-took.value) Ast.select fs.at.position fs.at.line fs.at.rows from-took.tables
           come-clauses (λ c₃ xss l h.
           let y = stands cells₃ parts₃ c₃ xss l h cells₃ (kept-all 0 _ _) in
-          (λ b. unfold body_at in rw (get_or-set_same parts₃ 2367 n 0 (omega arith), y.0.0.1 b, y.0.1 b, by-run b t cells₃ (set parts₃ 2367 n) items.value from-took.value, y.1 b), y.0.0.0))
+          (λ b. unfold body_at in rw (get_or-set_same parts₃ 2367 fs.rows 0 (omega arith), y.0.0.1 b, y.0.1 b, by-run b t cells₃ (set parts₃ 2367 fs.rows) items.value from-took.value, y.1 b), y.0.0.0))
           (λ c₃ xss l m h e. record {
             same = λ x k b kind o.
                 let y = stands cells₃ parts₃ c₃ xss l h cells₃ (kept-all 0 _ _) in
                 let z = stands cells₃ parts₃ c₃ xss l h x (kept-first _ k (omega arith)) in
-                sections-same b t x cells₃ (set parts₃ 2367 n) (z.0.0.1 b ∙ sym (y.0.0.1 b)) (z.1 b ∙ sym (y.1 b)) kind o;
+                sections-same b t x cells₃ (set parts₃ 2367 fs.rows) (z.0.0.1 b ∙ sym (y.0.0.1 b)) (z.1 b ∙ sym (y.1 b)) kind o;
           }) r₂ (g from-took.tables)
+
+      pub select-run-refused : (cells₃ parts₃ : List ℕ) (w : code.Refusal) → ((k : ℕ) → Given (run 1 6) (RunRead t 1 6 fs.at.rows cells₂ cells₃ parts₁ parts₃) t fs.at.position fs.at.line fs.at.rows k (Err w)) → length parts₃ ≡ 3863
+          → BodyRead t select_head p cells₃ rows' parts parts₃ (Err w)
+      unfolding BodyBy
+      select-run-refused cells₃ parts₃ w g h = select_read cells₃ parts₃ (Err w) g h

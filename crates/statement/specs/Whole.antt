@@ -1,5 +1,5 @@
 -- The whole statement: what the rules answer, and the numbers that stand for it.
-use Rattle.std.specs.Prelude.{ℕ, ◌≤◌, ◌<◌, ◌≡◌, refl, Bool, true, false, ltb, length, get_or, drop}
+use Rattle.std.specs.Prelude.{ℕ, ◌≤◌, ◌<◌, ◌≡◌, refl, Bool, true, false, ltb, length, get_or, drop, Result, Ok, Err}
 use Rattle.std.proofs.Common.{arith, ◌∙◌, drop_of_length-le}
 use Rattle.std.proofs.Math.Decide.{dec_lt}
 use Rattle.std.proofs.Math.Path.{sym, ap}
@@ -7,7 +7,7 @@ use mathlib.Core.List.{List, [], ◌∷◌}
 use Rattle.std.proofs.Math.Option.{none, some}
 use Rattle.std.proofs.lemmas.List.Edits.{sets, sets-eq}
 use borrow.Author.Tests.{lt-ltb, le-ltb}
-use Rattle.rules.specs.Refusals.{statement, wrong_record, Answer, ok}
+use Rattle.rules.specs.Refusals.{statement, wrong_record, Answer, ok, refused}
 use Rattle.rules.specs.Limits.{most_bytes}
 use Rattle.rules.specs.Lists.{Bytes, same, named}
 use Rattle.rules.specs.Lines.{Word, bytes, fields, empty}
@@ -32,41 +32,38 @@ use Rattle.statement.specs.FirstRecord.{head_of, first_said, said-none, said-som
 use Rattle.statement.specs.BodyReads.{body_at, BodyTook, BodyBy}
 use Rattle.statement.specs.EndRecord.{ended, WholeRead}
 use Rattle.statement.specs.declared.first.First.{First}
-use Rattle.read_expression.specs.declared.reading.Read as Rd
-use Rattle.read_expression.specs.declared.reading.Read.TheVariants as R
+use Rattle.numbers.specs.declared.refusals.Refusal as code
+use Rattle.numbers.specs.declared.refusals.Reason.TheVariants.{WrongRecord, LimitPassed}
+use Rattle.numbers.specs.Reasons.{reason_of, told}
+use Rattle.read_expression.specs.declared.reading.Cursor.{Cursor}
 use Rattle.statement.specs.declared.access.Kind.{Kind}
 use Rattle.statement.specs.declared.access.Kind.TheVariants as K
-use Rattle.statement.specs.declared.Outcome.{Outcome}
-use Rattle.statement.specs.declared.Outcome.TheVariants as O
 
 -- the statement that was read: the one that the numbers stand for, of the catalog b and the statement t
-unfoldable pub statement_of : (b t : Bytes) (cells froms parts : List ℕ) → Outcome → Answer Statement
-statement_of b t cells froms parts (O.Done n) = ok (statement_at b t cells froms parts)
-statement_of b t cells froms parts (O.Wrong l) = wrong_at statement l
-statement_of b t cells froms parts (O.Limit l) = limit_at statement l
+unfoldable pub statement_of : (b t : Bytes) (cells froms parts : List ℕ) → Result ℕ code.Refusal → Answer Statement
+statement_of b t cells froms parts (Ok n) = ok (statement_at b t cells froms parts)
+statement_of b t cells froms parts (Err w) = refused (told statement w)
 
 -- the rules' answer, 3 with no line where the text is too long
 unfoldable pub statement_answer : Bytes → Answer Statement
 statement_answer t = elim (ltb most_bytes (length t)) [ true ↦ limit_at statement 0 | false ↦ read_statement t ]
 
 -- how many expression cells a statement that was read has
-unfoldable pub Counts : ℕ → Outcome → Type 0
-Counts m (O.Done n) = n ≡ m
-Counts m (O.Wrong l) = Unit {0}
-Counts m (O.Limit l) = Unit {0}
+unfoldable pub Counts : ℕ → Result ℕ code.Refusal → Type 0
+Counts m (Ok n) = n ≡ m
+Counts m (Err w) = Unit {0}
 
 -- what is stored behind the rows of a SELECT that was read changes none of its sections
-unfoldable pub SelectStays : (t : Bytes) (cells parts : List ℕ) → Outcome → Type 0
-SelectStays t cells parts (O.Done n) = K.Select ≡ kind_of (kind_number parts) → SectionsStay t cells parts
-SelectStays t cells parts (O.Wrong l) = Unit {0}
-SelectStays t cells parts (O.Limit l) = Unit {0}
+unfoldable pub SelectStays : (t : Bytes) (cells parts : List ℕ) → Result ℕ code.Refusal → Type 0
+SelectStays t cells parts (Ok n) = K.Select ≡ kind_of (kind_number parts) → SectionsStay t cells parts
+SelectStays t cells parts (Err w) = Unit {0}
 
 -- what the outcome says
-abbrev pub Answers : (t : Bytes) (cells froms parts : List ℕ) → Outcome → Type 0
+abbrev pub Answers : (t : Bytes) (cells froms parts : List ℕ) → Result ℕ code.Refusal → Type 0
 Answers t cells froms parts r = ((b : Bytes) → statement_of b t cells froms parts r ≡ statement_answer t) × ((b : Bytes) → Counts (statement_size (statement_at b t cells froms parts)) r) × SelectStays t cells parts r
 
-pub too_long : (t : Bytes) (cells froms parts : List ℕ) → most_bytes < length t → Answers t cells froms parts (O.Limit 0)
-unfolding statement_of statement_answer Counts SelectStays
+pub too_long : (t : Bytes) (cells froms parts : List ℕ) → most_bytes < length t → Answers t cells froms parts (Err (record { reason = LimitPassed; line = 0 }))
+unfolding statement_of statement_answer Counts SelectStays limit_at reason_of
 too_long t cells froms parts h = (λ b. sym (rw (statement_answer, lt-ltb most_bytes (length t) h)), λ b. tt, tt)
 
 -- a statement by its kind, its line, its name and its flag
@@ -113,8 +110,8 @@ module _ (t : Bytes) where
   no_text h = rw (drop_of_length-le t h)
 
 module _ (t : Bytes) (f : First) (g : (c : Bytes) → first_said c t f ≡ one_of statement_heads (line_here (here t 0 1 0 0))) (short : length t ≤ most_bytes) where
-  pub wrong_first : (cells froms parts : List ℕ) → f.kind ≡ 0 → Answers t cells froms parts (O.Wrong 1)
-  unfolding statement_of Counts SelectStays wrong_at value_of
+  pub wrong_first : (cells froms parts : List ℕ) → f.kind ≡ 0 → Answers t cells froms parts (Err (record { reason = WrongRecord; line = 1 }))
+  unfolding statement_of Counts SelectStays wrong_at reason_of value_of
   wrong_first cells froms parts e = (λ b. sym (answer-is t short ∙ ap value_of (first-wrong t (sym (g b) ∙ said-none b t f e))), λ b. tt, tt)
 
   -- what it says, of the catalog b
@@ -146,38 +143,32 @@ module _ (t : Bytes) (f : First) (g : (c : Bytes) → first_said c t f ≡ one_o
         kind-is : kind_number parts' ≡ f.kind
         kind-is = first 0 (omega arith)
 
-      module _ (r : Rd.Read) (p : ℕ) (line : p ≡ line_end t 0) (whole : (n : Word) (y : Bool) → WholeRead t (head_of f.kind n y) p cells' froms' parts₁ parts' r) where
-        head-by : (b : Bytes) → WholeRead t (head b) (line_end t 0) cells' froms' parts₁ parts' r
-        head-by b = rw line at (whole (word_at b t f.a f.b) (is_one f.flag))
+      module _ (p : ℕ) (line : p ≡ line_end t 0) where
+        head-by : (r : Result Cursor code.Refusal) → ((n : Word) (y : Bool) → WholeRead t (head_of f.kind n y) p cells' froms' parts₁ parts' r) → (b : Bytes) → WholeRead t (head b) (line_end t 0) cells' froms' parts₁ parts' r
+        head-by r whole b = rw line at (whole (word_at b t f.a f.b) (is_one f.flag))
 
         come : (b : Bytes) → statement_records (here t 0 1 0 0) ≡ (sections_of (head b) 1 >>= ended) (here t (line_end t 0) 2 0 0)
         come b = first-right t _ (head-is b)
 
-        pub statement-wrong : (x : ℕ) → r ≡ R.Wrong x → Answers t cells' froms' parts' (O.Wrong x)
-        unfolding statement_of Counts SelectStays BodyBy wrong_at value_of
-        statement-wrong x z = (λ b. sym (answer-is t short ∙ ap value_of (come b ∙ (rw z at (head-by b)))), λ b. tt, tt)
+        pub statement-refused : (w : code.Refusal) → ((n : Word) (y : Bool) → WholeRead t (head_of f.kind n y) p cells' froms' parts₁ parts' (Err w)) → Answers t cells' froms' parts' (Err w)
+        unfolding statement_of Counts SelectStays BodyBy value_of
+        statement-refused w whole = (λ b. sym (answer-is t short ∙ ap value_of (come b ∙ head-by (Err w) whole b)), λ b. tt, tt)
 
-        pub statement-limit : (x : ℕ) → r ≡ R.Limit x → Answers t cells' froms' parts' (O.Limit x)
-        unfolding statement_of Counts SelectStays BodyBy limit_at value_of
-        statement-limit x z = (λ b. sym (answer-is t short ∙ ap value_of (come b ∙ (rw z at (head-by b)))), λ b. tt, tt)
-
-        module _ (p' l' c' : ℕ) (z : r ≡ R.Done p' l' c') (b : Bytes) where
-          took : BodyTook (sections_of (head b) 1 >>= ended) t (head b) (line_end t 0) cells' froms' parts₁ parts' p' l' c'
+        module _ (q : Cursor) (whole : (n : Word) (y : Bool) → WholeRead t (head_of f.kind n y) p cells' froms' parts₁ parts' (Ok q)) where
+          took : (b : Bytes) → BodyTook (sections_of (head b) 1 >>= ended) t (head b) (line_end t 0) cells' froms' parts₁ parts' q.position q.line q.rows
           unfolding BodyBy
-          took = rw z at (head-by b)
+          took b = head-by (Ok q) whole b
 
-          value-is : statement_at b t cells' froms' parts' ≡ took.value
-          value-is = header_is took.kept b ∙ took.stand b
+          value-is : (b : Bytes) → statement_at b t cells' froms' parts' ≡ (took b).value
+          value-is b = header_is (took b).kept b ∙ (took b).stand b
 
-          records : statement_records (here t 0 1 0 0) ≡ ok (took.value, here t p' l' c' took.tables)
-          records = come b ∙ took.is
+          records : (b : Bytes) → statement_records (here t 0 1 0 0) ≡ ok ((took b).value, here t q.position q.line q.rows (took b).tables)
+          records b = come b ∙ (took b).is
 
-        pub statement-read : (p' l' c' : ℕ) → r ≡ R.Done p' l' c' → Answers t cells' froms' parts' (O.Done c')
-        unfolding statement_of Counts SelectStays value_of
-        statement-read p' l' c' z = (
-          λ b. ap ok (value-is p' l' c' z b) ∙ sym (answer-is t short ∙ ap value_of (records p' l' c' z b)),
-          λ b. statement-cells t _ p' l' c' _ (records p' l' c' z b) ∙ ap statement_size (sym (value-is p' l' c' z b)),
-          λ e.
-              let x = took p' l' c' z [] in
-              x.sections (select-head f.kind _ _ (e ∙ ap kind_of (kind-is x.kept))),
-        )
+          pub statement-read : Answers t cells' froms' parts' (Ok q.rows)
+          unfolding statement_of Counts SelectStays value_of
+          statement-read = (
+            λ b. ap ok (value-is b) ∙ sym (answer-is t short ∙ ap value_of (records b)),
+            λ b. statement-cells t _ q.position q.line q.rows _ (records b) ∙ ap statement_size (sym (value-is b)),
+            λ e. (took []).sections (select-head f.kind _ _ (e ∙ ap kind_of (kind-is (took []).kept))),
+          )

@@ -15,8 +15,9 @@ ghost use Rattle.statement.specs.InsertReads.{NamesRead};
 
 use crate::access::FROM_ROWS;
 use crate::first::{CREATE, DELETE, INSERT, SELECT, UPDATE};
-use from::{Froms, read_froms};
-use read_expression::reading::Read;
+use from::read_froms;
+use numbers::refusals::Refusal;
+use read_expression::reading::Cursor;
 use sections::entry::{COLUMN, COLUMNS, ITEM, NAME, ROW, SET, WHERE};
 use sections::{read_section, read_some};
 
@@ -29,98 +30,87 @@ const COLUMNS_COUNT: usize = 8;
 // The sections of n kinds in a row, from a kind on.
 fn read_run(
     t: &[u8],
-    p: usize,
-    l: u32,
-    c: u32,
+    at: Cursor,
     kind: u32,
     n: u32,
     cells: &mut [u32],
     parts: &mut [u32],
-) -> Read
-    requires { (Position t.now p l c) × ((1 ≤ kind) × (kind + n ≤ 7) × (length cells.old ≡ table_size) × (length parts.old ≡ 3863)) }
-    ensures { (k : ℕ) → Given (run kind n) (RunRead t.now kind n c cells.old cells.new parts.old parts.new) t.now p l c k result }
+) -> Result<Cursor, Refusal>
+    requires { (Position t.now at.position at.line at.rows) × ((1 ≤ kind) × (kind + n ≤ 7) × (length cells.old ≡ table_size) × (length parts.old ≡ 3863)) }
+    ensures { (k : ℕ) → Given (run kind n) (RunRead t.now kind n at.rows cells.old cells.new parts.old parts.new) t.now at.position at.line at.rows k result }
 {
     if n == 0 {
-        return Read::Done(p, l, c);
+        return Ok(at);
     }
-    let r = read_section(t, p, l, c, kind, cells, parts);
-    match r {
-        Read::Wrong(x) => Read::Wrong(x),
-        Read::Limit(x) => Read::Limit(x),
-        Read::Done(q, m, d) => read_run(t, q, m, d, kind + 1, n - 1, cells, parts),
-    }
+    let behind = read_section(t, at, kind, cells, parts)?;
+    read_run(t, behind, kind + 1, n - 1, cells, parts)
 }
 
 // A SELECT's items, FROM and clauses.
-fn read_select(t: &[u8], p: usize, cells: &mut [u32], froms: &mut [u32], parts: &mut [u32]) -> Read
+fn read_select(
+    t: &[u8],
+    p: usize,
+    cells: &mut [u32],
+    froms: &mut [u32],
+    parts: &mut [u32],
+) -> Result<Cursor, Refusal>
     requires fact_1 { Position t.now p 2 0 }
     requires fact_2 { Room cells.old froms.old parts.old }
     ensures { BodyRead t.now select_head p cells.new froms.new parts.old parts.new result }
 {
-    let i = read_some(t, p, 2, 0, ITEM, cells, parts);
-    match i {
-        Read::Wrong(x) => Read::Wrong(x),
-        Read::Limit(x) => Read::Limit(x),
-        Read::Done(q, l, c) => {
-            let f = read_froms(t, q, l, c, cells, froms);
-            match f {
-                Froms::Wrong(x) => Read::Wrong(x),
-                Froms::Limit(x) => Read::Limit(x),
-                Froms::Done(e, m, d, n) => {
-                    let r = read_run(t, e, m, d, WHERE, CLAUSES, cells, parts);
-                    parts[FROM_ROWS] = n;
-                    r
-                }
-            }
-        }
-    }
+    let at = Cursor {
+        position: p,
+        line: 2,
+        rows: 0,
+    };
+    let items = read_some(t, at, ITEM, cells, parts)?;
+    let f = read_froms(t, items, cells, froms)?;
+    let clauses = read_run(t, f.at, WHERE, CLAUSES, cells, parts)?;
+    parts[FROM_ROWS] = f.rows;
+    Ok(clauses)
 }
 
 // The names behind a `columns`, where one was read.
-fn read_names(t: &[u8], p: usize, l: u32, c: u32, cells: &mut [u32], parts: &mut [u32]) -> Read
-    requires fact_1 { Position t.now p l c }
+fn read_names(t: &[u8], at: Cursor, cells: &mut [u32], parts: &mut [u32]) -> Result<Cursor, Refusal>
+    requires fact_1 { Position t.now at.position at.line at.rows }
     requires fact_2 { (length cells.old ≡ table_size) × (length parts.old ≡ 3863) }
-    ensures { (cs : List Entry) (k : ℕ) → ((b : Bytes) → section_at b t.now cells.old parts.old 7 ≡ cs) → Given (names_behind cs) (NamesRead t.now cs c cells.old cells.new parts.old parts.new) t.now p l c k result }
+    ensures { (cs : List Entry) (k : ℕ) → ((b : Bytes) → section_at b t.now cells.old parts.old 7 ≡ cs) → Given (names_behind cs) (NamesRead t.now cs at.rows cells.old cells.new parts.old parts.new) t.now at.position at.line at.rows k result }
 {
     if parts[COLUMNS_COUNT] == 0 {
-        return Read::Done(p, l, c);
+        return Ok(at);
     }
-    read_section(t, p, l, c, NAME, cells, parts)
+    read_section(t, at, NAME, cells, parts)
 }
 
 // An INSERT's names and rows.
-fn read_insert(t: &[u8], p: usize, cells: &mut [u32], parts: &mut [u32]) -> Read
+fn read_insert(t: &[u8], p: usize, cells: &mut [u32], parts: &mut [u32]) -> Result<Cursor, Refusal>
     requires fact_1 { Position t.now p 2 0 }
     requires fact_2 { (length cells.old ≡ table_size) × (length parts.old ≡ 3863) }
     ensures { (n : Word) (froms : List ℕ) → BodyRead t.now (insert_head n) p cells.new froms parts.old parts.new result }
 {
-    let a = read_section(t, p, 2, 0, COLUMNS, cells, parts);
-    match a {
-        Read::Wrong(x) => Read::Wrong(x),
-        Read::Limit(x) => Read::Limit(x),
-        Read::Done(q, l, c) => {
-            let b = read_names(t, q, l, c, cells, parts);
-            match b {
-                Read::Wrong(x) => Read::Wrong(x),
-                Read::Limit(x) => Read::Limit(x),
-                Read::Done(e, m, d) => read_some(t, e, m, d, ROW, cells, parts),
-            }
-        }
-    }
+    let at = Cursor {
+        position: p,
+        line: 2,
+        rows: 0,
+    };
+    let columns = read_section(t, at, COLUMNS, cells, parts)?;
+    let names = read_names(t, columns, cells, parts)?;
+    read_some(t, names, ROW, cells, parts)
 }
 
 // An UPDATE's sets and `where`.
-fn read_update(t: &[u8], p: usize, cells: &mut [u32], parts: &mut [u32]) -> Read
+fn read_update(t: &[u8], p: usize, cells: &mut [u32], parts: &mut [u32]) -> Result<Cursor, Refusal>
     requires fact_1 { Position t.now p 2 0 }
     requires fact_2 { (length cells.old ≡ table_size) × (length parts.old ≡ 3863) }
     ensures { (n : Word) (froms : List ℕ) → BodyRead t.now (update_head n) p cells.new froms parts.old parts.new result }
 {
-    let s = read_some(t, p, 2, 0, SET, cells, parts);
-    match s {
-        Read::Wrong(x) => Read::Wrong(x),
-        Read::Limit(x) => Read::Limit(x),
-        Read::Done(q, l, c) => read_section(t, q, l, c, WHERE, cells, parts),
-    }
+    let at = Cursor {
+        position: p,
+        line: 2,
+        rows: 0,
+    };
+    let sets = read_some(t, at, SET, cells, parts)?;
+    read_section(t, sets, WHERE, cells, parts)
 }
 
 // What stands behind the first record of a statement of a kind.
@@ -131,25 +121,22 @@ pub fn read_body(
     cells: &mut [u32],
     froms: &mut [u32],
     parts: &mut [u32],
-) -> Read
+) -> Result<Cursor, Refusal>
     requires fact_1 { Position t.now p 2 0 }
     requires fact_2 { Room cells.old froms.old parts.old }
     ensures { (n : Word) (y : Bool) → BodyRead t.now (head_of kind n y) p cells.new froms.new parts.old parts.new result }
 {
-    if kind == SELECT {
-        return read_select(t, p, cells, froms, parts);
+    let at = Cursor {
+        position: p,
+        line: 2,
+        rows: 0,
+    };
+    match kind {
+        SELECT => read_select(t, p, cells, froms, parts),
+        CREATE => read_section(t, at, COLUMN, cells, parts),
+        DELETE => read_section(t, at, WHERE, cells, parts),
+        INSERT => read_insert(t, p, cells, parts),
+        UPDATE => read_update(t, p, cells, parts),
+        _ => Ok(at),
     }
-    if kind == CREATE {
-        return read_section(t, p, 2, 0, COLUMN, cells, parts);
-    }
-    if kind == DELETE {
-        return read_section(t, p, 2, 0, WHERE, cells, parts);
-    }
-    if kind == INSERT {
-        return read_insert(t, p, cells, parts);
-    }
-    if kind == UPDATE {
-        return read_update(t, p, cells, parts);
-    }
-    Read::Done(p, 2, 0)
 }

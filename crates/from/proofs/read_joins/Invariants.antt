@@ -7,7 +7,7 @@ use Rattle.from.proofs.read_joins.Given as goal
 
 abbrev pub invariant-loop-x : goal.invariant-loop-x
 invariant-loop-x l =
-    (length l.stack ≡ length l.initial.stack) × Reads l.t (record { p = l.p; l = l.l; c = l.c; k = l.k; n = l.n; cells = l.initial.cells; rows = l.initial.rows }) l.s l.stack l.cells l.rows
+    (length l.stack ≡ length l.initial.stack) × Reads l.t (record { p = l.fn.froms.at.position; l = l.fn.froms.at.line; c = l.fn.froms.at.rows; k = l.fn.froms.tables; n = l.fn.froms.rows; cells = l.initial.cells; rows = l.initial.rows }) l.s l.stack l.cells l.rows
 
 abbrev pub decreases-loop-x : goal.decreases-loop-x
-decreases-loop-x l = turns_left l.t l.s.p l.s.d l.s.done
+decreases-loop-x l = turns_left l.t l.s.froms.at.position l.s.open l.s.done

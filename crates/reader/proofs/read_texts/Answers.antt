@@ -1,6 +1,6 @@
 -- `read_texts`: the texts' lengths, the catalog, the statement, each with its refusals; what was read goes through `taken`.
 use Rattle.std.proofs.Common.{arith}
-use Rattle.reader.specs.Cases.{catalog-long, statement-long, catalog-wrong, catalog-limit, statement-wrong, statement-limit, texts-read}
+use Rattle.reader.specs.Cases.{catalog-long, statement-long, catalog-wrong, catalog-limit, statement-refused, texts-read}
 use Rattle.reader.proofs.read_texts.Goals as goal
 
 pub returns-then-catalog : goal.returns-then-catalog
@@ -17,17 +17,12 @@ pub returns-in-Limit : goal.returns-in-Limit
 returns-in-Limit c = let k = c in
     catalog-limit (record { short = c.if-catalog.false; short_statement = omega arith; is = k.read_catalog-c.ensures _ }) c.in-Limit.is
 
-pub returns-in-Wrong-s : goal.returns-in-Wrong-s
-returns-in-Wrong-s c = let s = c in
+pub returns-in-Err : goal.returns-in-Err
+returns-in-Err c = let s = c in
     let k = c in
-    statement-wrong (record { short = c.if-catalog.false; short_statement = omega arith; is = k.read_catalog-c.ensures _ }) c.in-Done.is (record { is = s.read_statement-s.ensures.0 _; size = s.read_statement-s.ensures.1 _; stays = s.read_statement-s.ensures.2 }) c.in-Wrong-s.is
+    rw c.number.ensures (statement-refused (record { short = c.if-catalog.false; short_statement = omega arith; is = k.read_catalog-c.ensures _ }) c.in-Done.is (record { is = s.read_statement-s.ensures.0 _; size = s.read_statement-s.ensures.1 _; stays = s.read_statement-s.ensures.2 }) c.in-Err.is)
 
-pub returns-in-Limit-s : goal.returns-in-Limit-s
-returns-in-Limit-s c = let s = c in
+pub returns-in-Ok : goal.returns-in-Ok
+returns-in-Ok c = let s = c in
     let k = c in
-    statement-limit (record { short = c.if-catalog.false; short_statement = omega arith; is = k.read_catalog-c.ensures _ }) c.in-Done.is (record { is = s.read_statement-s.ensures.0 _; size = s.read_statement-s.ensures.1 _; stays = s.read_statement-s.ensures.2 }) c.in-Limit-s.is
-
-pub returns-in-Done-s : goal.returns-in-Done-s
-returns-in-Done-s c = let s = c in
-    let k = c in
-    rw c.taken.ensures (texts-read (record { short = c.if-catalog.false; short_statement = omega arith; is = k.read_catalog-c.ensures _ }) c.in-Done.is (record { is = s.read_statement-s.ensures.0 _; size = s.read_statement-s.ensures.1 _; stays = s.read_statement-s.ensures.2 }) c.in-Done-s.is)
+    rw c.taken.ensures (texts-read (record { short = c.if-catalog.false; short_statement = omega arith; is = k.read_catalog-c.ensures _ }) c.in-Done.is (record { is = s.read_statement-s.ensures.0 _; size = s.read_statement-s.ensures.1 _; stays = s.read_statement-s.ensures.2 }) c.in-Ok.is)

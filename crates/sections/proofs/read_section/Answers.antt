@@ -1,52 +1,43 @@
 -- `read_section`: the entries read, and the rest by the rules from here, are what the rules read in all.
 use native.Mathlib.Omega.{arith}
 use mathlib.Core.Path.{refl, sym, ◌∙◌}
-use lib.ListN.{length-set}
+use Rattle.std.proofs.lemmas.Result.{err_from_is_err_and}
 use Rattle.sections.specs.Kinds.{start-within, entry-within}
-use Rattle.sections.specs.Runs.{section-begin, section-ready, section-wrong, section-limit, section-end, entry-moved, section-once, section-on}
+use Rattle.sections.specs.Runs.{section-begin, section-ready, section-refused, section-end, entry-moved, section-once, section-on}
 use Rattle.sections.proofs.read_section.Goals as goal
 
-pub loop-parts-init : goal.loop-parts-init
-loop-parts-init c = (refl, refl, section-begin _ _ _ _ _ _ _ c.requires.fact_1)
+pub loop-e-init : goal.loop-e-init
+loop-e-init c = (refl, refl, section-begin _ _ _ _ _ _ _ c.requires.fact_1)
 
-pub read_entry-r-requires : goal.read_entry-r-requires
-read_entry-r-requires c = section-ready c.loop-parts.invariant.2 c.requires.fact_2.0 (c.loop-parts.invariant.0 ∙ c.requires.fact_2.1) (c.loop-parts.invariant.1 ∙ c.requires.fact_2.2)
+pub read_entry-requires : goal.read_entry-requires
+read_entry-requires c = section-ready c.loop-e.invariant.2 c.requires.fact_2.0 (c.loop-e.invariant.0 ∙ c.requires.fact_2.1) (c.loop-e.invariant.1 ∙ c.requires.fact_2.2)
+
+pub returns-in_err-e : goal.returns-in_err-e
+returns-in_err-e c = let p = err_from_is_err_and c.from_residual.result c.from_residual.ensures.1 in rw (p.1, p.2) (section-refused c.loop-e.invariant.2 _ _ _ c.in_err-e.ensures)
+
+pub overflow_add-n : goal.overflow_add-n
+overflow_add-n c = let m = entry-moved c.loop-e.invariant.2 _ _ _ (λ k. rw c.in-Some.is at (c.in_ok-e.ensures k)) in record { fits = omega (arith, m.2, entry-within c.args.kind c.requires.fact_2.0 c.loop-e.n m.2) }
 
 pub offset_bounds-parts-start : goal.offset_bounds-parts-start
 offset_bounds-parts-start c = record { fits = omega (arith, start-within c.args.kind c.requires.fact_2.0, c.start_of-start.ensures) }
 
 pub bounds-parts-start : goal.bounds-parts-start
-bounds-parts-start c = omega (arith, start-within c.args.kind c.requires.fact_2.0, c.start_of-start.ensures, (c.read_entry-r.auto.parts ∙ c.loop-parts.invariant.1 ∙ c.requires.fact_2.2))
-
-pub shape_of-parts-in-End : goal.shape_of-parts-in-End
-shape_of-parts-in-End c = simp length-set (c.read_entry-r.auto.parts ∙ c.loop-parts.invariant.1)
-
-pub returns-in-End : goal.returns-in-End
-returns-in-End c = section-end c.loop-parts.invariant.2 _ _ c.read_entry-r.ensures c.requires.fact_2.0 (c.read_entry-r.auto.parts ∙ c.loop-parts.invariant.1 ∙ c.requires.fact_2.2) c.start_of-start.ensures c.in-End.is
-
-pub returns-in-Wrong : goal.returns-in-Wrong
-returns-in-Wrong c = section-wrong c.loop-parts.invariant.2 _ _ c.read_entry-r.ensures c.in-Wrong.is
-
-pub returns-in-Limit : goal.returns-in-Limit
-returns-in-Limit c = section-limit c.loop-parts.invariant.2 _ _ c.read_entry-r.ensures c.in-Limit.is
-
-pub overflow_add-n : goal.overflow_add-n
-overflow_add-n c = let m = entry-moved c.loop-parts.invariant.2 _ _ c.read_entry-r.ensures c.in-Entry.is in record { fits = omega (arith, m.2, entry-within c.args.kind c.requires.fact_2.0 c.loop-parts.n m.2) }
-
-pub offset_bounds-parts-start-then-once : goal.offset_bounds-parts-start-then-once
-offset_bounds-parts-start-then-once c = record { fits = omega (arith, start-within c.args.kind c.requires.fact_2.0, c.start_of-start.ensures) }
-
-pub bounds-parts-start-then-once : goal.bounds-parts-start-then-once
-bounds-parts-start-then-once c = omega (arith, start-within c.args.kind c.requires.fact_2.0, c.start_of-start.ensures, (c.read_entry-r.auto.parts ∙ c.loop-parts.invariant.1 ∙ c.requires.fact_2.2))
-
-pub shape_of-parts-then-once : goal.shape_of-parts-then-once
-shape_of-parts-then-once c = simp length-set (c.read_entry-r.auto.parts ∙ c.loop-parts.invariant.1)
+bounds-parts-start c = omega (arith, start-within c.args.kind c.requires.fact_2.0, c.start_of-start.ensures, (c.read_entry.auto.parts ∙ c.loop-e.invariant.1 ∙ c.requires.fact_2.2))
 
 pub returns-then-once : goal.returns-then-once
-returns-then-once c = section-once c.loop-parts.invariant.2 _ _ c.read_entry-r.ensures c.in-Entry.is (sym c.is_once-once.ensures ∙ c.if-once.true) c.requires.fact_2.0 (c.read_entry-r.auto.parts ∙ c.loop-parts.invariant.1 ∙ c.requires.fact_2.2) c.start_of-start.ensures
+returns-then-once c = section-once c.loop-e.invariant.2 _ _ _ (λ k. rw c.in-Some.is at (c.in_ok-e.ensures k)) (sym c.is_once-once.ensures ∙ c.if-once.true) c.requires.fact_2.0 (c.read_entry.auto.parts ∙ c.loop-e.invariant.1 ∙ c.requires.fact_2.2) c.start_of-start.ensures
 
-pub loop-parts-smaller : goal.loop-parts-smaller
-loop-parts-smaller c = let m = entry-moved c.loop-parts.invariant.2 _ _ c.read_entry-r.ensures c.in-Entry.is in omega (arith, m.0, m.1)
+pub loop-e-smaller : goal.loop-e-smaller
+loop-e-smaller c = let m = entry-moved c.loop-e.invariant.2 _ _ _ (λ k. rw c.in-Some.is at (c.in_ok-e.ensures k)) in omega (arith, m.0, m.1)
 
-pub loop-parts-preserved : goal.loop-parts-preserved
-loop-parts-preserved c = (c.read_entry-r.auto.cells ∙ c.loop-parts.invariant.0, c.read_entry-r.auto.parts ∙ c.loop-parts.invariant.1, section-on c.loop-parts.invariant.2 _ _ c.read_entry-r.ensures c.in-Entry.is (sym c.is_once-once.ensures ∙ c.if-once.false))
+pub loop-e-preserved : goal.loop-e-preserved
+loop-e-preserved c = (c.read_entry.auto.cells ∙ c.loop-e.invariant.0, c.read_entry.auto.parts ∙ c.loop-e.invariant.1, section-on c.loop-e.invariant.2 _ _ _ (λ k. rw c.in-Some.is at (c.in_ok-e.ensures k)) (sym c.is_once-once.ensures ∙ c.if-once.false))
+
+pub offset_bounds-parts-start-2 : goal.offset_bounds-parts-start-2
+offset_bounds-parts-start-2 c = record { fits = omega (arith, start-within c.args.kind c.requires.fact_2.0, c.start_of-start.ensures) }
+
+pub bounds-parts-start-2 : goal.bounds-parts-start-2
+bounds-parts-start-2 c = omega (arith, start-within c.args.kind c.requires.fact_2.0, c.start_of-start.ensures, (c.read_entry.auto.parts ∙ c.loop-e.invariant.1 ∙ c.requires.fact_2.2))
+
+pub returns : goal.returns
+returns c = section-end c.loop-e.invariant.2 _ _ c.requires.fact_2.0 (c.read_entry.auto.parts ∙ c.loop-e.invariant.1 ∙ c.requires.fact_2.2) c.start_of-start.ensures (λ k. rw c.in_default.is at (c.in_ok-e.ensures k))

@@ -5,10 +5,10 @@ use lib.ListN.{length}
 use Rattle.sections.specs.Runs.{SectionLoop}
 use Rattle.sections.proofs.read_section.Given as goal
 
-abbrev pub invariant-loop-parts : goal.invariant-loop-parts
-invariant-loop-parts l =
-    (length l.cells ≡ length l.initial.cells) × (length l.parts ≡ length l.initial.parts) × ((k : ℕ) → SectionLoop l.t l.p l.l l.c l.kind l.initial.cells l.initial.parts k l.q l.m l.d l.n l.last l.len l.cells l.parts)
+abbrev pub invariant-loop-e : goal.invariant-loop-e
+invariant-loop-e l =
+    (length l.cells ≡ length l.initial.cells) × (length l.parts ≡ length l.initial.parts) × ((k : ℕ) → SectionLoop l.t l.fn.at.position l.fn.at.line l.fn.at.rows l.kind l.initial.cells l.initial.parts k l.behind.position l.behind.line l.behind.rows l.n l.last l.len l.cells l.parts)
 
-abbrev pub decreases-loop-parts : goal.decreases-loop-parts
-decreases-loop-parts l =
-    length l.t - l.q
+abbrev pub decreases-loop-e : goal.decreases-loop-e
+decreases-loop-e l =
+    length l.t - l.behind.position

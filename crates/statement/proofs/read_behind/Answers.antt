@@ -1,17 +1,15 @@
 -- `read_behind`: the body, then `end`.
 use mathlib.Core.Bool.{false}
 use mathlib.Core.List.{[]}
-use Rattle.statement.specs.EndRecord.{whole-wrong, whole-limit, body-position, whole-read}
+use Rattle.std.proofs.lemmas.Result.{err_from_is_err_and}
+use Rattle.statement.specs.EndRecord.{whole-refused, body-position, whole-read}
 use Rattle.statement.proofs.read_behind.Goals as goal
 
 pub read_end-requires : goal.read_end-requires
-read_end-requires c = body-position _ _ _ _ _ _ _ _ (c.read_body-r.ensures (record { bytes = []; start = 0 }) false) _ _ _ c.in-Done.is
+read_end-requires c = body-position _ _ _ _ _ _ _ _ (c.in_ok-behind.ensures (record { bytes = []; start = 0 }) false)
 
-pub returns-in-Wrong : goal.returns-in-Wrong
-returns-in-Wrong c = λ n y. whole-wrong _ _ _ _ _ _ _ _ (c.read_body-r.ensures n y) _ c.in-Wrong.is
+pub returns-in_err-behind : goal.returns-in_err-behind
+returns-in_err-behind c = λ n y. let p = err_from_is_err_and c.from_residual.result c.from_residual.ensures.1 in rw (p.1, p.2) (whole-refused _ _ _ _ _ _ _ _ (c.in_err-behind.ensures n y))
 
-pub returns-in-Limit : goal.returns-in-Limit
-returns-in-Limit c = λ n y. whole-limit _ _ _ _ _ _ _ _ (c.read_body-r.ensures n y) _ c.in-Limit.is
-
-pub returns-in-Done : goal.returns-in-Done
-returns-in-Done c = λ n y. whole-read _ _ _ _ _ _ _ _ (c.read_body-r.ensures n y) _ _ _ c.in-Done.is _ c.read_end.ensures
+pub returns : goal.returns
+returns c = λ n y. whole-read _ _ _ _ _ _ _ _ (c.in_ok-behind.ensures n y) _ c.read_end.ensures

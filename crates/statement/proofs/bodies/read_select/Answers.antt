@@ -1,34 +1,28 @@
 -- `read_select`: the items, FROM, the clauses; then the number of FROM rows is stored.
 use native.Mathlib.Omega.{arith}
 use mathlib.Core.Path.{◌∙◌}
-use lib.ListN.{length-set}
-use Rattle.statement.specs.Answers.{given-done}
-use Rattle.statement.specs.SelectReads.{select-wrong, select-limit, select-from-wrong, select-from-limit, from-took, select_read}
+use Rattle.std.proofs.lemmas.Result.{err_from_is_err_and}
+use Rattle.read_expression.specs.Given.{given-done}
+use Rattle.statement.specs.SelectReads.{select-refused, select-from-refused, from-took, select_read, select-run-refused}
 use Rattle.statement.proofs.bodies.read_select.Goals as goal
 
-pub read_froms-f-requires : goal.read_froms-f-requires
-read_froms-f-requires c = record { fact_1 = (given-done _ _ _ _ _ _ _ _ (c.read_some-i.ensures 0) c.in-Done.is).position; fact_2 = (c.read_some-i.auto.cells ∙ c.requires.fact_2.rows, c.requires.fact_2.from-rows) }
+pub read_froms-requires : goal.read_froms-requires
+read_froms-requires c = record { fact_1 = (given-done _ _ _ _ _ _ _ _ (c.in_ok-items.ensures 0)).position; fact_2 = (c.read_some.auto.cells ∙ c.requires.fact_2.rows, c.requires.fact_2.from-rows) }
 
-pub read_run-r-requires : goal.read_run-r-requires
-read_run-r-requires c = ((from-took _ _ _ _ _ _ _ (c.read_some-i.ensures 0) _ _ _ c.in-Done.is _ _ _ c.read_froms-f.ensures _ _ _ _ c.in-Done-f.is).position, (omega arith, omega arith, c.read_froms-f.auto.cells ∙ c.read_some-i.auto.cells ∙ c.requires.fact_2.rows, c.read_some-i.auto.parts ∙ c.requires.fact_2.numbers))
+pub read_run-requires : goal.read_run-requires
+read_run-requires c = ((from-took _ _ _ _ _ _ _ (c.in_ok-items.ensures 0) _ _ _ c.in_ok-f.ensures).position, (omega arith, omega arith, c.read_froms.auto.cells ∙ c.read_some.auto.cells ∙ c.requires.fact_2.rows, c.read_some.auto.parts ∙ c.requires.fact_2.numbers))
 
 pub bounds-parts-2367 : goal.bounds-parts-2367
-bounds-parts-2367 c = omega (arith, c.read_run-r.auto.parts ∙ c.read_some-i.auto.parts ∙ c.requires.fact_2.numbers)
+bounds-parts-2367 c = omega (arith, c.read_run.auto.parts ∙ c.read_some.auto.parts ∙ c.requires.fact_2.numbers)
 
-pub returns-in-Wrong : goal.returns-in-Wrong
-returns-in-Wrong c = select-wrong _ _ _ _ _ _ _ (c.read_some-i.ensures 0) _ _ c.in-Wrong.is
+pub returns-in_err-items : goal.returns-in_err-items
+returns-in_err-items c = let p = err_from_is_err_and c.from_residual.result c.from_residual.ensures.1 in rw (p.1, p.2) (select-refused _ _ _ _ _ _ _ _ (c.in_err-items.ensures 0))
 
-pub returns-in-Limit : goal.returns-in-Limit
-returns-in-Limit c = select-limit _ _ _ _ _ _ _ (c.read_some-i.ensures 0) _ _ c.in-Limit.is
+pub returns-in_err-f : goal.returns-in_err-f
+returns-in_err-f c = let p = err_from_is_err_and c.from_residual-in_err-f.result c.from_residual-in_err-f.ensures.1 in rw (p.1, p.2) (select-from-refused _ _ _ _ _ _ _ (c.in_ok-items.ensures 0) _ _ _ c.in_err-f.ensures)
 
-pub returns-in-Wrong-f : goal.returns-in-Wrong-f
-returns-in-Wrong-f c = select-from-wrong _ _ _ _ _ _ _ (c.read_some-i.ensures 0) _ _ _ c.in-Done.is _ _ _ c.read_froms-f.ensures _ c.in-Wrong-f.is
+pub returns-in_err-clauses : goal.returns-in_err-clauses
+returns-in_err-clauses c = let p = err_from_is_err_and c.from_residual-in_err-clauses.result c.from_residual-in_err-clauses.ensures.1 in rw (p.1, p.2) (select-run-refused _ _ _ _ _ _ _ (c.in_ok-items.ensures 0) _ _ _ c.in_ok-f.ensures _ _ _ c.in_err-clauses.ensures (c.read_run.auto.parts ∙ c.read_some.auto.parts ∙ c.requires.fact_2.numbers))
 
-pub returns-in-Limit-f : goal.returns-in-Limit-f
-returns-in-Limit-f c = select-from-limit _ _ _ _ _ _ _ (c.read_some-i.ensures 0) _ _ _ c.in-Done.is _ _ _ c.read_froms-f.ensures _ c.in-Limit-f.is
-
-pub shape_of-parts-in-Done-f : goal.shape_of-parts-in-Done-f
-shape_of-parts-in-Done-f c = simp length-set (c.read_run-r.auto.parts ∙ c.read_some-i.auto.parts)
-
-pub returns-in-Done-f : goal.returns-in-Done-f
-returns-in-Done-f c = select_read _ _ _ _ _ _ _ (c.read_some-i.ensures 0) _ _ _ c.in-Done.is _ _ _ c.read_froms-f.ensures _ _ _ _ c.in-Done-f.is _ _ _ c.read_run-r.ensures (c.read_run-r.auto.parts ∙ c.read_some-i.auto.parts ∙ c.requires.fact_2.numbers)
+pub returns : goal.returns
+returns c = select_read _ _ _ _ _ _ _ (c.in_ok-items.ensures 0) _ _ _ c.in_ok-f.ensures _ _ _ c.in_ok-clauses.ensures (c.read_run.auto.parts ∙ c.read_some.auto.parts ∙ c.requires.fact_2.numbers)
