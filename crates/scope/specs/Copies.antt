@@ -1,6 +1,6 @@
--- Labels stored one after another.
-use Rattle.std.specs.Prelude.{ℕ, zero, suc, ◌+◌, ◌≤◌, ◌<◌, ◌≡◌, refl, List, [], ◌∷◌, ◌++◌, map, length, get_or, take, set}
-use Rattle.std.proofs.Common.{arith, add-one, add-zero, ap, sym, ◌∙◌, append_assoc, append-nil, length-set, take-suc-set, take-suc, take_all}
+-- Labels stored one after another, and all at once.
+use Rattle.std.specs.Prelude.{ℕ, zero, suc, ◌+◌, ◌≤◌, ◌<◌, ◌≡◌, refl, List, [], ◌∷◌, ◌++◌, map, length, get_or, take, drop, set}
+use Rattle.std.proofs.Common.{arith, add-one, add-zero, ap, sym, ◌∙◌, append_assoc, append-nil, length-set, take-suc-set, take-suc, take_all, take_at, length-append, length-drop}
 use Rattle.std.proofs.lemmas.List.{length-map}
 use Rattle.rules.specs.Limits.{most_columns}
 
@@ -46,3 +46,19 @@ pub stored : {xs : List ℕ} {j n w : ℕ} {ls : List ℕ} → Copying [] 0 xs j
 stored {xs} {j} {n} {w} {ls} k e l h g =
     let z : w ≡ 0 + j = omega arith in
     ap (λ i. take i ls) z ∙ k.labels ∙ take_all j xs (omega arith)
+
+-- the labels xs stand in ls before what else there was in l
+pub record Overwritten (xs l ls : List ℕ) : Type 0 where
+  pub is : ls ≡ xs ++ drop (length xs) l
+
+pub overwritten : {xs l ls : List ℕ} → ls ≡ take 0 l ++ (xs ++ drop (0 + length xs) l) → Overwritten xs l ls
+overwritten {xs} {l} {ls} h =
+    let z : 0 + length xs ≡ length xs = omega arith in
+    record { is = rw z at h }
+
+module _ {xs l ls : List ℕ} (o : Overwritten xs l ls) where
+  pub overwritten-labels : (w : ℕ) → w ≡ length xs → take w ls ≡ xs
+  overwritten-labels w e = rw (e, o.is) (take_at xs (drop (length xs) l) (length xs) refl)
+
+  pub overwritten-room : length xs ≤ length l → length ls ≡ length l
+  overwritten-room h = rw o.is (omega (arith, length-append xs (drop (length xs) l), length-drop (length xs) l, h))

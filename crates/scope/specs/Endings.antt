@@ -1,26 +1,23 @@
 -- Labels passed over by the last byte of their names.
-use Prim.Native.Nat.{ℕ, zero, suc, ◌+◌, ◌-◌, ◌≤◌, ◌<◌, min}
+use Prim.Native.Nat.{ℕ, suc, ◌+◌, ◌-◌, ◌≤◌, ◌<◌, min}
 use native.Mathlib.Omega.{arith}
-use Rattle.std.proofs.Math.Numerals.{add-one}
 use Rattle.std.proofs.Math.Path.{◌≡◌, refl, sym, ap}
-use Rattle.std.proofs.Common.{◌∙◌, drop_of_length-le, length-take, length-drop, drop-cons, drop-drop, get_or-take, get_or-drop}
+use Rattle.std.proofs.Common.{◌∙◌, length-take, length-drop, get_or-take, get_or-drop}
 use Rattle.std.specs.Prelude.{Bool, ◌||◌, length, get_or, drop}
 use Rattle.std.proofs.Math.Bool.{true, false}
-use mathlib.Core.List.{List, [], ◌∷◌, map}
+use mathlib.Core.List.{List, [], ◌∷◌}
+use mathlib.Core.Logic.{◌⊎◌, ⊎_elim}
 use Rattle.std.proofs.Math.Dec.{eqb, ltb}
 use borrow.Author.Tests.{ltb-true, ltb-false, eqb-true, eqb-false, lt-ltb, le-ltb, eq-eqb, ne_eqb}
 use Rattle.rules.specs.Limits.{most_bytes}
-use Rattle.rules.specs.Lists.{Bytes, positions}
+use Rattle.rules.specs.Lists.{Bytes}
 use Rattle.rules.specs.Lines.{Word}
 use Rattle.rules.specs.Places.{bytes_at, word_at}
 use Rattle.rules.specs.Equality.{same_name}
-use Rattle.rules.specs.Plan.{Label}
-use Rattle.rules.specs.Scope as rules
 use Rattle.rules.specs.Scope.{is_named, is_qualified}
 use Rattle.text.specs.Places.{bytes-catalog, bytes-statement}
 use Rattle.scope.specs.Labels.{slot_of, address_of, length_of, name_at, label_at}
 use Rattle.scope.specs.Names.{differ, named_none, named_some, qualified-none, qualified-other}
-use Rattle.scope.specs.Search.{Seeking, NoneBehind, behind-miss}
 use Rattle.scope.specs.declared.endings.Ending.{Ending}
 
 -- ENDINGS
@@ -36,16 +33,6 @@ ending_of c (y ∷ ys) = record { limit = min (length c) most_bytes; last = get_
 -- whether a label may have a name of an ending: its name may end elsewhere, or has that last byte
 unfoldable pub may_end : Bytes → Ending → ℕ → Bool
 may_end c e x = ltb e.limit (end_of x) || (eqb (end_of x) 0 || eqb (get_or c (end_of x - 1) 0) e.last)
-
--- how many stand before the first that passes a test
-unfoldable pub first_at : (ℕ → Bool) → List ℕ → ℕ
-first_at p [] = 0
-first_at p (x ∷ xs) = elim (p x) [ true ↦ 0 | false ↦ suc (first_at p xs) ]
-
--- of the first n, how many there are up to the last that passes a test
-unfoldable pub last_up_to : (ℕ → Bool) → List ℕ → ℕ → ℕ
-last_up_to p xs zero = 0
-last_up_to p xs (suc n) = elim (p (get_or xs n 0)) [ true ↦ suc n | false ↦ last_up_to p xs n ]
 
 pub ending-none : (c n : Bytes) → length n ≡ 0 → ending_of c n ≡ record { limit = 0; last = 0 }
 unfolding ending_of
@@ -68,17 +55,14 @@ ending-within c n h = rw h (limit-within c n)
 
 -- a label's test, by its name's address and length
 module _ (c : Bytes) (e : Ending) (x : ℕ) {a n : ℕ} (ea : a ≡ address_of x) (en : n ≡ length_of x) where
-  pub may-behind : e.limit < a + n → true ≡ may_end c e x
+  pub may-elsewhere : (e.limit < a + n) ⊎ ((a + n ≤ e.limit) × (a + n ≡ 0)) → true ≡ may_end c e x
   unfolding may_end
-  may-behind h = rw (may_end, ← ea, ← en, lt-ltb _ _ h)
-
-  pub may-nowhere : a + n ≤ e.limit → a + n ≡ 0 → true ≡ may_end c e x
-  unfolding may_end
-  may-nowhere h z = rw (may_end, ← ea, ← en, le-ltb _ _ h, eq-eqb _ _ z)
+  may-elsewhere h = ⊎_elim (λ g. rw (may_end, ← ea, ← en, lt-ltb e.limit (a + n) g))
+      (λ g. rw (may_end, ← ea, ← en, le-ltb e.limit (a + n) g.0, eq-eqb (a + n) 0 g.1)) h
 
   pub may_here : a + n ≤ e.limit → (a + n ≡ 0 → ⊥) → eqb (get_or c (a + n - 1) 0) e.last ≡ may_end c e x
   unfolding may_end
-  may_here h z = rw (may_end, ← ea, ← en, le-ltb _ _ h, ne_eqb _ _ z)
+  may_here h z = rw (may_end, ← ea, ← en, le-ltb e.limit (a + n) h, ne_eqb (a + n) 0 z)
 
 module _ (c : Bytes) (e : Ending) (x : ℕ) where
   -- why a label is passed over
@@ -142,116 +126,24 @@ module _ (c q : Bytes) (x : ℕ) (n : Bytes) (p : Passed c (ending_of c n) x) wh
   unfolding same_name name_at word_at
   other_name w e = differ _ _ (λ z. other-bytes (z ∙ e))
 
-module _ (c q : Bytes) (ts : List ℕ) (w : Word) (n : Bytes) (e : w.bytes ≡ n) (x : ℕ)
-    (h : may_end c (ending_of c n) x ≡ false) where
-  passed-named : is_named w (label_at c q ts x) ≡ false
+module _ (c q : Bytes) (ts : List ℕ) (w : Word) (n : Bytes) (e : w.bytes ≡ n) (x : ℕ) {d : Ending}
+    (f : d ≡ ending_of c n) (g : may_end c d x ≡ false) where
+  other-ending : may_end c (ending_of c n) x ≡ false
+  other-ending = rw f at g
+
+  pub passed-named : is_named w (label_at c q ts x) ≡ false
   passed-named = go (eqb x 0) refl
     where
       go : (b : Bool) → eqb x 0 ≡ b → is_named w (label_at c q ts x) ≡ false
       go true z = named_none c q ts x w (eqb-true _ _ z)
       go false z =
-          named_some c q ts x w (eqb-false _ _ z) ∙ other_name c q x n (passed c (ending_of c n) x h) w e
+          named_some c q ts x w (eqb-false _ _ z) ∙ other_name c q x n (passed c (ending_of c n) x other-ending) w e
 
-  passed-qualified : (v : Word) → is_qualified v w (label_at c q ts x) ≡ false
+  pub passed-qualified : (v : Word) → is_qualified v w (label_at c q ts x) ≡ false
   passed-qualified v = go (eqb (slot_of x) 0) refl
     where
       go : (b : Bool) → eqb (slot_of x) 0 ≡ b → is_qualified v w (label_at c q ts x) ≡ false
       go true z = qualified-none c q ts x w v (eqb-true _ _ z)
       go false z =
           qualified-other c q ts x w v _ (eqb-false _ _ z) refl
-          (other_name c q x n (passed c (ending_of c n) x h) w e)
-
--- SEARCHES
-module _ (p : ℕ → Bool) (xs : List ℕ) (j : ℕ) where
-  module _ {r : Bool} (h : j < length xs) (e : r ≡ p (get_or xs j 0)) where
-    pub first-hit : r ≡ true → j + first_at p (drop j xs) ≡ j
-    unfolding first_at
-    first-hit g = rw (drop-cons xs j 0 h, first_at, ← e, g) (omega arith)
-
-    pub first-miss : r ≡ false → j + 1 + first_at p (drop (j + 1) xs) ≡ j + first_at p (drop j xs)
-    unfolding first_at
-    first-miss g = rw (drop-cons xs j 0 h, first_at, ← e, g, add-one j) (omega arith)
-
-  pub first-end : length xs ≤ j → j + first_at p (drop j xs) ≡ j
-  unfolding first_at
-  first-end h = rw (drop_of_length-le xs h) (omega arith)
-
-  module _ {r : Bool} (h : 0 < j) (e : r ≡ p (get_or xs (j - 1) 0)) where
-    before : j ≡ suc (j - 1)
-    before = omega arith
-
-    pub last-hit : r ≡ true → last_up_to p xs j ≡ j
-    unfolding last_up_to
-    last-hit g = ap (last_up_to p xs) before ∙ rw (last_up_to, ← e, g) (sym before)
-
-    pub last-miss : r ≡ false → last_up_to p xs (j - 1) ≡ last_up_to p xs j
-    unfolding last_up_to
-    last-miss g = sym (ap (last_up_to p xs) before ∙ rw (last_up_to, ← e, g))
-
-  pub last_none : j ≡ 0 → last_up_to p xs j ≡ j
-  unfolding last_up_to
-  last_none z = rw z
-
-last-below : (p : ℕ → Bool) (xs : List ℕ) (n : ℕ) → last_up_to p xs n ≤ n
-unfolding last_up_to
-last-below p xs zero = omega arith
-last-below p xs (suc n) = go (p (get_or xs n 0)) (last-below p xs n)
-  where
-    go : (b : Bool) → last_up_to p xs n ≤ n → elim b [ true ↦ suc n | false ↦ last_up_to p xs n ] ≤ suc n
-    go true h = omega arith
-    go false h = omega arith
-
-pub last_within : (p : ℕ → Bool) (xs : List ℕ) (n : ℕ) {r : ℕ} → r ≡ last_up_to p xs n → r ≤ n
-last_within p xs n h = rw h (last-below p xs n)
-
--- over labels of which none is sought
-module _ (p : ℕ → Bool) (t : Label → Bool) (f : ℕ → Label) (no : (x : ℕ) → p x ≡ false → t (f x) ≡ false) where
-  positions-first : (xs : List ℕ) (i : ℕ)
-      → positions t i (map f xs) ≡ positions t (i + first_at p xs) (map f (drop (first_at p xs) xs))
-  unfolding positions first_at
-  positions-first [] i = refl
-  positions-first (x ∷ xs) i = go (p x) refl (positions-first xs (suc i))
-    where
-      go : (b : Bool) → p x ≡ b
-          → positions t (suc i) (map f xs) ≡ positions t (suc i + first_at p xs) (map f (drop (first_at p xs) xs))
-          → positions t i (map f (x ∷ xs))
-          ≡ positions t (i + elim b [ true ↦ 0 | false ↦ suc (first_at p xs) ])
-          (map f (drop (elim b [ true ↦ 0 | false ↦ suc (first_at p xs) ]) (x ∷ xs)))
-      go true e h = ap (λ (k : ℕ). positions t k (map f (x ∷ xs))) (omega arith)
-      go false e h =
-          let z : i + suc (first_at p xs) ≡ suc i + first_at p xs = omega arith in
-          rw (z, positions, no x e) h
-
-  seek-next : {F : rules.Scope → List ℕ → rules.Found} {xs : List ℕ} {i h : ℕ} → Seeking F t f xs i h
-      → Seeking F t f xs (i + first_at p (drop i xs)) h
-  seek-next {F} {xs} {i} {h} k = record {
-    rest = λ s. rw (← drop-drop (first_at p (drop i xs)) i xs, ← positions-first (drop i xs) i) (k.rest s);
-  }
-
-  none_last : {xs : List ℕ} (i : ℕ) → i ≤ length xs → NoneBehind t f xs i → NoneBehind t f xs (last_up_to p xs i)
-  unfolding last_up_to
-  none_last zero h k = k
-  none_last {xs} (suc i) h k = go (p (get_or xs i 0)) refl (none_last i (omega arith))
-    where
-      go : (b : Bool) → p (get_or xs i 0) ≡ b → (NoneBehind t f xs i → NoneBehind t f xs (last_up_to p xs i))
-          → NoneBehind t f xs (elim b [ true ↦ suc i | false ↦ last_up_to p xs i ])
-      go true e g = k
-      go false e g =
-          let z : suc i - 1 ≡ i = omega arith in
-          g (rw z at (behind-miss k (omega arith) h refl (rw z (no (get_or xs i 0) e))))
-
--- by the ending of the name that is sought
-module _ (c q : Bytes) (ts : List ℕ) (w : Word) {n : Bytes} {e : Ending} {r : ℕ} (ew : w.bytes ≡ n)
-    (ee : e ≡ ending_of c n) where
-  pub seek-ending : {F : rules.Scope → List ℕ → rules.Found} {xs : List ℕ} {i h : ℕ}
-      → r ≡ i + first_at (may_end c e) (drop i xs) → Seeking F (is_named w) (label_at c q ts) xs i h
-      → Seeking F (is_named w) (label_at c q ts) xs r h
-  seek-ending er k =
-      rw er (seek-next (may_end c e) (is_named w) (label_at c q ts)
-      (λ x g. passed-named c q ts w n ew x (rw ee at g)) k)
-
-  pub behind-ending : (v : Word) {xs : List ℕ} {i : ℕ} → i ≤ length xs → r ≡ last_up_to (may_end c e) xs i
-      → NoneBehind (is_qualified v w) (label_at c q ts) xs i → NoneBehind (is_qualified v w) (label_at c q ts) xs r
-  behind-ending v {xs} {i} h er k =
-      rw er (none_last (may_end c e) (is_qualified v w) (label_at c q ts)
-      (λ x g. passed-qualified c q ts w n ew x (rw ee at g) v) i h k)
+          (other_name c q x n (passed c (ending_of c n) x other-ending) w e)

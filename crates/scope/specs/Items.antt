@@ -15,7 +15,7 @@ use Rattle.ast.specs.Table.{tree_at}
 use Rattle.scope.specs.Labels.{columns_of, tables_of}
 use Rattle.scope.specs.Slots.{Below}
 use Rattle.scope.specs.Scopes.{matches_of, up_to, scope_from, scope_of, Valid, labels_of, table_numbers}
-use Rattle.scope.specs.Copies.{Copying, stored}
+use Rattle.scope.specs.Copies.{Overwritten, overwritten-labels, overwritten-room}
 use Rattle.scope.specs.NewMatch.{most_row, new_match, new_matches, row_kept, add-new, Storing}
 use Rattle.scope.specs.declared.Scope.{Scope}
 
@@ -83,13 +83,13 @@ module _ (p : rules.Scope) (e : ℕ → Expr) (ts : List Word) (some-matched : i
 
 -- all labels and matches are stored
 pub items-projected : (c q t : List ℕ) {s : Scope} {xs rows : List ℕ} {j : ℕ} (r : Scope) → ItemsFit c q t s xs rows
-    → Copying [] 0 xs j r.labels → Storing (tree_at c q t) rows j r.matches → j ≤ length rows → length rows ≤ j
+    → Overwritten xs s.labels r.labels → Storing (tree_at c q t) rows j r.matches → j ≤ length rows → length rows ≤ j
     → r.tables ≡ s.tables → r.width ≡ length rows → r.count ≡ s.count → r.hidden ≡ 0
     → ItemsProjected c q t s xs rows r
 unfolding scope_of scope_from up_to rules.project rules.spawn matches_of
 items-projected c q t {s} {xs} {rows} {j} r f kl km h g et ew ec eh =
     let e : ℕ → Expr = tree_at c q t in
-    let el : labels_of r ≡ xs = stored kl ew f.same h g in
+    let el : labels_of r ≡ xs = overwritten-labels kl r.width (omega (arith, ew, f.same)) in
     let ej : r.width ≡ j = omega arith in
     let em : take r.width r.matches ≡ new_matches e [] rows =
     rw (ej, km.numbers, take_all j rows g) in
@@ -99,7 +99,7 @@ items-projected c q t {s} {xs} {rows} {j} r f kl km h g et ew ec eh =
         width = rw ew f.few;
         tables = rw ec f.valid.tables;
         slots = rw (el, ec) f.slots;
-        labels-room = kl.room;
+        labels-room = overwritten-room kl (omega (arith, f.same, f.few, f.valid.labels-room)) ∙ f.valid.labels-room;
         matches-room = km.room;
         tables-room = ap length et ∙ f.valid.tables-room;
       };

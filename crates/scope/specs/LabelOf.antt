@@ -24,7 +24,6 @@ use Rattle.scope.specs.Slots.{Below, below_at}
 use Rattle.scope.specs.Scopes.{scope_from}
 use Rattle.scope.specs.Lookup.{found_of, qualifier_of, Looked, found_below}
 use Rattle.scope.specs.Project.{label-found}
-use Rattle.numbers.specs.Reasons.{reason_of}
 use Rattle.numbers.specs.declared.refusals.Reason.{Reason}
 use Rattle.text.specs.declared.places.Place.{Place}
 

@@ -1,4 +1,5 @@
 pub mod Labels
+pub mod Tests
 pub mod Slots
 pub mod Scopes
 pub mod FromTable

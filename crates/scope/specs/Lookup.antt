@@ -3,7 +3,7 @@ use Rattle.std.specs.Prelude.{ℕ, suc, ◌+◌, ◌<◌, ◌≡◌, Bool, true,
 use Rattle.std.specs.Prelude as std
 use Rattle.std.proofs.Common.{arith, ap, ◌∙◌}
 use Rattle.std.proofs.Math.Option.{Option, none, some}
-use Rattle.rules.specs.Refusals.{unknown_qualifier, unknown_column, ambiguous_column, constant_only, not_aggregated}
+use Rattle.rules.specs.Refusals.{unknown_qualifier, unknown_column, constant_only, not_aggregated}
 use Rattle.rules.specs.Lists.{Bytes, any, positions, is_empty}
 use Rattle.rules.specs.Lines.{Word}
 use Rattle.rules.specs.Ast.{Expr, star}

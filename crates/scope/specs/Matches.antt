@@ -1,13 +1,14 @@
 -- The column that an expression is matched to: what was found, and a search that has come to the i-th column.
-use Prim.Native.Nat.{ℕ, zero, suc, ◌+◌, ◌-◌, ◌≤◌, ◌<◌}
+use Prim.Native.Nat.{ℕ, zero, suc, ◌+◌, ◌-◌, ◌<◌}
 use native.Mathlib.Omega.{arith}
-use Rattle.std.proofs.Common.{add-one, ◌∙◌, drop_of_length-le}
-use Rattle.std.specs.Prelude.{◌≡◌, refl, Bool, true, false, List, [], ◌∷◌, length}
+use Rattle.std.proofs.Common.{add-one, ◌∙◌}
+use Rattle.std.specs.List.{position_from, position_or_len}
+use Rattle.std.proofs.lemmas.Iterator.Adapters.{position_from-zero}
+use Rattle.std.proofs.lemmas.Bool.{ne_eqb}
+use Rattle.std.specs.Prelude.{◌≡◌, refl, cond, ltb, Some, not, ◌&&◌, nat_eq, Bool, true, false, List, [], ◌∷◌, length}
 use Rattle.std.specs.Prelude as std
 use Rattle.std.proofs.Math.Path.{ap, sym}
 use Rattle.std.proofs.Math.Option.{Option, none, some}
-use Rattle.std.proofs.Math.ListN.{get_or, drop}
-use Rattle.std.proofs.Math.Seq.{drop-cons}
 use Rattle.rules.specs.Lists.{Bytes}
 use Rattle.rules.specs.Ast.{Expr}
 use Rattle.rules.specs.Equality.{equal}
@@ -15,38 +16,33 @@ use Rattle.rules.specs.Scope.{match_at, matched}
 use Rattle.scope.specs.Scopes.{matches_of, scope_from}
 use Rattle.numbers.specs.Options.{option_of}
 
--- the first match from the i-th column on is the first of all
-pub record Matching (e : ℕ → Expr) (ms : List ℕ) (x : Expr) (i : ℕ) : Type 0 where
-  pub rest : match_at (matches_of e i (drop i ms)) x ≡ match_at (matches_of e 0 ms) x
+-- whether a match is of an expression equal to x
+abbrev pub is_match_of : (ℕ → Expr) → Expr → ℕ → Bool
+is_match_of e x m = not (nat_eq m 0) && equal (e (m - 1)) x
 
-module _ {e : ℕ → Expr} {ms : List ℕ} {x : Expr} {i : ℕ} (k : Matching e ms x i) where
-  -- nothing is matched to the column
-  pub match-skip : i < length ms → get_or ms i 0 ≤ 0 → Matching e ms x (i + 1)
-  unfolding matches_of
-  match-skip h z =
-      let y : get_or ms i 0 ≡ 0 = omega arith in
-      record { rest = rw (add-one i) (rw (drop-cons ms i 0 h, y) at k.rest) }
+-- the first of those from the i-th column on
+pub match-position : (e : ℕ → Expr) (x : Expr) (i : ℕ) (ms : List ℕ)
+    → option_of (position_from (is_match_of e x) i ms) ≡ match_at (matches_of e i ms) x
+unfolding matches_of match_at
+match-position e x i [] = refl
+match-position e x i (zero ∷ ms) = rw (add-one i) (match-position e x (suc i) ms)
+match-position e x i (suc r ∷ ms) =
+    let z : nat_eq (suc r) 0 ≡ false = ne_eqb (suc r) 0 (λ h. omega (arith, h)) in
+    let y : suc r - 1 ≡ r = omega arith in
+    rw (z, y, add-one i) (go (equal (e r) x) (match-position e x (suc i) ms))
+  where
+    go : (b : Bool) → option_of (position_from (is_match_of e x) (suc i) ms) ≡ match_at (matches_of e (suc i) ms) x
+        → option_of (cond b (Some i) (position_from (is_match_of e x) (suc i) ms))
+        ≡ elim b [ true ↦ some i | false ↦ match_at (matches_of e (suc i) ms) x ]
+    go true h = refl
+    go false h = h
 
-  module _ {b : Bool} (h : i < length ms) (z : 0 < get_or ms i 0) (t : b ≡ equal (e (get_or ms i 0 - 1)) x) where
-    here : matches_of e i (drop i ms) ≡ record { expr = e (get_or ms i 0 - 1); column = i } ∷ matches_of e (suc i) (drop (suc i) ms)
-    unfolding matches_of
-    here =
-        let y : get_or ms i 0 ≡ suc (get_or ms i 0 - 1) = omega arith in
-        let w : drop i ms ≡ suc (get_or ms i 0 - 1) ∷ drop (suc i) ms = drop-cons ms i 0 h ∙ ap (λ n. n ∷ drop (suc i) ms) y in
-        ap (matches_of e i) w
-
-    -- another expression is
-    pub match-miss : b ≡ false → Matching e ms x (i + 1)
-    unfolding match_at
-    match-miss g = record { rest = rw (add-one i) (rw (here, match_at, sym t ∙ g) at k.rest) }
-
-    pub match-hit : b ≡ true → option_of (std.Some i) ≡ match_at (matches_of e 0 ms) x
-    unfolding match_at
-    match-hit g = rw (here, match_at, sym t ∙ g) at k.rest
-
-  pub match-end : length ms ≤ i → option_of std.None ≡ match_at (matches_of e 0 ms) x
-  unfolding matches_of match_at
-  match-end h = rw (drop_of_length-le ms h) at k.rest
+-- as `position` tells it
+pub match-first : (e : ℕ → Expr) (x : Expr) {ms ns : List ℕ} {r : std.Option ℕ} → ns ≡ ms
+    → r ≡ cond (ltb (position_or_len (is_match_of e x) ns) (length ns)) (Some (position_or_len (is_match_of e x) ns)) std.None
+    → option_of r ≡ match_at (matches_of e 0 ms) x
+match-first e x {ms} {ns} h g =
+    ap option_of (g ∙ position_from-zero (is_match_of e x) ns) ∙ rw (← h) (match-position e x 0 ns)
 
 -- what is matched in a scope
 pub matched-from : (e : ℕ → Expr) (c q : Bytes) (xs ms ts : List ℕ) (h : ℕ) (x : Expr)

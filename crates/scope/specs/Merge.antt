@@ -1,6 +1,6 @@
 -- Two scopes merged: the other's labels and tables behind one's own.
-use Rattle.std.specs.Prelude.{ℕ, suc, ◌+◌, ◌≤◌, ◌<◌, ◌≡◌, refl, List, [], ◌∷◌, ◌++◌, map, length, get_or, take, set}
-use Rattle.std.proofs.Common.{arith, add-one, add-zero, ap, ◌∙◌, append_assoc, append-nil, length-set, take-suc-set, take-suc, length-take-le, get_or-take}
+use Rattle.std.specs.Prelude.{ℕ, suc, ◌+◌, ◌≤◌, ◌<◌, ◌≡◌, List, [], ◌∷◌, ◌++◌, map, length, get_or, take, drop, set}
+use Rattle.std.proofs.Common.{arith, add-one, add-zero, ap, ◌∙◌, append_assoc, append-nil, length-set, take-suc-set, take-suc, length-take-le, get_or-take, length-append, length-drop, take_at}
 use Rattle.rules.specs.Limits.{most_columns, most_from_tables}
 use Rattle.rules.specs.Lists.{Bytes}
 use Rattle.rules.specs.Ast.{Expr}
@@ -55,38 +55,43 @@ slot_at {s} {o} m j h =
     let b : slot_of (get_or o.labels j 0) ≤ o.count = rw g at (below_at j m.other.slots) in
     omega (arith, m.tables)
 
-abbrev pub same : ℕ → ℕ
-same x = x
-
-map_same : (xs : List ℕ) → map same xs ≡ xs
-map_same [] = refl
-map_same (x ∷ xs) = ap (λ r. x ∷ r) (map_same xs)
-
 -- all are stored
-pub merged : {s o : Scope} {i j : ℕ} {l n : List ℕ} (r : Scope) → Mergeable s o
-    → Appending (shifted s.count) most_columns s.labels s.width o.labels j l → j ≤ o.width → o.width ≤ j
-    → Appending same most_from_tables n s.count o.tables i r.tables → i ≤ o.count → o.count ≤ i
-    → n ≡ s.tables → r.labels ≡ l → r.matches ≡ s.matches → r.hidden ≡ s.hidden → r.width ≡ s.width + o.width
+pub merged : {s o : Scope} {j : ℕ} (r : Scope) → Mergeable s o
+    → Appending (shifted s.count) most_columns s.labels s.width o.labels j r.labels → j ≤ o.width → o.width ≤ j
+    → r.tables ≡ take s.count s.tables ++ (table_numbers o ++ drop (s.count + length (table_numbers o)) s.tables) → r.matches ≡ s.matches → r.hidden ≡ s.hidden → r.width ≡ s.width + o.width
     → r.count ≡ s.count + o.count → Merged s o r
 unfolding rules.merge rules.shift
-merged {s} {o} {i} {j} {l} {n} r m a h g b k d en er em eh ew ec =
+merged {s} {o} {j} r m a h g b em eh ew ec =
     let ej : j ≡ o.width = omega arith in
-    let ei : i ≡ o.count = omega arith in
     let p : Plain r = record { unmatched = rw em m.plain.unmatched; shown = eh ∙ m.plain.shown } in
-    let el : labels_of r ≡ labels_of s ++ map (shifted s.count) (labels_of o) = rw (ew, er, ← ej) a.stored in
-    let et : table_numbers r ≡ table_numbers s ++ table_numbers o =
-    rw (ec, ← ei, b.stored, en, map_same (take i o.tables)) in
+    let el : labels_of r ≡ labels_of s ++ map (shifted s.count) (labels_of o) = rw (ew, ← ej) a.stored in
     let ln : length (table_numbers s) ≡ s.count =
     length-take-le s.count s.tables (omega (arith, m.valid.tables-room, m.valid.tables)) in
+    let lo : length (table_numbers o) ≡ o.count =
+    length-take-le o.count o.tables (omega (arith, m.other.tables-room, m.other.tables)) in
+    let lt : length (table_numbers s ++ table_numbers o) ≡ s.count + o.count =
+    omega (arith, length-append (table_numbers s) (table_numbers o), ln, lo) in
+    let et : table_numbers r ≡ table_numbers s ++ table_numbers o =
+    rw (ec, b, ← append_assoc (table_numbers s) (table_numbers o) (drop (s.count + length (table_numbers o)) s.tables))
+    (take_at (table_numbers s ++ table_numbers o) (drop (s.count + length (table_numbers o)) s.tables) (s.count + o.count) lt) in
     record {
       valid = record {
         width = omega (arith, m.width);
         tables = omega (arith, m.tables);
         slots = rw (el, ec)
             (below-append (below_wider (omega arith) m.valid.slots) (below-shifted s.count m.other.slots));
-        labels-room = ap length er ∙ a.room;
+        labels-room = a.room;
         matches-room = ap length em ∙ m.valid.matches-room;
-        tables-room = b.room;
+        tables-room = rw b (omega (
+          arith,
+          length-append (table_numbers s) (table_numbers o ++ drop (s.count + length (table_numbers o)) s.tables),
+          length-append (table_numbers o) (drop (s.count + length (table_numbers o)) s.tables),
+          length-drop (s.count + length (table_numbers o)) s.tables,
+          ln,
+          lo,
+          m.tables,
+          m.valid.tables-room,
+        ));
       };
       plain = p;
       count = ec;

@@ -2,7 +2,7 @@
 use Rattle.std.specs.Prelude.{ℕ, ◌+◌, ◌≤◌, ◌<◌, ◌≡◌, Bool, true, false, List, ⊤, Result, Ok, Err}
 use Rattle.std.proofs.Common.{sym, ◌∙◌}
 use borrow.Author.Tests.{lt-ltb, le-ltb}
-use Rattle.rules.specs.Refusals.{Answer, ok, refuse, ◌>>=◌, refuse_if, limit_passed, duplicate_table}
+use Rattle.rules.specs.Refusals.{Answer, ok, refuse, ◌>>=◌, refuse_if}
 use Rattle.rules.specs.Limits.{most_columns}
 use Rattle.rules.specs.Lists.{Bytes}
 use Rattle.rules.specs.Scope as rules

@@ -1,19 +1,19 @@
 -- Names compared by their bytes, and labels held to a name.
-use Prim.Native.Nat.{ℕ, zero, suc, ◌+◌, ◌-◌, ◌≤◌, ◌<◌}
-use Rattle.std.proofs.Common.{arith, ◌∙◌, drop_of_length-le, drop-cons, eqb-true}
-use Rattle.std.proofs.Math.Numerals.{add-one}
-use Rattle.std.specs.Prelude.{◌≡◌, Bool, ◌&&◌, List, length, get_or, drop}
+use Prim.Native.Nat.{ℕ, zero, suc, ◌-◌}
+use Rattle.std.proofs.Common.{arith, ◌∙◌, eqb-true}
+use Rattle.std.specs.List.{list_any}
+use Rattle.std.specs.Prelude.{◌≡◌, Bool, ◌&&◌, map, List, get_or}
 use Rattle.std.proofs.Math.Path.{refl, sym}
 use Rattle.std.proofs.Math.Bool.{true, false}
 use Rattle.std.proofs.Math.Dec.{eqb}
 use Rattle.std.proofs.lemmas.Bool.{eqb-false}
 use Rattle.rules.specs.Lists.{Bytes, same, any}
 use Rattle.rules.specs.Lines.{Word}
-use Rattle.rules.specs.Places.{word_at}
 use Rattle.rules.specs.Equality.{same_name}
 use Rattle.rules.specs.Scope.{is_named, is_qualified, shares}
+use Rattle.scope.specs.Tests.{any-map}
 use Rattle.text.specs.Order.{same_true, same_self}
-use Rattle.scope.specs.Labels.{slot_of, address_of, length_of, name_at, tables_of, in_slot, label_at}
+use Rattle.scope.specs.Labels.{slot_of, name_at, tables_of, in_slot, label_at}
 use Rattle.scope.specs.Labels.{label-nameless, label-slot, label-in}
 
 -- other bytes are not the same
@@ -84,44 +84,18 @@ module _ (c q : Bytes) (ts : List ℕ) (x : ℕ) (w v : Word) (d : Bool) (h : sl
 unfoldable pub holds : Bytes → Bytes → List ℕ → Word → Bool
 holds c q ts w = any (same_name w) (tables_of c q ts)
 
-module _ (c q : Bytes) (ts : List ℕ) (w : Word) (i : ℕ) (r : Bool) where
-  module _ (h : i < length ts) (e : r ≡ same_name (name_at c q (get_or ts i 0)) w) where
-    turned : same_name w (name_at c q (get_or ts i 0)) ≡ r
-    unfolding same_name
-    turned = same-swap w.bytes (name_at c q (get_or ts i 0)).bytes ∙ sym e
+name-swap : (v w : Word) → same_name v w ≡ same_name w v
+unfolding same_name
+name-swap v w = same-swap v.bytes w.bytes
 
-    pub holds-hit : r ≡ true → holds c q (drop i ts) w ≡ true
-    unfolding holds tables_of any
-    holds-hit g = rw (drop-cons ts i 0 h, any, turned, g)
-
-    pub holds-miss : r ≡ false → holds c q (drop i ts) w ≡ holds c q (drop (i + 1) ts) w
-    unfolding holds tables_of any
-    holds-miss g = rw (drop-cons ts i 0 h, any, turned, g, add-one i)
-
-  pub holds-end : length ts ≤ i → holds c q (drop i ts) w ≡ false
-  unfolding holds tables_of any
-  holds-end h = rw (drop_of_length-le ts h)
+pub holds-any : (c q : Bytes) (ts : List ℕ) (w : Word) → list_any (λ x. same_name (name_at c q x) w) ts ≡ holds c q ts w
+unfolding holds tables_of
+holds-any c q ts w = any-map _ (same_name w) (name_at c q) (λ x. name-swap w (name_at c q x)) ts
 
 -- whether one of the tables us has a name that one of ts has
 unfoldable pub sharing : Bytes → Bytes → List ℕ → List ℕ → Bool
 sharing c q ts us = shares (tables_of c q ts) (tables_of c q us)
 
-module _ (c q : Bytes) (ts us : List ℕ) (i : ℕ) where
-  -- r tells whether one of ts has the name of the i-th of us, which is the n bytes at a
-  module _ (r : Bool) {a n : ℕ} (h : i < length us) (ea : a ≡ address_of (get_or us i 0)) (en : n ≡ length_of (get_or us i 0))
-      (e : r ≡ any (same_name (word_at c q a n)) (tables_of c q ts)) where
-    held : any (same_name (name_at c q (get_or us i 0))) (tables_of c q ts) ≡ r
-    unfolding name_at
-    held = rw (← ea, ← en) (sym e)
-
-    pub sharing-hit : r ≡ true → sharing c q ts (drop i us) ≡ true
-    unfolding sharing shares tables_of any
-    sharing-hit g = rw (drop-cons us i 0 h, any, held, g)
-
-    pub sharing-miss : r ≡ false → sharing c q ts (drop i us) ≡ sharing c q ts (drop (i + 1) us)
-    unfolding sharing shares tables_of any
-    sharing-miss g = rw (drop-cons us i 0 h, any, held, g, add-one i)
-
-  pub sharing-end : length us ≤ i → sharing c q ts (drop i us) ≡ false
-  unfolding sharing shares tables_of any
-  sharing-end h = rw (drop_of_length-le us h)
+pub sharing-any : (c q : Bytes) (ts us : List ℕ) → list_any (λ y. holds c q ts (name_at c q y)) us ≡ sharing c q ts us
+unfolding sharing shares tables_of holds
+sharing-any c q ts us = any-map _ (λ u. any (same_name u) (map (name_at c q) ts)) (name_at c q) (λ y. refl) us

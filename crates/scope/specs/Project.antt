@@ -1,6 +1,6 @@
 -- A projection: its items' labels over the same tables, where nothing is matched.
-use Rattle.std.specs.Prelude.{ℕ, ◌+◌, ◌≤◌, ◌≡◌, refl, true, List, [], ◌∷◌, ◌++◌, map, length, get_or}
-use Rattle.std.proofs.Common.{arith, ap, sym, ◌∙◌, append_assoc, append-nil, take_all}
+use Rattle.std.specs.Prelude.{ℕ, ◌≤◌, ◌≡◌, refl, true, List, [], ◌∷◌, ◌++◌, map, length, get_or}
+use Rattle.std.proofs.Common.{arith, ap, sym, ◌∙◌, append_assoc, append-nil}
 use Rattle.std.proofs.Math.ListN.{get_or-map}
 use Rattle.rules.specs.Limits.{most_columns}
 use Rattle.rules.specs.Lists.{Bytes, is_empty}
@@ -12,7 +12,7 @@ use Rattle.rules.specs.Scope.{item_label, project_one, project_all, add_column, 
 use Rattle.scope.specs.Labels.{label_at, columns_of, label-nameless}
 use Rattle.scope.specs.Slots.{Below}
 use Rattle.scope.specs.Scopes.{scope_from, scope_of, Valid, Plain, plain_scope, plain-scope, labels_of, table_numbers}
-use Rattle.scope.specs.Copies.{Copying}
+use Rattle.scope.specs.Copies.{Overwritten, overwritten-labels, overwritten-room}
 use Rattle.scope.specs.declared.Scope.{Scope}
 
 -- the labels of items over a scope, at most 256 and each of one of its tables or of none
@@ -60,15 +60,13 @@ project-all s (i ∷ is') ds ts e =
     ∙ project-all s is' (ds ++ (l ∷ [])) ts e
     ∙ ap (λ (cs : List Label). plain_scope cs ts) (append_assoc ds (l ∷ []) ls)
 
--- all labels are stored
-pub projected : {s : Scope} {xs : List ℕ} {j : ℕ} (r : Scope) → Projectable s xs → Copying [] 0 xs j r.labels
-    → j ≤ length xs → length xs ≤ j → r.matches ≡ s.matches → r.tables ≡ s.tables → r.width ≡ length xs
-    → r.count ≡ s.count → r.hidden ≡ 0 → Projected s xs r
+-- the labels stand before what else there was
+pub projected : {s : Scope} {xs : List ℕ} (r : Scope) → Projectable s xs → Overwritten xs s.labels r.labels
+    → r.matches ≡ s.matches → r.tables ≡ s.tables → r.width ≡ length xs → r.count ≡ s.count → r.hidden ≡ 0
+    → Projected s xs r
 unfolding rules.project rules.spawn
-projected {s} {xs} {j} r f k h g em et ew ec eh =
-    let z : 0 + j ≡ length xs = omega arith in
-    let ej : j ≡ length xs = omega arith in
-    let el : labels_of r ≡ xs = rw (ew, ← z, k.labels, ej) (take_all (length xs) xs (omega arith)) in
+projected {s} {xs} r f k em et ew ec eh =
+    let el : labels_of r ≡ xs = overwritten-labels k r.width ew in
     let ts : table_numbers r ≡ table_numbers s = rw (ec, et) in
     let p : Plain r = record { unmatched = rw em f.plain.unmatched; shown = eh } in
     record {
@@ -76,7 +74,7 @@ projected {s} {xs} {j} r f k h g em et ew ec eh =
         width = rw ew f.few;
         tables = rw ec f.valid.tables;
         slots = rw (el, ec) f.slots;
-        labels-room = k.room;
+        labels-room = overwritten-room k (omega (arith, f.few, f.valid.labels-room)) ∙ f.valid.labels-room;
         matches-room = ap length em ∙ f.valid.matches-room;
         tables-room = ap length et ∙ f.valid.tables-room;
       };

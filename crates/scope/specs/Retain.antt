@@ -4,7 +4,7 @@ use native.Mathlib.Omega.{arith}
 use Rattle.std.proofs.Math.Numerals.{add-one}
 use Rattle.std.specs.Prelude.{◌≡◌, refl, Bool, true, false, drop, set}
 use Rattle.std.proofs.Math.Path.{ap, sym}
-use Rattle.std.proofs.Common.{◌∙◌, length-append, drop_of_length-le, drop-cons, take-suc-set, get_or-take, take_at}
+use Rattle.std.proofs.Common.{◌∙◌, length-append, drop_of_length-le, drop-cons, take-suc-set, take_at}
 use mathlib.Core.List.{List, [], ◌∷◌, ◌++◌}
 use Rattle.std.proofs.Math.ListN.{length, get_or, take, length-set}
 use Rattle.std.proofs.Math.Seq.{sets, length-take-le}
@@ -24,37 +24,6 @@ retained e ks (r ∷ rs) = elim (has_equal e ks (e r)) [
   | true ↦ retained e ks rs
   | false ↦ r ∷ retained e (ks ++ (r ∷ [])) rs
 ]
-
--- A SEARCH
--- what the rows from the i-th on decide
-pub record Seeking (e : ℕ → Expr) (ks : List ℕ) (x : Expr) (i : ℕ) : Type 0 where
-  pub rest : has_equal e (drop i ks) x ≡ has_equal e ks x
-
-pub seek-begin : (e : ℕ → Expr) (ks : List ℕ) (x : Expr) → Seeking e ks x 0
-seek-begin e ks x = record { rest = refl }
-
--- among the first n of rs, one of which is looked at
-module _ {e : ℕ → Expr} (n : ℕ) (rs : List ℕ) {x : Expr} {i : ℕ} (k : Seeking e (take n rs) x i)
-    (l : n ≤ length rs) where
-  module _ {b : Bool} (h : i < n) (t : b ≡ equal (e (get_or rs i 0)) x) where
-    here : drop i (take n rs) ≡ get_or rs i 0 ∷ drop (suc i) (take n rs)
-    here =
-        let m : i < length (take n rs) = omega (arith, length-take-le n rs l) in
-        drop-cons (take n rs) i 0 m ∙ ap (λ r. r ∷ drop (suc i) (take n rs)) (get_or-take n rs i 0 h)
-
-    pub seek_hit : b ≡ true → true ≡ has_equal e (take n rs) x
-    unfolding has_equal any
-    seek_hit g = rw (here, any, sym t ∙ g) at k.rest
-
-    pub seek-miss : b ≡ false → Seeking e (take n rs) x (i + 1)
-    unfolding has_equal any
-    seek-miss g = record { rest = rw (add-one i) (rw (here, any, sym t ∙ g) at k.rest) }
-
-  pub seek-end : n ≤ i → false ≡ has_equal e (take n rs) x
-  unfolding has_equal any
-  seek-end h =
-      let m : length (take n rs) ≤ i = omega (arith, length-take-le n rs l) in
-      rw (drop_of_length-le (take n rs) m) at k.rest
 
 -- RETAINING
 -- the rows rs from the i-th on are looked at, and k of kept are in use

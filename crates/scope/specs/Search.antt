@@ -1,5 +1,5 @@
 -- The searches of a lookup: one that has come to the i-th label, and one for a match.
-use Rattle.std.specs.Prelude.{ℕ, zero, suc, ◌+◌, ◌-◌, ◌≤◌, ◌<◌, ◌≡◌, Bool, true, false, List, [], ◌∷◌, ◌++◌, map, length, get_or, take, drop, Result, Ok, Err}
+use Rattle.std.specs.Prelude.{ℕ, zero, suc, ◌+◌, ◌-◌, ◌≤◌, ◌<◌, ◌≡◌, Bool, true, false, not, List, [], ◌∷◌, ◌++◌, map, length, get_or, take, drop, Result, Ok, Err, is_some}
 use Rattle.std.specs.Prelude as std
 use Rattle.std.proofs.Common.{arith, ◌∙◌}
 use Rattle.std.proofs.Math.Numerals.{add-one}
@@ -17,6 +17,7 @@ use Rattle.rules.specs.Scope as rules
 use Rattle.rules.specs.Scope.{the_only, the_last, not_found, lookup_named, is_named, is_qualified}
 use Rattle.scope.specs.Labels.{tables_of, columns_of}
 use Rattle.scope.specs.Scopes.{matches_of, scope_from}
+use Rattle.scope.specs.UsedMatches.{some_match, some_of}
 use Rattle.scope.specs.Lookup.{found_of, qualifier_of, Looked, Sought}
 use Rattle.numbers.specs.Reasons.{reason_of}
 use Rattle.numbers.specs.declared.refusals.Reason.{Reason}
@@ -28,45 +29,34 @@ use Rattle.text.specs.declared.places.Place.{Place}
 pub record Missing (ms : List ℕ) (r : Reason) : Type 0 where
   pub is : (s : rules.Scope) (e : ℕ → Expr) → s.aggregates ≡ matches_of e 0 ms → not_found s ≡ rules.missing (reason_of r)
 
--- the first i are 0
-pub record NoneBefore (ms : List ℕ) (i : ℕ) : Type 0 where
-  pub is : (e : ℕ → Expr) → matches_of e 0 ms ≡ matches_of e i (drop i ms)
+empty-matches : (ms : List ℕ) (e : ℕ → Expr) {b : Bool} → some_match ms ≡ b → is_empty (matches_of e 0 ms) ≡ not b
+empty-matches ms e h = go (is_empty (matches_of e 0 ms)) (sym (some_of e 0 ms) ∙ h)
+  where
+    go : (x : Bool) {b : Bool} → not x ≡ b → x ≡ not b
+    go true g = ap not g
+    go false g = ap not g
 
-pub none_before : (ms : List ℕ) → NoneBefore ms 0
-none_before ms = record { is = λ e. refl }
-
-some-match : (e : ℕ → Expr) (i x : ℕ) (ms : List ℕ) → (x ≡ 0 → ⊥) → is_empty (matches_of e i (x ∷ ms)) ≡ false
-unfolding matches_of is_empty
-some-match e i zero ms h = absurd (h refl)
-some-match e i (suc r) ms h = refl
-
-module _ {ms : List ℕ} {i : ℕ} (k : NoneBefore ms i) where
-  pub none_more : i < length ms → get_or ms i 0 ≡ 0 → NoneBefore ms (i + 1)
-  unfolding matches_of
-  none_more h z = record { is = λ e. k.is e ∙ rw (drop-cons ms i 0 h, z, add-one i) }
-
-  pub missing-column : length ms ≤ i → Missing ms Re.UnknownColumn
-  unfolding matches_of not_found reason_of is_empty
-  missing-column h = record { is = λ s e g. rw (not_found, g, k.is e, drop_of_length-le ms h) }
-
-  pub missing-aggregated : i < length ms → (get_or ms i 0 ≡ 0 → ⊥) → Missing ms Re.NotAggregated
+module _ {ms : List ℕ} where
+  pub missing-column : some_match ms ≡ false → Missing ms Re.UnknownColumn
   unfolding not_found reason_of
-  missing-aggregated h z = record {
-    is = λ s e g. rw (not_found, g, k.is e, drop-cons ms i 0 h, some-match e i (get_or ms i 0) (drop (suc i) ms) z);
-  }
+  missing-column h = record { is = λ s e g. rw (not_found, g, empty-matches ms e h) }
+
+  pub missing-aggregated : some_match ms ≡ true → Missing ms Re.NotAggregated
+  unfolding not_found reason_of
+  missing-aggregated h = record { is = λ s e g. rw (not_found, g, empty-matches ms e h) }
 
 -- THE LABELS
--- a hit is 1 + its position, 0 none
-unfoldable pub hits : ℕ → List ℕ
-hits zero = []
-hits (suc i) = i ∷ []
+-- the position of a hit, if there is one
+unfoldable pub hits : std.Option ℕ → List ℕ
+hits std.None = []
+hits (std.Some i) = i ∷ []
 
 pub record Seeking (F : rules.Scope → List ℕ → rules.Found) (t : Label → Bool) (f : ℕ → Label) (xs : List ℕ)
-    (i h : ℕ) : Type 0 where
+    (i : ℕ) (h : std.Option ℕ) : Type 0 where
   pub rest : (s : rules.Scope) → F s (hits h ++ positions t i (map f (drop i xs))) ≡ F s (positions t 0 (map f xs))
 
 pub seek-begin : (F : rules.Scope → List ℕ → rules.Found) (t : Label → Bool) (f : ℕ → Label) (xs : List ℕ)
-    → Seeking F t f xs 0 0
+    → Seeking F t f xs 0 std.None
 unfolding hits
 seek-begin F t f xs = record { rest = λ s. refl }
 
@@ -85,33 +75,37 @@ module _ (t : Label → Bool) (f : ℕ → Label) (xs : List ℕ) (i : ℕ) wher
   unfolding positions
   positions-end h = rw (drop_of_length-le xs h)
 
-hits-one : (h : ℕ) → 0 < h → hits h ≡ (h - 1) ∷ []
-unfolding hits
-hits-one zero l = absurd (omega arith)
-hits-one (suc h) l = let e : suc h - 1 ≡ h = omega arith in rw e
+no_hit : (h : std.Option ℕ) → is_some h ≡ false → h ≡ std.None
+no_hit std.None e = refl
+no_hit (std.Some i) e = absurd (let z : ◌≡◌ {A = ℕ} 0 1 = cc in omega arith)
 
-module _ {F : rules.Scope → List ℕ → rules.Found} {t : Label → Bool} {f : ℕ → Label} {xs : List ℕ} {i h : ℕ}
-    (k : Seeking F t f xs i h) where
-  pub seek-miss : {b : Bool} {h' : ℕ} → i < length xs → b ≡ t (f (get_or xs i 0)) → b ≡ false → h' ≡ h
+some_hit : (h : std.Option ℕ) → is_some h ≡ true → (i : ℕ) × (h ≡ std.Some i)
+some_hit std.None e = absurd (let z : ◌≡◌ {A = ℕ} 0 1 = cc in omega arith)
+some_hit (std.Some i) e = (i, refl)
+
+module _ {F : rules.Scope → List ℕ → rules.Found} {t : Label → Bool} {f : ℕ → Label} {xs : List ℕ} {i : ℕ}
+    {h : std.Option ℕ} (k : Seeking F t f xs i h) where
+  pub seek-miss : {b : Bool} {h' : std.Option ℕ} → i < length xs → b ≡ t (f (get_or xs i 0)) → b ≡ false → h' ≡ h
       → Seeking F t f xs (i + 1) h'
   seek-miss l e g y = rw y (record { rest = λ s. rw (← positions-miss t f xs i l (sym e ∙ g)) (k.rest s) })
 
-  pub seek-first : {b : Bool} {h' : ℕ} → i < length xs → b ≡ t (f (get_or xs i 0)) → b ≡ true → h ≡ 0 → h' ≡ i + 1
+  pub seek-first : {b : Bool} {h' : std.Option ℕ} → i < length xs → b ≡ t (f (get_or xs i 0)) → b ≡ true
+      → is_some h ≡ false → h' ≡ std.Some i
       → Seeking F t f xs (i + 1) h'
   unfolding hits
   seek-first l e g z y = rw y (record {
-    rest = λ s. rw (add-one i) (rw (z, positions-hit t f xs i l (sym e ∙ g), add-one i) at (k.rest s));
+    rest = λ s. rw (add-one i) (rw (no_hit h z, positions-hit t f xs i l (sym e ∙ g), add-one i) at (k.rest s));
   })
 
-  pub seek-none : {ms : List ℕ} {r : Reason} → length xs ≤ i → h ≡ 0 → ((s : rules.Scope) → F s [] ≡ not_found s)
+  pub seek-none : {ms : List ℕ} {r : Reason} → length xs ≤ i → h ≡ std.None → ((s : rules.Scope) → F s [] ≡ not_found s)
       → Missing ms r → Sought F (positions t 0 (map f xs)) ms (Err r)
   unfolding hits found_of
   seek-none l z e m = record { is = λ s d g. sym (k.rest s) ∙ rw (z, positions-end t f xs i l) (e s ∙ m.is s d g) }
 
-  pub seek-one : {ms : List ℕ} → length xs ≤ i → 0 < h → ((s : rules.Scope) (j : ℕ) → F s (j ∷ []) ≡ rules.at j)
-      → Sought F (positions t 0 (map f xs)) ms (Ok (h - 1))
-  unfolding found_of
-  seek-one l z e = record { is = λ s d g. sym (k.rest s) ∙ rw (hits-one h z, positions-end t f xs i l) (e s (h - 1)) }
+  pub seek-one : {ms : List ℕ} {j : ℕ} → length xs ≤ i → h ≡ std.Some j → ((s : rules.Scope) (j : ℕ) → F s (j ∷ []) ≡ rules.at j)
+      → Sought F (positions t 0 (map f xs)) ms (Ok j)
+  unfolding hits found_of
+  seek-one {j = j} l z e = record { is = λ s d g. sym (k.rest s) ∙ rw (z, positions-end t f xs i l) (e s j) }
 
 -- FROM THE END
 split_step : (b : Bool) (k : ℕ) (ps qs rs : List ℕ) → ps ≡ qs ++ rs
@@ -169,13 +163,13 @@ unfolding the_last found_of
 behind-none k m = record { is = λ s d g. rw k.is (m.is s d g) }
 
 -- a second hit
-module _ {t : Label → Bool} {f : ℕ → Label} {xs : List ℕ} {i h : ℕ} {b : Bool} where
+module _ {t : Label → Bool} {f : ℕ → Label} {xs : List ℕ} {i : ℕ} {h : std.Option ℕ} {b : Bool} where
   pub seek-second : {ms : List ℕ} → Seeking the_only t f xs i h → i < length xs → b ≡ t (f (get_or xs i 0)) → b ≡ true
-      → 0 < h
+      → is_some h ≡ true
       → Sought the_only (positions t 0 (map f xs)) ms (Err Re.AmbiguousColumn)
-  unfolding the_only found_of reason_of
+  unfolding hits the_only found_of reason_of
   seek-second k l e g z =
-      record { is = λ s d y. sym (k.rest s) ∙ rw (hits-one h z, positions-hit t f xs i l (sym e ∙ g)) }
+      record { is = λ s d y. sym (k.rest s) ∙ rw ((some_hit h z).1, positions-hit t f xs i l (sym e ∙ g)) }
 
 pub only_none : (s : rules.Scope) → the_only s [] ≡ not_found s
 unfolding the_only

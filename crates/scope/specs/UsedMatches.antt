@@ -1,8 +1,9 @@
 -- The matches of a scope, none where no column is matched: the rules cannot tell the difference.
-use Prim.Native.Nat.{ℕ, zero, suc, ◌+◌, ◌≤◌, ◌<◌}
-use Rattle.std.proofs.Common.{arith, sym, ◌∙◌, length-take, drop_of_length-le, drop-cons, take_all, lt-ltb}
-use Rattle.std.proofs.Math.Numerals.{add-one}
-use Rattle.std.specs.Prelude.{◌≡◌, Bool, false, not, List, [], ◌∷◌, ltb, length, get_or, take, drop}
+use Prim.Native.Nat.{ℕ, zero, suc}
+use Rattle.std.proofs.Common.{arith, sym, ◌∙◌, length-take, take_all, lt-ltb}
+use Rattle.std.proofs.lemmas.Bool.{ne_eqb}
+use Rattle.std.specs.List.{list_any}
+use Rattle.std.specs.Prelude.{◌≡◌, nat_eq, Bool, false, not, List, [], ◌∷◌, ltb, length, take}
 use Rattle.std.proofs.Math.Path.{refl}
 use Rattle.std.proofs.Math.Bool.{true}
 use Rattle.rules.specs.Lists.{Bytes, any, is_empty}
@@ -35,7 +36,7 @@ same-matches e ms = go (some_match ms) refl
     go false h = sym (none_of e 0 ms h)
 
 -- WHETHER SOMETHING IS MATCHED
-some_of : (e : ℕ → Expr) (i : ℕ) (ms : List ℕ) → some_match ms ≡ not (is_empty (matches_of e i ms))
+pub some_of : (e : ℕ → Expr) (i : ℕ) (ms : List ℕ) → some_match ms ≡ not (is_empty (matches_of e i ms))
 unfolding some_match any is_match matches_of is_empty
 some_of e i [] = refl
 some_of e i (zero ∷ ms) = some_of e (suc i) ms
@@ -67,23 +68,12 @@ used-again n ms = go (some_match (take n ms))
     go true = take_all n (take n ms) (omega (arith, length-take n ms))
     go false = take_all n [] (omega arith)
 
--- IN A LOOP
-module _ (ms : List ℕ) (i : ℕ) where
-  pub some-hit : i < length ms → (get_or ms i 0 ≡ 0 → ⊥) → some_match (drop i ms) ≡ true
-  unfolding some_match any is_match
-  some-hit h z = rw (drop-cons ms i 0 h, any, hit (get_or ms i 0) z)
-    where
-      hit : (m : ℕ) → (m ≡ 0 → ⊥) → is_match m ≡ true
-      hit zero g = absurd (g refl)
-      hit (suc m) g = refl
-
-  pub some-miss : i < length ms → get_or ms i 0 ≡ 0 → some_match (drop i ms) ≡ some_match (drop (i + 1) ms)
-  unfolding some_match any is_match
-  some-miss h z = rw (drop-cons ms i 0 h, any, z, add-one i)
-
-  pub some_end : length ms ≤ i → some_match (drop i ms) ≡ false
-  unfolding some_match any
-  some_end h = rw (drop_of_length-le ms h)
+-- IN THE CODE
+pub some-match : (ms : List ℕ) → list_any (λ m. not (nat_eq m 0)) ms ≡ some_match ms
+unfolding some_match any is_match
+some-match [] = refl
+some-match (zero ∷ ms) = some-match ms
+some-match (suc m ∷ ms) = rw (ne_eqb (suc m) 0 (λ e. omega (arith, e)))
 
 pub used_all : (ms : List ℕ) → some_match ms ≡ true → ms ≡ used_matches ms
 unfolding used_matches

@@ -1,5 +1,5 @@
 // A label as one number (specs/Labels.antt): its table's slot, its name's address and length.
-ghost use Rattle.std.specs.Prelude.{◌≡◌, ◌+◌, ◌≤◌, ◌<◌, min};
+ghost use Rattle.std.specs.Prelude.{◌≡◌, ◌+◌, ◌≤◌, ◌<◌};
 ghost use Rattle.rules.specs.Limits.{most_from_tables};
 ghost use Rattle.rules.specs.Equality.{same_name};
 ghost use Rattle.rules.specs.Lines.{Word};
@@ -15,21 +15,12 @@ const ADDRESS: u32 = 128;
 
 const ADDRESSES: u32 = 131072;
 
-fn at_most(n: u32, most: u32) -> u32
-    ensures { result ≡ min n most }
-{
-    if n < most {
-        return n;
-    }
-    most
-}
-
 // The label of a name in a slot.
 pub fn label(slot: u32, a: u32, n: u32) -> u32
     requires { slot ≤ most_from_tables }
     ensures { result ≡ packed slot a n }
 {
-    slot * SLOT + at_most(a, ADDRESSES - 1) * ADDRESS + at_most(n, ADDRESS - 1)
+    slot * SLOT + a.min(ADDRESSES - 1) * ADDRESS + n.min(ADDRESS - 1)
 }
 
 // The slot of its table, 0 for none.

@@ -10,8 +10,7 @@ pub mod matches;
 pub mod merging;
 pub mod retain;
 
-ghost use Rattle.std.specs.Prelude.{◌≡◌, min};
-ghost use Rattle.rules.specs.Limits.{most_columns};
+ghost use Rattle.std.specs.Prelude.{◌≡◌, ◌+◌, ◌≤◌, ◌++◌, length, take, drop};
 ghost use Rattle.scope.specs.AddAggregates.{Aggregable, AggregatesAdded};
 ghost use Rattle.scope.specs.FromTable.{FromTable};
 ghost use Rattle.scope.specs.Hide.{HiddenFits, HiddenAdded};
@@ -43,14 +42,20 @@ pub struct Scope {
     pub hidden: u32,
 }
 
-// How many columns of n a scope has.
-fn most_columns(n: u32) -> u32
-    ensures { result ≡ min n most_columns }
+// Numbers in the place of those from i on.
+fn overwrite(s: &mut [u32], i: usize, xs: &[u32])
+    requires { i + length xs.now ≤ length s.old }
+    ensures { s.new ≡ take i s.old ++ (xs.now ++ drop (i + length xs.now) s.old) }
 {
-    if n < COLUMNS as u32 {
-        return n;
-    }
-    COLUMNS as u32
+    s[i..i + xs.len()].copy_from_slice(xs);
+}
+
+// The first a numbers behind the b that follow them.
+fn rotate_first(s: &mut [u32], a: usize, b: usize)
+    requires { a + b ≤ length s.old }
+    ensures { s.new ≡ (drop a (take (a + b) s.old) ++ take a (take (a + b) s.old)) ++ drop (a + b) s.old }
+{
+    s[..a + b].rotate_left(a);
 }
 
 impl Scope {
@@ -73,15 +78,13 @@ impl Scope {
         ensures { FromTable catalog.now i a n result }
     {
         let count = column_count(catalog, i);
-        let width = most_columns(count);
+        let width = count.min(COLUMNS as u32);
         let mut labels = [0u32; COLUMNS];
         let mut tables = [0u32; TABLES];
         tables[0] = label(0, a, n);
-        let mut j: u32 = 0;
-        while j < width {
+        for j in 0..width {
             let name = column_name(catalog, i, j);
             labels[j as usize] = label(1, name.address, name.length);
-            j += 1;
         }
         Scope {
             labels: labels,
@@ -108,10 +111,9 @@ impl Scope {
     {
         let mut labels = [0u32; COLUMNS];
         let mut matches = [0u16; COLUMNS];
-        let mut j: usize = 0;
-        while j < rows.len() {
+        for j in 0..rows.len() {
             let r = rows[j];
-            let x = label_of(
+            labels[j] = label_of(
                 catalog,
                 statement,
                 table,
@@ -122,9 +124,7 @@ impl Scope {
                 self.count,
                 r,
             );
-            labels[j] = x;
             matches[j] = match_number(r);
-            j += 1;
         }
         Scope {
             labels: labels,
@@ -143,19 +143,13 @@ impl Scope {
     {
         let w = self.width as usize;
         let t = self.count as usize;
-        let own = self.count;
-        let mut j: usize = 0;
-        while j < other.width as usize {
-            self.labels[w + j] = behind(other.labels[j], own);
-            j += 1;
+        let n = other.count as usize;
+        for j in 0..other.width as usize {
+            self.labels[w + j] = behind(other.labels[j], self.count);
         }
-        let mut i: usize = 0;
-        while i < other.count as usize {
-            self.tables[t + i] = other.tables[i];
-            i += 1;
-        }
-        self.width = self.width + other.width;
-        self.count = own + other.count;
+        overwrite(&mut self.tables, t, &other.tables[..n]);
+        self.width += other.width;
+        self.count += other.count;
         self
     }
 
@@ -164,19 +158,7 @@ impl Scope {
         requires { Swappable self a b }
         ensures { Swapped self a b result }
     {
-        let from = self.labels;
-        let first = a as usize;
-        let second = b as usize;
-        let mut j: usize = 0;
-        while j < second {
-            self.labels[j] = from[first + j];
-            j += 1;
-        }
-        let mut i: usize = 0;
-        while i < first {
-            self.labels[second + i] = from[i];
-            i += 1;
-        }
+        rotate_first(&mut self.labels, a as usize, b as usize);
         self
     }
 
@@ -185,11 +167,7 @@ impl Scope {
         requires { Projectable self labels.now }
         ensures { Projected self labels.now result }
     {
-        let mut j: usize = 0;
-        while j < labels.len() {
-            self.labels[j] = labels[j];
-            j += 1;
-        }
+        overwrite(&mut self.labels, 0, labels);
         self.width = labels.len() as u32;
         self.hidden = 0;
         self
@@ -208,12 +186,16 @@ impl Scope {
         ensures { ItemsProjected catalog.now statement.now table.now self
             labels.now rows.now result }
     {
-        let mut j: usize = 0;
-        while j < rows.len() {
-            let m = new_match(catalog, statement, table, &self.matches, j as u32, rows[j]);
-            self.labels[j] = labels[j];
-            self.matches[j] = m;
-            j += 1;
+        overwrite(&mut self.labels, 0, labels);
+        for j in 0..rows.len() {
+            self.matches[j] = new_match(
+                catalog,
+                statement,
+                table,
+                &self.matches,
+                j as u32,
+                rows[j],
+            );
         }
         self.width = rows.len() as u32;
         self.hidden = 0;
@@ -236,8 +218,8 @@ impl Scope {
         let passed = pass_match(catalog, statement, table, &self.matches, self.width, m);
         self.labels[w] = x;
         self.matches[w] = passed;
-        self.width = self.width + 1;
-        self.hidden = self.hidden + 1;
+        self.width += 1;
+        self.hidden += 1;
         self
     }
 }

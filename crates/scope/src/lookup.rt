@@ -1,5 +1,5 @@
 // A column by its name.
-ghost use Rattle.std.specs.Prelude.{◌≡◌, not, List, ℕ, ◌<◌, length, take};
+ghost use Rattle.std.specs.Prelude.{◌≡◌, not, List, ℕ, ◌<◌, ◌≤◌, length, take};
 ghost use Rattle.std.proofs.Math.Option.{some};
 ghost use Rattle.rules.specs.Lists.{any, positions, is_empty};
 ghost use Rattle.rules.specs.Lines.{Word};
@@ -7,24 +7,26 @@ ghost use Rattle.rules.specs.Ast.{Expr};
 ghost use Rattle.rules.specs.Equality.{same_name};
 ghost use Rattle.rules.specs.Places.{word_at};
 ghost use Rattle.rules.specs.Scope.{is_named, is_qualified, the_only, the_last};
+ghost use Rattle.scope.specs.Endings.{ending_of};
 ghost use Rattle.scope.specs.Labels.{position_count, label_at, tables_of, columns_of};
 ghost use Rattle.scope.specs.Lookup.{qualifier_of, Sought, Looked};
 ghost use Rattle.scope.specs.Scopes.{matches_of};
 ghost use Rattle.scope.specs.Search.{Missing};
-ghost use Rattle.scope.specs.UsedMatches.{used_matches};
+ghost use Rattle.scope.specs.UsedMatches.{some_match, used_matches};
 
-use super::endings::{ending_of, last_ending, next_ending};
+use super::endings::{Ending, ending_of, may_end};
 use super::labels::{has_name, slot};
 use numbers::number;
 use numbers::refusals::Reason;
 use text::places::{Place, bytes_at};
 
-// Whether a label has a name of these bytes.
-fn is_named(catalog: &[u8], statement: &[u8], x: u32, name: &[u8]) -> bool
-    ensures { (ts : List ℕ) (w : Word) → w.bytes ≡ name.now
+// Whether a label has a name of these bytes, which is of that ending.
+fn is_named(catalog: &[u8], statement: &[u8], x: u32, name: &[u8], ending: Ending) -> bool
+    requires { ending.limit ≤ length catalog.now }
+    ensures { (ts : List ℕ) (w : Word) → w.bytes ≡ name.now → ending ≡ ending_of catalog.now name.now
         → result ≡ is_named w (label_at catalog.now statement.now ts x) }
 {
-    if x == 0 {
+    if !may_end(catalog, ending, x) || x == 0 {
         return false;
     }
     has_name(catalog, statement, x, name)
@@ -38,18 +40,18 @@ fn is_qualified(
     x: u32,
     table: &[u8],
     name: &[u8],
+    ending: Ending,
 ) -> bool
-    ensures { (v w : Word) → v.bytes ≡ table.now → w.bytes ≡ name.now
+    requires { ending.limit ≤ length catalog.now }
+    ensures { (v w : Word) → v.bytes ≡ table.now → w.bytes ≡ name.now → ending ≡ ending_of catalog.now name.now
         → result ≡ is_qualified v w (label_at catalog.now statement.now tables.now x) }
 {
     let k = slot(x);
-    if k == 0 {
+    if !may_end(catalog, ending, x) || k == 0 {
         return false;
     }
-    if !has_name(catalog, statement, x, name) {
-        return false;
-    }
-    has_name(catalog, statement, number(tables, k as usize - 1), table)
+    has_name(catalog, statement, x, name)
+        && has_name(catalog, statement, number(tables, k as usize - 1), table)
 }
 
 // Whether one of the tables has a name.
@@ -57,26 +59,24 @@ pub fn has_table(catalog: &[u8], statement: &[u8], tables: &[u32], name: &[u8]) 
     ensures { (w : Word) → w.bytes ≡ name.now
         → result ≡ any (same_name w) (tables_of catalog.now statement.now tables.now) }
 {
-    let mut i: usize = 0;
-    while i < tables.len() {
-        if has_name(catalog, statement, tables[i], name) {
-            return true;
-        }
-        i += 1;
-    }
-    false
+    tables
+        .iter()
+        .any(|x| has_name(catalog, statement, *x, name))
+}
+
+// Whether something is matched to one of the columns.
+fn has_match(matches: &[u16]) -> bool
+    ensures { result ≡ some_match matches.now }
+{
+    matches.iter().any(|m| *m != 0)
 }
 
 // Why a name stands nowhere: 11 where something is matched, else 8.
 fn not_found(matches: &[u16]) -> Reason
     ensures { Missing matches.now result }
 {
-    let mut i: usize = 0;
-    while i < matches.len() {
-        if matches[i] != 0 {
-            return Reason::NotAggregated;
-        }
-        i += 1;
+    if has_match(matches) {
+        return Reason::NotAggregated;
     }
     Reason::UnknownColumn
 }
@@ -96,21 +96,19 @@ fn only_named<'a>(
         matches.now result }
 {
     let ending = ending_of(catalog, name);
-    let mut hit: u32 = 0;
-    let mut i = next_ending(catalog, labels, 0, ending);
-    while i < labels.len() {
-        if is_named(catalog, statement, labels[i], name) {
-            if 0 < hit {
+    let mut hit = None;
+    for i in 0..labels.len() {
+        if is_named(catalog, statement, labels[i], name, ending) {
+            if hit.is_some() {
                 return Err(Reason::AmbiguousColumn);
             }
-            hit = i as u32 + 1;
+            hit = Some(i as u32);
         }
-        i = next_ending(catalog, labels, i + 1, ending);
     }
-    if hit == 0 {
-        return Err(not_found(matches));
+    match hit {
+        Some(i) => Ok(i),
+        None => Err(not_found(matches)),
     }
-    Ok(hit - 1)
 }
 
 // The last column of a name whose table has a name.
@@ -130,13 +128,10 @@ fn last_qualified<'a>(
         matches.now result }
 {
     let ending = ending_of(catalog, name);
-    let mut i = last_ending(catalog, labels, labels.len(), ending);
-    while 0 < i {
-        i -= 1;
-        if is_qualified(catalog, statement, tables, labels[i], table, name) {
+    for i in (0..labels.len()).rev() {
+        if is_qualified(catalog, statement, tables, labels[i], table, name, ending) {
             return Ok(i as u32);
         }
-        i = last_ending(catalog, labels, i, ending);
     }
     Err(not_found(matches))
 }
@@ -186,18 +181,8 @@ fn lookup_named<'t, 'a>(
     }
 }
 
-// The first n numbers, or as many of them as there are.
-pub fn first(s: &[u32], n: usize) -> &[u32]
-    ensures { result.now ≡ take n s.now }
-{
-    if n <= s.len() {
-        return &s[..n];
-    }
-    s
-}
-
-// The first n matches, or as many of them as there are.
-pub fn first_matches(s: &[u16], n: usize) -> &[u16]
+// The first n, or as many of them as there are.
+pub fn first<T>(s: &[T], n: usize) -> &[T]
     ensures { result.now ≡ take n s.now }
 {
     if n <= s.len() {
@@ -210,13 +195,9 @@ pub fn first_matches(s: &[u16], n: usize) -> &[u16]
 pub fn used_matches(matches: &[u16], width: u32) -> &[u16]
     ensures { result.now ≡ used_matches (take width matches.now) }
 {
-    let ms = first_matches(matches, width as usize);
-    let mut i: usize = 0;
-    while i < ms.len() {
-        if ms[i] != 0 {
-            return ms;
-        }
-        i += 1;
+    let ms = first(matches, width as usize);
+    if has_match(ms) {
+        return ms;
     }
     &ms[..0]
 }
@@ -225,8 +206,7 @@ pub fn used_matches(matches: &[u16], width: u32) -> &[u16]
 pub fn is_matched(matches: &[u16], width: u32) -> bool
     ensures { (e : ℕ → Expr) → result ≡ not (is_empty (matches_of e 0 (take width matches.now))) }
 {
-    let ms = used_matches(matches, width);
-    0 < ms.len()
+    has_match(first(matches, width as usize))
 }
 
 // The column that a name means, in a scope whose arrays are lent.
@@ -251,7 +231,7 @@ pub fn lookup<'t, 'a>(
     if xs.len() == 0 {
         return Err(Reason::ConstantOnly);
     }
-    let ms = first_matches(matches, width as usize);
+    let ms = first(matches, width as usize);
     let ts = first(tables, count as usize);
     let name = bytes_at(catalog, statement, a, n);
     lookup_named(catalog, statement, xs, ms, ts, qualifier, name)

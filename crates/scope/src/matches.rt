@@ -6,7 +6,7 @@ ghost use Rattle.scope.specs.Scopes.{matches_of};
 ghost use Rattle.numbers.specs.Options.{option_of};
 ghost use Rattle.scope.specs.NewMatch.{match_number, new_match, pass_match};
 
-use super::lookup::first_matches;
+use super::lookup::first;
 use ast::equality::equal;
 
 // The first column whose match is equal to the expression at row r, in a scope whose matches are lent. Where the rows
@@ -24,18 +24,10 @@ pub fn lookup_aggregate(
         (take width matches.now))
         (tree_at catalog.now statement.now table.now r) }
 {
-    let ms = first_matches(matches, width as usize);
-    let mut i: usize = 0;
-    while i < ms.len() {
-        let m = ms[i] as usize;
-        if 0 < m {
-            if equal(catalog, statement, table, m - 1, r) {
-                return Some(i as u32);
-            }
-        }
-        i += 1;
-    }
-    None
+    let ms = first(matches, width as usize);
+    let i = ms.iter().position(|m| *m != 0
+        && equal(catalog, statement, table, *m as usize - 1, r))?;
+    Some(i as u32)
 }
 
 // The last row that a match has room for.
@@ -45,10 +37,7 @@ const MOST_ROW: usize = 65534;
 pub fn match_number(r: usize) -> u16
     ensures { result ≡ match_number r }
 {
-    if r < MOST_ROW {
-        return r as u16 + 1;
-    }
-    MOST_ROW as u16 + 1
+    r.min(MOST_ROW) as u16 + 1
 }
 
 // What is matched to a column behind the first n: row r, or nothing where an equal expression is matched before.

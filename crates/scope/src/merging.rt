@@ -34,15 +34,7 @@ fn shares_name(catalog: &[u8], statement: &[u8], tables: &[u32], others: &[u32])
         (tables_of catalog.now statement.now tables.now)
         (tables_of catalog.now statement.now others.now) }
 {
-    let mut i: usize = 0;
-    while i < others.len() {
-        let y = others[i];
-        if has_table_at(catalog, statement, tables, address(y), size(y)) {
-            return true;
-        }
-        i += 1;
-    }
-    false
+    others.iter().any(|y| has_table_at(catalog, statement, tables, address(*y), size(*y)))
 }
 
 // Of a scope with these tables and this width, and another whose columns would come behind its own.

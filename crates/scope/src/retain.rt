@@ -6,28 +6,13 @@ ghost use Rattle.scope.specs.Retain.{has_equal, retained};
 
 use ast::equality::equal;
 
-// Whether one of the first n rows has an expression equal to that at row r.
-fn has_equal(
-    catalog: &[u8],
-    statement: &[u8],
-    table: &[u32],
-    rows: &[usize],
-    n: usize,
-    r: usize,
-) -> bool
-    requires { n ≤ length rows.now }
+// Whether one of the rows has an expression equal to that at row r.
+fn has_equal(catalog: &[u8], statement: &[u8], table: &[u32], rows: &[usize], r: usize) -> bool
     ensures { result ≡ has_equal (tree_at catalog.now statement.now table.now)
-        (take n rows.now)
+        rows.now
         (tree_at catalog.now statement.now table.now r) }
 {
-    let mut i: usize = 0;
-    while i < n {
-        if equal(catalog, statement, table, rows[i], r) {
-            return true;
-        }
-        i += 1;
-    }
-    false
+    rows.iter().any(|k| equal(catalog, statement, table, *k, r))
 }
 
 // The rows whose expressions are not among the n kept ones, each once, kept behind them; how many are kept then.
@@ -48,14 +33,11 @@ pub fn retain(
         (take n kept.old) rows.now) }
 {
     let mut k = n;
-    let mut i: usize = 0;
-    while i < rows.len() {
-        let r = rows[i];
-        if !has_equal(catalog, statement, table, kept, k, r) {
-            kept[k] = r;
+    for r in rows {
+        if !has_equal(catalog, statement, table, &kept[..k], *r) {
+            kept[k] = *r;
             k += 1;
         }
-        i += 1;
     }
     k
 }

@@ -1,16 +1,10 @@
 -- `Scope::add_aggregates`: each row so far has its label and its match; those are the child scope.
-use Prim.Native.Nat.{◌-◌, ◌≤◌}
 use mathlib.Core.List.{[], map}
-use lib.ListN.{length}
 use Rattle.scope.specs.Copies.{Copying}
 use Rattle.scope.specs.NewMatch.{match_number}
 use Rattle.scope.specs.AddAggregates.{passed_label}
 use Rattle.scope.proofs.Scope.add_aggregates.Given as goal
 
 abbrev pub invariant-loop-j : goal.invariant-loop-j
-invariant-loop-j l = (l.j ≤ length l.rows)
-    × Copying [] 0 (map (passed_label l.catalog l.statement l.table l.self) l.rows) l.j l.labels
+invariant-loop-j l = Copying [] 0 (map (passed_label l.catalog l.statement l.table l.self) l.rows) l.j l.labels
     × Copying [] 0 (map match_number l.rows) l.j l.matches
-
-abbrev pub decreases-loop-j : goal.decreases-loop-j
-decreases-loop-j l = length l.rows - l.j

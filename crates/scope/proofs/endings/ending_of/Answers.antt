@@ -1,10 +1,12 @@
 -- `endings::ending_of`: the last byte of a name that is not empty.
+use native.Mathlib.Omega.{arith}
 use mathlib.Core.Path.{sym}
 use Rattle.scope.specs.Endings.{ending-none, ending-some}
 use Rattle.scope.proofs.endings.ending_of.Goals as goal
 
-pub returns-then-name-eq0 : goal.returns-then-name-eq0
-returns-then-name-eq0 c = sym (ending-none _ _ c.if-name-eq0.true)
+pub returns-in-None : goal.returns-in-None
+returns-in-None c = let h = c.in-None.ensures.item in sym (ending-none _ _ (omega (arith, h.3)))
 
-pub returns : goal.returns
-returns c = rw c.catalog_end-limit.ensures (sym (ending-some _ _ c.if-name-eq0.false))
+pub returns-in-Some : goal.returns-in-Some
+returns-in-Some c = let h = c.in-Some.ensures.item in
+    rw (c.catalog_end.ensures, h.3.1 0) (sym (ending-some _ _ (λ z. omega (arith, z, h.3.0))))

@@ -1,18 +1,9 @@
 -- `endings::may_end`: a label that ends in the catalog is held to its last byte.
-use Rattle.scope.specs.Endings.{may-behind, may-nowhere, may_here}
+use Rattle.scope.specs.Endings.{may-elsewhere, may_here}
 use Rattle.scope.proofs.endings.may_end.Goals as goal
 
 pub returns-then-ending-end : goal.returns-then-ending-end
-returns-then-ending-end c = may-behind _ _ c.args.x
-    c.address.ensures c.size.ensures c.if-ending-end.true
-
-pub returns-then-end-eq0 : goal.returns-then-end-eq0
-returns-then-end-eq0 c = may-nowhere _ _ c.args.x
-    c.address.ensures c.size.ensures
-    c.if-ending-end.false c.if-end-eq0.true
+returns-then-ending-end c = may-elsewhere _ _ c.args.x c.address.ensures c.size.ensures c.then-ending-end.either
 
 pub returns : goal.returns
-returns c = may_here _ _ c.args.x
-    c.address.ensures
-    c.size.ensures c.if-ending-end.false
-    c.if-end-eq0.false
+returns c = may_here _ _ c.args.x c.address.ensures c.size.ensures c.if-ending-end.false c.if-end-eq0.false

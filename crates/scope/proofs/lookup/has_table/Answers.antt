@@ -1,24 +1,15 @@
--- `lookup::has_table`: no table so far has the name.
-use mathlib.Core.Bool.{true}
-use mathlib.Core.Path.{refl, sym, ◌∙◌}
-use Rattle.scope.specs.Names.{holds, holds-hit, holds-miss, holds-end}
+-- `lookup::has_table`: a table of that name.
+use Rattle.std.proofs.Common.{rules, tests, ◌∙◌}
+use Rattle.std.proofs.lemmas.Iterator.{YieldsList-from_slice}
+use Rattle.std.proofs.lemmas.Iterator.Search.{any_from_yields_List}
+use Rattle.rules.specs.Equality.{same_name}
+use Rattle.scope.specs.Labels.{name_at}
+use Rattle.scope.specs.Names.{holds, holds-any}
 use Rattle.scope.proofs.lookup.has_table.Goals as goal
-
-pub loop-i-init : goal.loop-i-init
-loop-i-init c = λ w e. refl
-
-pub returns-then-has_name : goal.returns-then-has_name
-unfolding holds
-returns-then-has_name c = λ w e. sym (holds-hit _ _ c.args.tables.now w _ _
-    c.loop-i-test.true (c.has_name.ensures w e) c.if-has_name.true)
-    ∙ c.loop-i.invariant w e
-
-pub loop-i-preserved : goal.loop-i-preserved
-loop-i-preserved c = λ w e. sym (holds-miss _ _ c.args.tables.now w _ _
-    c.loop-i-test.true (c.has_name.ensures w e) c.if-has_name.false)
-    ∙ c.loop-i.invariant w e
 
 pub returns : goal.returns
 unfolding holds
-returns c = λ w e. sym (holds-end _ _ c.args.tables.now w _ true
-    c.loop-i-test.false) ∙ c.loop-i.invariant w e
+returns c = λ w e.
+    any_from_yields_List (λ x. same_name (name_at c.args.catalog.now c.args.statement.now x) w) _ _ _ c.any.ensures.ran
+    (YieldsList-from_slice _ c.iter.ensures.rest) (λ x b q k. search (rules, tests, e))
+    ∙ holds-any c.args.catalog.now c.args.statement.now c.args.tables.now w

@@ -1,18 +1,11 @@
 -- `last_qualified`: from the end, the first that has both names.
-use Prim.Native.Nat.{◌≤◌, ◌<◌}
 use mathlib.Core.Path.{◌≡◌}
-use lib.ListN.{length}
 use Rattle.rules.specs.Lines.{Word}
 use Rattle.rules.specs.Scope.{is_qualified}
-use Rattle.scope.specs.Labels.{position_count, label_at}
+use Rattle.scope.specs.Labels.{label_at}
 use Rattle.scope.specs.Search.{NoneBehind}
 use Rattle.scope.proofs.lookup.last_qualified.Given as goal
 
 abbrev pub invariant-loop-i : goal.invariant-loop-i
-invariant-loop-i l =
-    (l.i ≤ length l.labels) × (length l.labels < position_count)
-    × ((v w : Word) → v.bytes ≡ l.table → w.bytes ≡ l.name
-    → NoneBehind (is_qualified v w) (label_at l.catalog l.statement l.tables) l.labels l.i)
-
-abbrev pub decreases-loop-i : goal.decreases-loop-i
-decreases-loop-i l = l.i
+invariant-loop-i l = (v w : Word) → v.bytes ≡ l.table → w.bytes ≡ l.name
+    → NoneBehind (is_qualified v w) (label_at l.catalog l.statement l.tables) l.labels l.i

@@ -17,5 +17,5 @@ lookup_named-requires c = (
 
 pub returns : goal.returns
 unfolding word_at
-returns c = look-as _ _ _ _ _ _ c.first-xs.ensures c.first_matches-ms.ensures c.first-ts.ensures
+returns c = look-as _ _ _ _ _ _ c.first-xs.ensures c.first-ms.ensures c.first-ts.ensures
     (c.lookup_named.ensures _ (sym c.bytes_at-name.ensures))

@@ -1,27 +1,14 @@
--- `merging::shares_name`: no name so far is held by both.
-use mathlib.Core.Path.{sym, ◌∙◌}
-use Rattle.scope.specs.Names.{sharing, sharing-hit, sharing-miss, sharing-end}
+-- `merging::shares_name`: a name of the others that is held.
+use Rattle.std.proofs.Common.{rules, tests, ◌∙◌}
+use Rattle.std.proofs.lemmas.Iterator.{YieldsList-from_slice}
+use Rattle.std.proofs.lemmas.Iterator.Search.{any_from_yields_List}
+use Rattle.scope.specs.Labels.{name_at}
+use Rattle.scope.specs.Names.{holds, sharing, sharing-any}
 use Rattle.scope.proofs.merging.shares_name.Goals as goal
 
-pub returns-then-has_table_at : goal.returns-then-has_table_at
-unfolding sharing
-returns-then-has_table_at c = sym (sharing-hit _ _
-    c.args.tables.now
-    c.args.others.now _ _
-    c.loop-i-test.true c.address.ensures
-    c.size.ensures c.has_table_at.ensures c.if-has_table_at.true)
-    ∙ c.loop-i.invariant
-
-pub loop-i-preserved : goal.loop-i-preserved
-loop-i-preserved c = sym (sharing-miss _ _
-    c.args.tables.now
-    c.args.others.now _ _
-    c.loop-i-test.true c.address.ensures
-    c.size.ensures c.has_table_at.ensures c.if-has_table_at.false)
-    ∙ c.loop-i.invariant
-
 pub returns : goal.returns
-unfolding sharing
-returns c = sym (sharing-end _ _ c.args.tables.now
-    c.args.others.now _ c.loop-i-test.false)
-    ∙ c.loop-i.invariant
+unfolding holds sharing name_at
+returns c =
+    any_from_yields_List (λ y. holds c.args.catalog.now c.args.statement.now c.args.tables.now (name_at c.args.catalog.now c.args.statement.now y)) _ _ _
+    c.any.ensures.ran (YieldsList-from_slice _ c.iter.ensures.rest) (λ x b q k. search (rules, tests))
+    ∙ sharing-any _ _ _ _

@@ -1,22 +1,17 @@
--- `retain::has_equal`: no row so far has an equal expression.
-use Rattle.scope.specs.Retain.{seek-begin, seek_hit, seek-miss, seek-end}
+-- `retain::has_equal`: a row whose expression is equal.
+use Rattle.std.proofs.Common.{rules, tests, ◌∙◌}
+use Rattle.std.proofs.lemmas.Iterator.{YieldsList-from_slice}
+use Rattle.std.proofs.lemmas.Iterator.Search.{any_from_yields_List}
+use Rattle.rules.specs.Equality.{equal}
+use Rattle.ast.specs.Table.{tree_at}
+use Rattle.scope.specs.Tests.{any-is}
+use Rattle.scope.specs.Retain.{has_equal}
 use Rattle.scope.proofs.retain.has_equal.Goals as goal
 
-pub loop-i-init : goal.loop-i-init
-loop-i-init c = seek-begin _ _ _
-
-pub returns-then-equal : goal.returns-then-equal
-returns-then-equal c = let b = c in
-    let s = b in
-    seek_hit s.args.n s.args.rows.now b.loop-i.invariant s.requires b.loop-i-test.true
-    c.equal.ensures c.if-equal.true
-
-pub loop-i-preserved : goal.loop-i-preserved
-loop-i-preserved c = let b = c in
-    let s = b in
-    seek-miss s.args.n s.args.rows.now b.loop-i.invariant s.requires b.loop-i-test.true
-    c.equal.ensures c.if-equal.false
-
 pub returns : goal.returns
-returns c = let s = c in
-    seek-end s.args.n s.args.rows.now c.loop-i.invariant s.requires c.loop-i-test.false
+unfolding has_equal
+returns c =
+    let e = tree_at c.args.catalog.now c.args.statement.now c.args.table.now in
+    any_from_yields_List (λ k. equal (e k) (e c.args.r)) _ _ _ c.any.ensures.ran (YieldsList-from_slice _ c.iter.ensures.rest)
+    (λ x b q k. search (rules, tests))
+    ∙ any-is _ _
