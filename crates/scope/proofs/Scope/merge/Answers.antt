@@ -9,7 +9,7 @@ pub loop-j-init : goal.loop-j-init
 loop-j-init c = (refl, refl, refl, refl, refl, appending-begin _ _ _ _ _ c.requires.valid.labels-room)
 
 pub behind-requires : goal.behind-requires
-behind-requires c = rw c.loop-j.invariant.3 (slot_at c.requires _ c.loop-j-test.true)
+behind-requires c = omega (arith, slot_at c.requires _ c.loop-j-test.true, c.loop-j.invariant.3)
 
 pub loop-j-preserved : goal.loop-j-preserved
 loop-j-preserved c = let i = c.loop-j.invariant in (
