@@ -2,18 +2,19 @@
 -- the text that is printed of them.
 use Prim.Native.Nat.{ℕ, zero, suc, ◌+◌, ◌-◌, ◌≤◌, ◌<◌, min}
 use Rattle.std.proofs.Common.{arith, sym, ◌∙◌, le-leb, leb-true}
-use Rattle.std.specs.Prelude.{◌≡◌, Bool, List, [], ◌∷◌, leb, length, take, drop, get_or}
+use Rattle.std.specs.Prelude.{◌≡◌, Bool, List, [], ◌∷◌, leb, length, take, drop, get_or, Some, None}
+use Rattle.std.specs.declared.option.Option as Rust
 use Rattle.std.proofs.Math.Path.{refl, ap}
 use Rattle.std.proofs.Math.Bool.{true, false}
 use Rattle.std.proofs.Math.Option.{Option, none, some}
 use Rattle.std.proofs.lemmas.Bool.{lt-leb}
+use Rattle.std.proofs.lemmas.Option.{none-some}
 use Rattle.rules.specs.Lists.{Bytes, same, map_option}
 use Rattle.rules.specs.Lines.{Word, bytes, decimal}
 use Rattle.rules.specs.Lines as rules
 use Rattle.text.specs.Lines.{line_end, field, fields_from, line_of, kept_fields, Fields}
 use Rattle.text.specs.declared.Line.{Line}
-use Rattle.answer_list.specs.declared.Record as Rc
-use Rattle.answer_list.specs.declared.Record.TheVariants as R
+use Rattle.answer_list.specs.declared.Record.{Record}
 
 -- a count: the largest number of 64 bits stands for all above it
 unfoldable pub count : Bytes → Option ℕ
@@ -36,22 +37,23 @@ counts (k ∷ (x ∷ (y ∷ (z ∷ [])))) = three (same k.bytes (bytes "case")) 
 counts (k ∷ (x ∷ (y ∷ (z ∷ (u ∷ us))))) = none
 
 -- a record with these counts, its texts from e on, if the list t has as many bytes
-unfoldable pub sized : Bytes → ℕ → Option (ℕ × ℕ × ℕ) → Rc.Record
-sized t e none = R.Damaged
+unfoldable pub sized : Bytes → ℕ → Option (ℕ × ℕ × ℕ) → Rust.Option Record
+sized t e none = None
 sized t e (some n) = elim (leb (n.0 + n.1 + n.2) (length t - e)) [
-  | true ↦ R.Whole e n.0 n.1 n.2
-  | false ↦ R.Damaged
+  | true ↦ Some (record { start = e; catalog = n.0; statement = n.1; answer = n.2 })
+  | false ↦ None
 ]
 
 -- THE RECORD at p
-unfoldable pub record_at : Bytes → ℕ → Rc.Record
+unfoldable pub record_at : Bytes → ℕ → Rust.Option Record
 record_at t p = sized t (line_end t p) (counts (take kept_fields (rules.fields (0 + p) (drop p t))))
 
-pub fits : (t : Bytes) (e a b d : ℕ) → a + b + d ≤ length t - e → R.Whole e a b d ≡ sized t e (some (a, b, d))
+pub fits : (t : Bytes) (e a b d : ℕ) → a + b + d ≤ length t - e
+    → Some (record { start = e; catalog = a; statement = b; answer = d }) ≡ sized t e (some (a, b, d))
 unfolding sized
 fits t e a b d h = sym (rw (sized, le-leb (a + b + d) (length t - e) h))
 
-pub too_long : (t : Bytes) (e a b d : ℕ) → length t - e < a + b + d → R.Damaged ≡ sized t e (some (a, b, d))
+pub too_long : (t : Bytes) (e a b d : ℕ) → length t - e < a + b + d → None ≡ sized t e (some (a, b, d))
 unfolding sized
 too_long t e a b d h = sym (rw (sized, lt-leb (a + b + d) (length t - e) h))
 
@@ -79,7 +81,7 @@ module _ (t : Bytes) (p : ℕ) (r : Line) (f : Fields t p r) where
   unfolding record_at line_of
   record-line = rw f.next (ap (λ l. sized t (line_end t p) (counts l)) (f.fields 0))
 
-  pub other-line : (r.count ≡ 4 → ⊥) → R.Damaged ≡ record_at t p
+  pub other-line : (r.count ≡ 4 → ⊥) → None ≡ record_at t p
   unfolding sized
   other-line h = ap (sized t r.next) (sym (not-four t r.starts r.lens r.count h)) ∙ record-line
 
@@ -91,22 +93,22 @@ module _ (t : Bytes) (p : ℕ) (r : Line) (f : Fields t p r) where
         ap (sized t r.next) (rw (e, g, h, i) (sym (four t r.starts r.lens r.count n))) ∙ record-line
 
     module _ (k : Bool) (e : k ≡ same (word t r.starts r.lens 0) (bytes "case")) where
-      pub other_word : k ≡ false → R.Damaged ≡ record_at t p
+      pub other_word : k ≡ false → None ≡ record_at t p
       unfolding sized three
       other_word o = record-four false _ _ _ (sym o ∙ e) refl refl refl
 
       module _ (o : k ≡ true) where
-        pub no-first : none ≡ count (word t r.starts r.lens 1) → R.Damaged ≡ record_at t p
+        pub no-first : none ≡ count (word t r.starts r.lens 1) → None ≡ record_at t p
         unfolding sized three
         no-first g = record-four true none _ _ (sym o ∙ e) g refl refl
 
         module _ (a : ℕ) (g : some a ≡ count (word t r.starts r.lens 1)) where
-          pub no_second : none ≡ count (word t r.starts r.lens 2) → R.Damaged ≡ record_at t p
+          pub no_second : none ≡ count (word t r.starts r.lens 2) → None ≡ record_at t p
           unfolding sized three
           no_second h = record-four true (some a) none _ (sym o ∙ e) g h refl
 
           module _ (b : ℕ) (h : some b ≡ count (word t r.starts r.lens 2)) where
-            pub no_third : none ≡ count (word t r.starts r.lens 3) → R.Damaged ≡ record_at t p
+            pub no_third : none ≡ count (word t r.starts r.lens 3) → None ≡ record_at t p
             unfolding sized three
             no_third i = record-four true (some a) (some b) none (sym o ∙ e) g h i
 
@@ -116,24 +118,23 @@ module _ (t : Bytes) (p : ℕ) (r : Line) (f : Fields t p r) where
 
 -- WHERE IT LIES
 -- its texts start behind its line, and the list has them whole
-pub record-inside : (t : Bytes) (p e a b d : ℕ) → record_at t p ≡ R.Whole e a b d → (e ≡ line_end t p) × (a + b + d ≤ length t - e)
+pub record-inside : (t : Bytes) (p : ℕ) (r : Record) → record_at t p ≡ Some r
+    → (r.start ≡ line_end t p) × (r.catalog + r.statement + r.answer ≤ length t - r.start)
 unfolding record_at sized
-record-inside t p e a b d h = sizes (counts (take kept_fields (rules.fields (0 + p) (drop p t)))) h
+record-inside t p r h = sizes (counts (take kept_fields (rules.fields (0 + p) (drop p t)))) h
   where
-    never : R.Damaged ≡ R.Whole e a b d → ⊥
-    never h = let z : ◌≡◌ {A = ℕ} 0 1 = cc in omega arith
-
-    sizes : (o : Option (ℕ × ℕ × ℕ)) → sized t (line_end t p) o ≡ R.Whole e a b d → (e ≡ line_end t p) × (a + b + d ≤ length t - e)
-    sizes none h = absurd (never h)
+    sizes : (o : Option (ℕ × ℕ × ℕ)) → sized t (line_end t p) o ≡ Some r
+        → (r.start ≡ line_end t p) × (r.catalog + r.statement + r.answer ≤ length t - r.start)
+    sizes none h = absurd (none-some r h)
     sizes (some n) h = go (leb (n.0 + n.1 + n.2) (length t - line_end t p)) refl h
       where
+        made : Record
+        made = record { start = line_end t p; catalog = n.0; statement = n.1; answer = n.2 }
+
         go : (k : Bool) → leb (n.0 + n.1 + n.2) (length t - line_end t p) ≡ k
-            → elim k [ true ↦ R.Whole (line_end t p) n.0 n.1 n.2 | false ↦ R.Damaged ] ≡ R.Whole e a b d
-            → (e ≡ line_end t p) × (a + b + d ≤ length t - e)
+            → elim k [ true ↦ Some made | false ↦ None ] ≡ Some r
+            → (r.start ≡ line_end t p) × (r.catalog + r.statement + r.answer ≤ length t - r.start)
         go true l h =
-            let x : line_end t p ≡ e = cc in
-            let y : n.0 ≡ a = cc in
-            let z : n.1 ≡ b = cc in
-            let w : n.2 ≡ d = cc in
-            (sym x, omega (arith, leb-true (n.0 + n.1 + n.2) (length t - line_end t p) l))
-        go false l h = absurd (never h)
+            let e : made ≡ r = cc in
+            rw (← e) (refl, leb-true (n.0 + n.1 + n.2) (length t - line_end t p) l)
+        go false l h = absurd (none-some r h)

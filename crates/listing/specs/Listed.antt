@@ -1,5 +1,5 @@
 -- What the listing's answer says of a window: it has the rest of the bytes, or is full of them.
-use Rattle.std.specs.Prelude.{ℕ, zero, suc, ◌+◌, ◌-◌, ◌≤◌, ◌<◌, ◌≡◌, refl, List, [], ◌∷◌, take}
+use Rattle.std.specs.Prelude.{ℕ, zero, suc, ◌+◌, ◌-◌, ◌≤◌, ◌<◌, ◌≡◌, refl, List, [], ◌∷◌, take, Option, None, Some}
 use native.Mathlib.Omega.{arith}
 use Rattle.std.proofs.Common.{zero-add, suc-add, ◌∙◌, take_all, length-take-le}
 use Rattle.std.proofs.Math.Path.{sym, ap}
@@ -14,8 +14,6 @@ use Rattle.rules.specs.Print.{decimal_of, show_lines, text_name, show_refusal, s
 use Rattle.text.specs.Words.{words_of, push}
 use Rattle.listing.specs.Words.{word_of}
 use Rattle.listing.specs.Put.{Put}
-use Rattle.listing.specs.declared.Listed as Ls
-use Rattle.listing.specs.declared.Listed.TheVariants as L
 
 drop-take : (n m : ℕ) (b : Bytes) → drop n (take (n + m) b) ≡ take m (drop n b)
 drop-take zero m b = ap (λ i. take i b) (zero-add m)
@@ -23,26 +21,22 @@ drop-take (suc n) m [] = rw (take-nil {A = ℕ} (suc n + m), take-nil {A = ℕ} 
 drop-take (suc n) m (x ∷ b) = rw (suc-add n m) (drop-take n m b)
 
 -- what is left of a window, as the answer tells it
-unfoldable pub Told : ℕ → Ls.Listed → Type 0
-Told left (L.Bytes n) = (0 < left) × (n ≡ 65536 - left)
-Told left L.Full = left ≡ 0
+unfoldable pub Told : ℕ → Option ℕ → Type 0
+Told left (Some n) = (0 < left) × (n ≡ 65536 - left)
+Told left None = left ≡ 0
 
 -- the bytes b are the first n of the window and end there, or fill all of it
-unfoldable pub Holds : Bytes → List ℕ → Ls.Listed → Type 0
-Holds b s (L.Bytes n) = (n < length s) × (take n s ≡ b)
-Holds b s L.Full = (length s ≡ 65536) × (s ≡ take 65536 b)
+unfoldable pub Holds : Bytes → List ℕ → Option ℕ → Type 0
+Holds b s (Some n) = (n < length s) × (take n s ≡ b)
+Holds b s None = (length s ≡ 65536) × (s ≡ take 65536 b)
 
-pub told-full : (left : ℕ) → left ≡ 0 → Told left L.Full
+pub told-full : (left : ℕ) → left ≡ 0 → Told left None
 unfolding Told
 told-full left e = e
 
-pub told-bytes : (left : ℕ) → (left ≡ 0 → ⊥) → Told left (L.Bytes (65536 - left))
+pub told-bytes : (left : ℕ) {n : ℕ} → (left ≡ 0 → ⊥) → n ≡ 65536 - left → Told left (Some n)
 unfolding Told
-told-bytes left h = (omega (arith, h), refl)
-
-pub told_none : (left : ℕ) → 65536 ≤ left → Told left (L.Bytes 0)
-unfolding Told
-told_none left h = (omega arith, omega arith)
+told-bytes left h e = (omega (arith, h), e)
 
 -- a window that starts behind `from` bytes of b
 module _ {s s' : List ℕ} {b : Bytes} {at left : ℕ} (from : ℕ) (w : length s ≡ 65536) (a : at ≡ from + 65536)
@@ -53,26 +47,26 @@ module _ {s s' : List ℕ} {b : Bytes} {at left : ℕ} (from : ℕ) (w : length 
       let f : at - 65536 ≡ from = omega arith in
       rw (w, e, f) at h.written
 
-  pub held : (r : Ls.Listed) → Told left r → Holds (drop from b) s' r
+  pub held : (r : Option ℕ) → Told left r → Holds (drop from b) s' r
   unfolding Told Holds
-  held (L.Bytes n) t =
+  held (Some n) t =
       let l : length b ≤ at = omega (arith, h.left, t.0) in
       (omega (arith, t.0, t.1, h.room, w), rw t.1 (put-window ∙ ap (drop from) (take_all at b l)))
-  held L.Full t =
+  held None t =
       let l : length s' ≡ 65536 = h.room ∙ w in
       (l, sym (take-length s') ∙ rw (l) (rw (t) at put-window ∙ ap (λ i. drop from (take i b)) a ∙ drop-take from 65536 b))
 
 -- WHAT A CALLER KNOWS
-module _ (b : Bytes) (s : List ℕ) {r : Ls.Listed} (h : Holds b s r) where
-  pub counted : {n : ℕ} → r ≡ L.Bytes n → IsPrefixLen n s
+module _ (b : Bytes) (s : List ℕ) {r : Option ℕ} (h : Holds b s r) where
+  pub counted : {n : ℕ} → r ≡ Some n → IsPrefixLen n s
   unfolding Holds
   counted {n} e = let l : n < length s = (rw e at h).0 in (omega arith, sym (length-take-le n s (omega arith)))
 
-  pub ended : {n : ℕ} → r ≡ L.Bytes n → take n s ≡ b
+  pub ended : {n : ℕ} → r ≡ Some n → take n s ≡ b
   unfolding Holds
   ended e = (rw e at h).1
 
-  pub filled : r ≡ L.Full → (length s ≡ 65536) × (s ≡ take 65536 b)
+  pub filled : r ≡ None → (length s ≡ 65536) × (s ≡ take 65536 b)
   unfolding Holds
   filled e = rw e at h
 

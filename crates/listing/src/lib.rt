@@ -24,34 +24,14 @@ pub const WINDOW: usize = 65536;
 
 pub type Window = [u8; WINDOW];
 
-// How many bytes are listed in the window, with none behind them; or that the window is full and there may be more.
-#[derive(Clone, Copy)]
-pub enum Listed {
-    Bytes(usize),
-    Full,
-}
-
-// The answer, from how many bytes of the window are left.
-fn told(left: usize) -> Listed
+// How many bytes of the window are listed, from how many of it are left; none where it is full, as there may be more.
+fn told(left: usize) -> Option<usize>
     ensures { Told left result }
 {
     if left == 0 {
-        return Listed::Full;
+        return None;
     }
-    if left < WINDOW {
-        return Listed::Bytes(WINDOW - left);
-    }
-    Listed::Bytes(0)
-}
-
-// The number of the last of n nodes.
-fn last(n: u32) -> u32
-    ensures { result ≡ n - 1 }
-{
-    if n == 0 {
-        return 0;
-    }
-    n - 1
+    Some(WINDOW.saturating_sub(left))
 }
 
 fn put_header(out: &mut [u8], at: usize, area: &[u32]) -> usize
@@ -74,7 +54,7 @@ fn put_area(out: &mut [u8], at: usize, catalog: &[u8], statement: &[u8], area: &
     ensures { Lines out.old out.new at (area_lines catalog.now statement.now area.now) result }
 {
     let k = number(area, 1);
-    let n = last(number(area, 3));
+    let n = number(area, 3).saturating_sub(1);
     let own = tail(area, number(area, 4) as usize);
     let a = put_header(out, at, area);
     let b = put_cells(out, a, catalog, statement, area);
@@ -82,8 +62,15 @@ fn put_area(out: &mut [u8], at: usize, catalog: &[u8], statement: &[u8], area: &
     put_own(out, d, catalog, statement, k, n, own)
 }
 
-// The listing of an area from its byte `from` on, as much of it as the window has room for.
-pub fn list(catalog: &[u8], statement: &[u8], area: &[u32], from: u32, out: &mut Window) -> Listed
+// The listing of an area from its byte `from` on: how many bytes of the window it has, with none behind them; or `None`,
+// where it fills the window and there may be more.
+pub fn list(
+    catalog: &[u8],
+    statement: &[u8],
+    area: &[u32],
+    from: u32,
+    out: &mut Window,
+) -> Option<usize>
     ensures { Holds (drop from (show_area catalog.now statement.now area.now)) out.new result }
 {
     let at = from as usize + WINDOW;
@@ -101,9 +88,14 @@ fn put_refusal(out: &mut [u8], at: usize, number: u32, text: u32, line: u32) -> 
     put_byte(out, e, b'\n')
 }
 
-// The line of a refusal by its number, its text's number and its line, from its byte `from` on, as much of it as the window
-// has room for.
-pub fn list_refusal(number: u32, text: u32, line: u32, from: u32, out: &mut Window) -> Listed
+// The line of a refusal by its number, its text's number and its line, from its byte `from` on, answered as `list` does.
+pub fn list_refusal(
+    number: u32,
+    text: u32,
+    line: u32,
+    from: u32,
+    out: &mut Window,
+) -> Option<usize>
     ensures { Holds (drop from (show_lines (refusal_line number text line))) out.new result }
 {
     let at = from as usize + WINDOW;

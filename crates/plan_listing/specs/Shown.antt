@@ -1,5 +1,5 @@
 -- What the planner answered, as text: for what it made of two texts, the rules' listing of them.
-use Rattle.std.specs.Prelude.{ℕ, ◌-◌, ◌≡◌, refl, true, false, List, eqb, length, replicate}
+use Rattle.std.specs.Prelude.{ℕ, ◌-◌, ◌≡◌, refl, true, false, List, eqb, length, replicate, Option}
 use Rattle.std.proofs.Common.{sym, ap, ◌∙◌, eq-eqb, ne_eqb}
 use Rattle.std.proofs.lemmas.Bool.{eqb-false}
 use Rattle.rules.specs.Refusals.{refusal_number, Answer, ok, refused}
@@ -14,7 +14,6 @@ use Rattle.claims.specs.Area.Accepted.{accepted}
 use Rattle.listing.specs.Own.{show_area}
 use Rattle.listing.specs.Shown.{accepted-shown}
 use Rattle.listing.specs.Listed.{Holds, refusal_line, refusal-shown}
-use Rattle.listing.specs.declared.Listed.{Listed}
 use Rattle.planner.specs.Outcomes.{Answers}
 use Rattle.planner.specs.declared.Outcome.{Outcome}
 use Rattle.plan_listing.specs.Numbers.{not-zero}
@@ -63,6 +62,6 @@ unfolding plan
 planned-shown c q a {o} {area} l h = answer-shown c q a (entry (length a) c q) o area refl h ∙ listed c q (length a) l
 
 -- both texts listed from the start on: r tells how much of the listing the window has, and the area is the planner's
-pub record Lists (c q : Bytes) (area area' out : List ℕ) (r : Listed) : Type 0 where
+pub record Lists (c q : Bytes) (area area' out : List ℕ) (r : Option ℕ) : Type 0 where
   pub listed : Holds (listing c q) out r
   pub area-is : area' ≡ (plan c q area).area

@@ -13,7 +13,7 @@ ghost use Rattle.query_plan.specs.Written.{window_of, shown_line, shown_record, 
 use anyhow::{Context, Result};
 use input::SIZE;
 use lines::line_at;
-use listing::{Listed, WINDOW, Window};
+use listing::{WINDOW, Window};
 use plan_listing::list_outcome;
 use planner::{LEAST_AREA, Outcome, planner_plan};
 use reader::CATALOG;
@@ -24,7 +24,7 @@ use std::io::Write;
 // Most windows that are printed: a listing of 4 GiB. No plan in an area has as much.
 const MOST_WINDOWS: u32 = 65536;
 
-// The rules' listing of both texts from its byte `from` on, as much of it as the window has room for.
+// The rules' listing of both texts from its byte `from` on, as `list_outcome` answers it.
 fn list(
     catalog: &[u8],
     statement: &[u8],
@@ -32,7 +32,7 @@ fn list(
     area: &[u32],
     from: u32,
     out: &mut Window,
-) -> Listed
+) -> Option<usize>
     requires { shown catalog.now statement.now outcome area.now ≡ listing catalog.now statement.now }
     ensures { Holds (drop from (listing catalog.now statement.now)) out.new result }
 {
@@ -54,13 +54,13 @@ fn print_window<W: Write>(
 {
     let mut out = [0u8; WINDOW];
     match list(catalog, statement, outcome, area, from, &mut out) {
-        Listed::Full => {
-            to.write_all(&out)?;
-            Ok(true)
-        }
-        Listed::Bytes(n) => {
+        Some(n) => {
             to.write_all(&out[..n])?;
             Ok(false)
+        }
+        None => {
+            to.write_all(&out)?;
+            Ok(true)
         }
     }
 }

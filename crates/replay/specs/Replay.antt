@@ -1,37 +1,36 @@
 -- The fixed list replayed, case after case.
-use Rattle.std.specs.Prelude.{ℕ, zero, suc, ◌+◌, ◌≤◌, ◌<◌, ◌≡◌, refl, Bool, true, false, ltb, length, take, drop}
-use Rattle.std.proofs.Common.{arith, sym, ◌∙◌, lt-ltb, le-ltb}
-use Rattle.std.proofs.Math.Path.{ap}
-use Rattle.rules.specs.Lists.{Bytes, same}
-use Rattle.rules.specs.Listing.{listing}
+use Rattle.std.specs.Prelude.{ℕ, zero, suc, ◌+◌, ◌≤◌, ◌<◌, ◌≡◌, refl, Bool, true, false, ltb, length, Option, Some, None}
+use Rattle.std.specs.Prelude.{Result, Ok, Err, IfSome}
+use Rattle.std.specs.Int.{from_bool}
+use Rattle.std.proofs.Common.{arith, sym, ap, ◌∙◌, lt-ltb, le-ltb}
+use Rattle.std.proofs.lemmas.Option.{none-some}
+use Rattle.rules.specs.Lists.{Bytes}
 use Rattle.text.specs.Lines.{line-moves}
 use Rattle.answer_list.specs.Records.{record_at, record-inside}
-use Rattle.answer_list.specs.declared.Record as Rc
-use Rattle.answer_list.specs.declared.Record.TheVariants as R
-use Rattle.replay.specs.Cases.{compared, case_of, case_at}
-use Rattle.replay.specs.declared.Case as Cs
-use Rattle.replay.specs.declared.Case.TheVariants as C
+use Rattle.answer_list.specs.declared.Record.{Record}
+use Rattle.replay.specs.Cases.{agrees, behind, case_of, case_at}
+use Rattle.replay.specs.declared.Case.{Case}
+use Rattle.replay.specs.declared.Damaged.{Damaged}
 use Rattle.replay.specs.declared.Progress.{Progress}
 
--- a case is counted, and where it is damaged the replay ends
-unfoldable pub counted : Bytes → Progress → Cs.Case → Progress
-counted t p (C.Agrees q) = record { at = q; cases = p.cases + 1; agree = p.agree + 1; damaged = false }
-counted t p (C.Differs q) = record { at = q; cases = p.cases + 1; agree = p.agree; damaged = false }
-counted t p C.Damaged = record { at = length t; cases = p.cases; agree = p.agree; damaged = true }
+-- a case is counted
+unfoldable pub counted : Progress → Option Case → Option Progress
+counted p None = None
+counted p (Some k) = Some (record { at = k.next; cases = p.cases + 1; agree = p.agree + from_bool k.agrees })
 
--- as many cases as the list has, `fuel` at most
-unfoldable pub steps : ℕ → Bytes → Progress → Progress
-steps zero t p = p
+-- as many cases as the list has, `fuel` at most; where one is damaged the replay ends
+unfoldable pub steps : ℕ → Bytes → Progress → Result Progress Damaged
+steps zero t p = Ok p
 steps (suc fuel) t p = elim (ltb p.at (length t)) [
-  | true ↦ steps fuel t (counted t p (case_at t p.at))
-  | false ↦ p
+  | true ↦ elim (counted p (case_at t p.at)) [ Some q ↦ steps fuel t q | None ↦ Err (record { cases = p.cases }) ]
+  | false ↦ Ok p
 ]
 
 abbrev pub start : Progress
-start = record { at = 0; cases = 0; agree = 0; damaged = false }
+start = record { at = 0; cases = 0; agree = 0 }
 
 -- THE WHOLE LIST: a case has a byte at least
-unfoldable pub replayed : Bytes → Progress
+unfoldable pub replayed : Bytes → Result Progress Damaged
 replayed t = steps (length t) t start
 
 -- A STEP
@@ -40,75 +39,48 @@ pub record Ready (t : Bytes) (p : Progress) : Type 0 where
   pub cases : p.cases ≤ p.at
   pub agree : p.agree ≤ p.cases
 
-pub record Stepped (t : Bytes) (p r : Progress) : Type 0 where
-  pub is : r ≡ counted t p (case_at t p.at)
-  pub moved : p.at < r.at
-  pub cases : r.cases ≤ r.at
-  pub agree : r.agree ≤ r.cases
+pub record Moved (p q : Progress) : Type 0 where
+  pub at : p.at < q.at
+  pub cases : q.cases ≤ q.at
+  pub agree : q.agree ≤ q.cases
+
+pub record Stepped (t : Bytes) (p : Progress) (r : Option Progress) : Type 0 where
+  pub is : r ≡ counted p (case_at t p.at)
+  pub moved : IfSome r (λ q. Moved p q)
+
+from_bool-le : (b : Bool) → from_bool b ≤ 1
+from_bool-le true = omega arith
+from_bool-le false = omega arith
 
 -- a case that is not damaged ends behind its start
-unfoldable After : ℕ → Cs.Case → Type 0
-After p (C.Agrees q) = p < q
-After p (C.Differs q) = p < q
-After p C.Damaged = Unit {0}
-
-after-compared : (p q : ℕ) (k : Bool) → p < q → After p (compared k q)
-unfolding After compared
-after-compared p q true l = l
-after-compared p q false l = l
-
-after-record : (t : Bytes) (p : ℕ) (r : Rc.Record) → record_at t p ≡ r → p < length t → After p (case_of t r)
-unfolding After case_of
-after-record t p R.Damaged e l = tt
-after-record t p (R.Whole b c s n) e l = go (ltb n 65536)
+case-after : (t : Bytes) (p : ℕ) (k : Case) → p < length t → case_at t p ≡ Some k → p < k.next
+unfolding case_at case_of
+case-after t p k l e = go (record_at t p) refl e
   where
-    go : (k : Bool) → After p (elim k [
-      | true ↦ compared
-          (same (listing (take c (drop b t)) (take s (drop (b + c) t))) (take n (drop (b + c + s) t))) (b + c + s + n)
-      | false ↦ C.Damaged
-    ])
-    go true = after-compared p (b + c + s + n) _ (omega (arith, (record-inside t p b c s n e).0, line-moves t p l))
-    go false = tt
+    go : (r : Option Record) → record_at t p ≡ r → case_of t r ≡ Some k → p < k.next
+    go None i e = absurd (none-some k e)
+    go (Some r) i e = ends (ltb r.answer 65536) e
+      where
+        ends : (b : Bool) → elim b [ true ↦ Some (record { agrees = agrees t r; next = behind r }) | false ↦ None ] ≡ Some k → p < k.next
+        ends true e =
+            let n : behind r ≡ k.next = cc in
+            omega (arith, n, (record-inside t p r i).0, line-moves t p l)
+        ends false e = absurd (none-some k e)
 
-case-after : (t : Bytes) (p : ℕ) → p < length t → After p (case_at t p)
-unfolding case_at
-case-after t p l = after-record t p (record_at t p) refl l
-
--- the three ways of a step
-module _ (t : Bytes) (p : Progress) (h : Ready t p) {x : Cs.Case} (i : x ≡ case_at t p.at) where
-  pub step-agrees : (q : ℕ) → x ≡ C.Agrees q
-      → Stepped t p (record { at = q; cases = p.cases + 1; agree = p.agree + 1; damaged = false })
-  unfolding After counted
-  step-agrees q e =
-      let l : p.at < q = rw (sym i ∙ e) at (case-after t p.at h.inside) in
-      record {
-        is = ap (counted t p) (sym e ∙ i);
-        moved = l;
-        cases = omega (arith, l, h.cases);
-        agree = omega (arith, h.agree);
-      }
-
-  pub step-differs : (q : ℕ) → x ≡ C.Differs q
-      → Stepped t p (record { at = q; cases = p.cases + 1; agree = p.agree; damaged = false })
-  unfolding After counted
-  step-differs q e =
-      let l : p.at < q = rw (sym i ∙ e) at (case-after t p.at h.inside) in
-      record {
-        is = ap (counted t p) (sym e ∙ i);
-        moved = l;
-        cases = omega (arith, l, h.cases);
-        agree = omega (arith, h.agree);
-      }
-
-  pub step-damaged : x ≡ C.Damaged
-      → Stepped t p (record { at = length t; cases = p.cases; agree = p.agree; damaged = true })
+module _ (t : Bytes) (p : Progress) (h : Ready t p) where
+  pub step-case : (k : Case) → case_at t p.at ≡ Some k
+      → Stepped t p (Some (record { at = k.next; cases = p.cases + 1; agree = p.agree + from_bool k.agrees }))
   unfolding counted
-  step-damaged e = record {
-    is = ap (counted t p) (sym e ∙ i);
-    moved = h.inside;
-    cases = omega (arith, h.inside, h.cases);
-    agree = h.agree;
-  }
+  step-case k e =
+      let l : p.at < k.next = case-after t p.at k h.inside e in
+      record {
+        is = sym (ap (counted p) e);
+        moved = record { at = l; cases = omega (arith, l, h.cases); agree = omega (arith, h.agree, from_bool-le k.agrees) };
+      }
+
+  pub step-damaged : case_at t p.at ≡ None → Stepped t p None
+  unfolding counted
+  step-damaged e = record { is = sym (ap (counted p) e); moved = tt }
 
 -- THE LOOP: the cases from here on end as the whole list does
 pub record Replaying (t : Bytes) (p : Progress) : Type 0 where
@@ -125,24 +97,36 @@ replay-begin t = record { cases = omega arith; agree = omega arith; fuel = lengt
 pub replay-ready : (t : Bytes) (p : Progress) → Replaying t p → p.at < length t → Ready t p
 replay-ready t p h l = record { inside = l; cases = h.cases; agree = h.agree }
 
-pub replay-more : (t : Bytes) (p r : Progress) → Replaying t p → p.at < length t → Stepped t p r → Replaying t r
-unfolding steps
-replay-more t p r h l s = go h.fuel h.enough h.is
-  where
-    go : (f : ℕ) → length t ≤ p.at + f → steps f t p ≡ replayed t → Replaying t r
-    go zero e i = absurd (omega arith)
-    go (suc f) e i = record {
-      cases = s.cases;
-      agree = s.agree;
-      fuel = f;
-      enough = omega (arith, s.moved);
-      is = ap (steps f t) s.is ∙ (sym (rw (steps, lt-ltb p.at (length t) l)) ∙ i);
-    }
+module _ (t : Bytes) (p : Progress) (h : Replaying t p) (l : p.at < length t) {r : Option Progress} (s : Stepped t p r) where
+  pub replay-more : (q : Progress) → r ≡ Some q → Replaying t q
+  unfolding steps
+  replay-more q m = go h.fuel h.enough h.is
+    where
+      moved : Moved p q
+      moved = rw m at s.moved
 
-pub replay-end : (t : Bytes) (p : Progress) → Replaying t p → length t ≤ p.at → p ≡ replayed t
+      go : (f : ℕ) → length t ≤ p.at + f → steps f t p ≡ replayed t → Replaying t q
+      go zero e i = absurd (omega arith)
+      go (suc f) e i = record {
+        cases = moved.cases;
+        agree = moved.agree;
+        fuel = f;
+        enough = omega (arith, moved.at);
+        is = sym (rw (steps, lt-ltb p.at (length t) l, ← s.is, m)) ∙ i;
+      }
+
+  pub replay-damaged : r ≡ None → Err (record { cases = p.cases }) ≡ replayed t
+  unfolding steps
+  replay-damaged m = go h.fuel h.enough h.is
+    where
+      go : (f : ℕ) → length t ≤ p.at + f → steps f t p ≡ replayed t → Err (record { cases = p.cases }) ≡ replayed t
+      go zero e i = absurd (omega arith)
+      go (suc f) e i = sym (rw (steps, lt-ltb p.at (length t) l, ← s.is, m)) ∙ i
+
+pub replay-end : (t : Bytes) (p : Progress) → Replaying t p → length t ≤ p.at → Ok p ≡ replayed t
 unfolding steps
 replay-end t p h l = go h.fuel h.is
   where
-    go : (f : ℕ) → steps f t p ≡ replayed t → p ≡ replayed t
+    go : (f : ℕ) → steps f t p ≡ replayed t → Ok p ≡ replayed t
     go zero i = i
     go (suc f) i = sym (rw (steps, le-ltb p.at (length t) l)) ∙ i

@@ -12,18 +12,18 @@ pub returns-then-not-holds : goal.returns-then-not-holds
 unfolding count bytes
 returns-then-not-holds c = other_word _ _ _ c.fields-line.ensures c.if-line-ne4.false _ c.holds.ensures c.if-not-holds.true
 
-pub returns-in_default : goal.returns-in_default
+pub returns-in_err-catalog : goal.returns-in_err-catalog
 unfolding count bytes
-returns-in_default c = no-first _ _ _ c.fields-line.ensures c.if-line-ne4.false _ c.holds.ensures c.if-not-holds.false c.in_default.ensures
+returns-in_err-catalog c = c.from_residual.ensures ∙ no-first _ _ _ c.fields-line.ensures c.if-line-ne4.false _ c.holds.ensures c.if-not-holds.false c.in_err-catalog.ensures
 
-pub returns-in_default-decimal : goal.returns-in_default-decimal
+pub returns-in_err-statement : goal.returns-in_err-statement
 unfolding count bytes
-returns-in_default-decimal c = no_second _ _ _ c.fields-line.ensures c.if-line-ne4.false _ c.holds.ensures c.if-not-holds.false _ c.in-Some.ensures c.in_default-decimal.ensures
+returns-in_err-statement c = c.from_residual-in_err-statement.ensures ∙ no_second _ _ _ c.fields-line.ensures c.if-line-ne4.false _ c.holds.ensures c.if-not-holds.false _ c.in_ok-catalog.ensures c.in_err-statement.ensures
 
-pub returns-in_default-decimal-2 : goal.returns-in_default-decimal-2
+pub returns-in_err-answer : goal.returns-in_err-answer
 unfolding count bytes
-returns-in_default-decimal-2 c = no_third _ _ _ c.fields-line.ensures c.if-line-ne4.false _ c.holds.ensures c.if-not-holds.false _ c.in-Some.ensures _ c.in-Some-decimal.ensures c.in_default-decimal-2.ensures
+returns-in_err-answer c = c.from_residual-in_err-answer.ensures ∙ no_third _ _ _ c.fields-line.ensures c.if-line-ne4.false _ c.holds.ensures c.if-not-holds.false _ c.in_ok-catalog.ensures _ c.in_ok-statement.ensures c.in_err-answer.ensures
 
 pub returns : goal.returns
 unfolding count bytes
-returns c = c.whole.ensures ∙ counted _ _ _ c.fields-line.ensures c.if-line-ne4.false _ c.holds.ensures c.if-not-holds.false _ c.in-Some.ensures _ c.in-Some-decimal.ensures _ c.in-Some-decimal-2.ensures
+returns c = c.whole.ensures ∙ counted _ _ _ c.fields-line.ensures c.if-line-ne4.false _ c.holds.ensures c.if-not-holds.false _ c.in_ok-catalog.ensures _ c.in_ok-statement.ensures _ c.in_ok-answer.ensures

@@ -1,12 +1,10 @@
--- `step`: by what comes of the case.
-use Rattle.replay.specs.Replay.{step-agrees, step-differs, step-damaged}
+-- `step`: by whether there is a case.
+use Rattle.std.proofs.Common.{ap, sym, ◌∙◌, ◌+◌}
+use Rattle.replay.specs.Replay.{step-case, step-damaged}
 use Rattle.replay.proofs.step.Goals as goal
 
-pub returns-in-Agrees : goal.returns-in-Agrees
-returns-in-Agrees c = step-agrees _ _ c.requires c.case_at.ensures _ c.in-Agrees.is
+pub returns-in_err-case : goal.returns-in_err-case
+returns-in_err-case c = rw c.from_residual.ensures (step-damaged _ _ c.requires (sym c.case_at.ensures ∙ c.in_err-case.was))
 
-pub returns-in-Differs : goal.returns-in-Differs
-returns-in-Differs c = step-differs _ _ c.requires c.case_at.ensures _ c.in-Differs.is
-
-pub returns-in-Damaged : goal.returns-in-Damaged
-returns-in-Damaged c = step-damaged _ _ c.requires c.case_at.ensures c.in-Damaged.is
+pub returns : goal.returns
+returns c = rw c.from.ensures (step-case _ _ c.requires _ (sym c.case_at.ensures ∙ c.in_ok-case.was))
