@@ -1,7 +1,7 @@
 -- The records of the fixed list: a line `case` with three byte counts, then so many bytes of a catalog, of a statement and of
 -- the text that is printed of them.
 use Prim.Native.Nat.{ℕ, zero, suc, ◌+◌, ◌-◌, ◌≤◌, ◌<◌, min}
-use Rattle.std.proofs.Common.{arith, sym, ◌∙◌, le-leb, leb-true}
+use Rattle.std.proofs.Common.{sym, ◌∙◌, le-leb, leb-true}
 use Rattle.std.specs.Prelude.{◌≡◌, Bool, List, [], ◌∷◌, leb, length, take, drop, get_or, Some, None}
 use Rattle.std.specs.declared.option.Option as Rust
 use Rattle.std.proofs.Math.Path.{refl, ap}

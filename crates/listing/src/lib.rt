@@ -89,13 +89,7 @@ fn put_refusal(out: &mut [u8], at: usize, number: u32, text: u32, line: u32) -> 
 }
 
 // The line of a refusal by its number, its text's number and its line, from its byte `from` on, answered as `list` does.
-pub fn list_refusal(
-    number: u32,
-    text: u32,
-    line: u32,
-    from: u32,
-    out: &mut Window,
-) -> Option<usize>
+pub fn list_refusal(number: u32, text: u32, line: u32, from: u32, out: &mut Window) -> Option<usize>
     ensures { Holds (drop from (show_lines (refusal_line number text line))) out.new result }
 {
     let at = from as usize + WINDOW;
