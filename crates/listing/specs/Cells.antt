@@ -8,7 +8,7 @@ use Rattle.rules.specs.Print.{decimal_of, integer_of, hex_of}
 use Rattle.rules.specs.Area.{header_size}
 use Rattle.numbers.specs.Bits.{signed}
 use Rattle.listing.specs.Words.{word_of}
-use Rattle.listing.specs.Choices.{choose, choose-none, Misses}
+use Rattle.listing.specs.Choices.{choose}
 use Rattle.listing.specs.Lines.{listed, each}
 
 -- the word of a kind
@@ -79,28 +79,6 @@ module _ (k : ℕ) (s : List ℕ) where
   operand-two g f h = rw (operand_rest, ne_eqb k 14 g, ne_eqb k 15 f, le-ltb k 16 h)
 
 -- WHAT THE CODE PUTS
-pub long_same : {r a b x y : ℕ} → r ≡ a + b * 2 ^ 32 → a ≡ x → b ≡ y → r ≡ x + y * 2 ^ 32
-long_same e f g = rw (e, f, g)
-
-pub place_same : (c q : Bytes) {a n x y : ℕ} → a ≡ x → n ≡ y
-    → ◌≡◌ {A = List Bytes} (bytes_at c q a n ∷ []) (bytes_at c q x y ∷ [])
-place_same c q e f = rw (e, f)
-
-pub constant-none : (c q : Bytes) (k : ℕ) (s : List ℕ) → (k ≡ 2 → ⊥) → (k ≡ 3 → ⊥) → (k ≡ 4 → ⊥) → (k ≡ 5 → ⊥)
-    → [] ≡ value_rest c q k s
-unfolding value_rest Misses
-constant-none c q k s h g f e = choose-none _ k [] (h, (g, (f, (e, tt))))
-
-module _ (c q : Bytes) {k : ℕ} (s : List ℕ) (e : k ≡ get_or s 0 0) where
-  pub cell-constant : k < 6 → kind_word k ∷ value_rest c q k s ≡ cell_fields c q s
-  unfolding cell_fields
-  cell-constant h = rw (← e, rest-constant c q k s h)
-
-  pub cell-operand : {x : ℕ} {r : List Bytes} → 6 ≤ k → x ≡ get_or s 1 0 → r ≡ operand_rest k s
-      → kind_word k ∷ decimal_of x ∷ r ≡ cell_fields c q s
-  unfolding cell_fields
-  cell-operand h f g = rw (← e, rest-operand c q k s h, f, g)
-
 pub cells-all : (c q : Bytes) (a : List ℕ) {n : ℕ} {t : List ℕ} → n ≡ get_or a 2 0 → t ≡ drop header_size a
     → listed n (λ j. cell_line c q j (drop (j * 4) t)) ≡ cell_lines c q a
 unfolding cell_lines each

@@ -1,8 +1,9 @@
 -- Fields, each behind a tab, and lines of them.
-use Rattle.std.specs.Prelude.{ℕ, ◌≡◌, refl, List, [], ◌∷◌, ◌++◌}
+use Rattle.std.specs.Prelude.{◌≡◌, refl, List, [], ◌∷◌, ◌++◌}
 use Rattle.std.proofs.Common.{sym, ap, append_assoc, append-nil}
 use Rattle.rules.specs.Lists.{Bytes}
-use Rattle.listing.specs.Put.{Put, put-none, put_then, put_same}
+use Rattle.listing.specs.declared.put.Writer.{Writer}
+use Rattle.listing.specs.Put.{Puts, puts-none, puts-then, puts-same}
 
 unfoldable pub fields : List Bytes → Bytes
 fields [] = []
@@ -13,21 +14,33 @@ unfolding fields
 fields-append [] ys = refl
 fields-append (x ∷ xs) ys = rw (fields-append xs ys) (ap (λ r. 9 ∷ r) (sym (append_assoc x (fields xs) (fields ys))))
 
--- the fields fs, put from at on into s, which is s' then; r is the position behind them
-pub record Fields (s s' : List ℕ) (at : ℕ) (fs : List Bytes) (r : ℕ) : Type 0 where
-  pub put : Put s s' at (fields fs) r
+-- the fields that f gives of the two texts, put by a writer, which is w' then
+pub record FieldsIn (w w' : Writer) (f : Bytes → Bytes → List Bytes) : Type 0 where
+  pub puts : Puts w w' (fields (f w.catalog.now w.statement.now))
 
-pub fields-none : {s : List ℕ} {at : ℕ} → Fields s s at [] at
+-- fields that do not depend on the texts
+abbrev pub Fields : Writer → Writer → List Bytes → Type 0
+Fields w w' fs = FieldsIn w w' (λ c q. fs)
+
+pub fields-none : {w : Writer} → FieldsIn w w (λ c q. [])
 unfolding fields
-fields-none {s} {at} = record { put = put-none s at }
+fields-none {w} = record { puts = puts-none w }
 
-pub field : {s s₁ s₂ : List ℕ} {at x r : ℕ} {b : Bytes} → Put s s₁ at (9 ∷ []) x → Put s₁ s₂ x b r → Fields s s₂ at (b ∷ []) r
+pub field : {w w₁ w₂ : Writer} {b : Bytes} → Puts w w₁ (9 ∷ []) → Puts w₁ w₂ b → FieldsIn w w₂ (λ c q. b ∷ [])
 unfolding fields
-field {b = b} h g = record { put = put_same (put_then h g) (sym (ap (λ r. 9 ∷ r) (append-nil b))) }
+field {b = b} h g = record { puts = puts-same (puts-then h g) (sym (ap (λ r. 9 ∷ r) (append-nil b))) }
 
-pub fields-then : {s s₁ s₂ : List ℕ} {at x r : ℕ} {a b : List Bytes} → Fields s s₁ at a x → Fields s₁ s₂ x b r
-    → Fields s s₂ at (a ++ b) r
-fields-then {a = a} {b} h g = record { put = put_same (put_then h.put g.put) (sym (fields-append a b)) }
+pub fields-then : {w w₁ w₂ : Writer} {f g : Bytes → Bytes → List Bytes} → FieldsIn w w₁ f → FieldsIn w₁ w₂ g
+    → FieldsIn w w₂ (λ c q. f c q ++ g c q)
+fields-then {w} {w₁} {w₂} {f} {g} h k =
+    let e : Puts w₁ w₂ (fields (g w.catalog.now w.statement.now)) =
+    puts-same k.puts (rw (h.puts.catalog, h.puts.statement) refl) in
+    record { puts = puts-same (puts-then h.puts e) (sym (fields-append (f w.catalog.now w.statement.now) _)) }
 
-pub fields-same : {s s' : List ℕ} {at r : ℕ} {a b : List Bytes} → Fields s s' at a r → a ≡ b → Fields s s' at b r
-fields-same h e = rw (← e) h
+pub fields-same : {w w' : Writer} {f g : Bytes → Bytes → List Bytes} → FieldsIn w w' f → ((c q : Bytes) → f c q ≡ g c q)
+    → FieldsIn w w' g
+fields-same {w} h e = record { puts = puts-same h.puts (ap fields (e w.catalog.now w.statement.now)) }
+
+pub place-in : {w w' : Writer} {b : Bytes} {f : Bytes → Bytes → Bytes} → FieldsIn w w' (λ c q. b ∷ [])
+    → b ≡ f w.catalog.now w.statement.now → FieldsIn w w' (λ c q. f c q ∷ [])
+place-in h e = record { puts = puts-same h.puts (ap (λ b. fields (b ∷ [])) e) }

@@ -7,7 +7,6 @@ pub mod Choices
 pub mod Cells
 pub mod Nodes
 pub mod Rows
-pub mod Parts
 pub mod Behind
 pub mod Own
 pub mod Listed

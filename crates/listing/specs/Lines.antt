@@ -1,11 +1,12 @@
 -- Lines put one behind the other, and what a loop puts.
-use Rattle.std.specs.Prelude.{ℕ, zero, suc, ◌+◌, ◌*◌, ◌≤◌, ◌<◌, ◌≡◌, refl, List, [], ◌∷◌, ◌++◌, length, drop}
+use Rattle.std.specs.Prelude.{ℕ, zero, suc, ◌+◌, ◌*◌, ◌≤◌, ◌≡◌, refl, List, [], ◌∷◌, ◌++◌, length, drop}
 use Rattle.std.proofs.Common.{arith, add-one, suc-mul, zero-mul, sym, ap, ◌∙◌, append_assoc, append-nil}
 use Rattle.std.proofs.Math.Seq.{drop-append-add}
 use Rattle.rules.specs.Lists.{Bytes}
 use Rattle.rules.specs.Print.{tabbed, show_lines}
-use Rattle.listing.specs.Put.{Put, put-none, put_then, put_same}
-use Rattle.listing.specs.Fields.{fields, Fields, fields-none, fields-then, fields-same}
+use Rattle.listing.specs.declared.put.Writer.{Writer}
+use Rattle.listing.specs.Put.{Puts, puts-none, puts-then, puts-same}
+use Rattle.listing.specs.Fields.{fields, FieldsIn, fields-then, fields-same}
 
 tabbed-fields : (f : Bytes) (fs : List Bytes) → tabbed (f ∷ fs) ≡ f ++ fields fs
 unfolding tabbed fields
@@ -17,28 +18,39 @@ unfolding show_lines
 lines-append [] ys = refl
 lines-append (x ∷ xs) ys = rw (lines-append xs ys) (sym (append_assoc (tabbed x) (10 ∷ show_lines xs) (show_lines ys)))
 
--- the lines ls, put from at on into s, which is s' then; r is the position behind them
-pub record Lines (s s' : List ℕ) (at : ℕ) (ls : List (List Bytes)) (r : ℕ) : Type 0 where
-  pub put : Put s s' at (show_lines ls) r
+-- the lines that f gives of the two texts, put by a writer, which is w' then
+pub record LinesIn (w w' : Writer) (f : Bytes → Bytes → List (List Bytes)) : Type 0 where
+  pub puts : Puts w w' (show_lines (f w.catalog.now w.statement.now))
 
-pub lines_none : {s : List ℕ} {at : ℕ} → Lines s s at [] at
+-- lines that do not depend on the texts
+abbrev pub Lines : Writer → Writer → List (List Bytes) → Type 0
+Lines w w' ls = LinesIn w w' (λ c q. ls)
+
+pub lines_none : {w : Writer} → LinesIn w w (λ c q. [])
 unfolding show_lines
-lines_none {s} {at} = record { put = put-none s at }
+lines_none {w} = record { puts = puts-none w }
 
 -- a first field, the other fields, and LF
-pub line : {s s₁ s₂ s₃ : List ℕ} {at x y r : ℕ} {f : Bytes} {fs : List Bytes} → Put s s₁ at f x → Fields s₁ s₂ x fs y
-    → Put s₂ s₃ y (10 ∷ []) r → Lines s s₃ at ((f ∷ fs) ∷ []) r
+pub line : {w w₁ w₂ w₃ : Writer} {b : Bytes} {f : Bytes → Bytes → List Bytes} → Puts w w₁ b → FieldsIn w₁ w₂ f
+    → Puts w₂ w₃ (10 ∷ []) → LinesIn w w₃ (λ c q. (b ∷ f c q) ∷ [])
 unfolding show_lines
-line {f = f} {fs} h g k = record {
-  put = put_same (put_then h (put_then g.put k)) (sym (rw (tabbed-fields f fs) (append_assoc f (fields fs) (10 ∷ []))));
-}
+line {w} {w₁} {w₂} {w₃} {b} {f} h g k =
+    let fs : List Bytes = f w.catalog.now w.statement.now in
+    let e : Puts w₁ w₂ (fields fs) = puts-same g.puts (rw (h.catalog, h.statement) refl) in
+    record {
+      puts = puts-same (puts-then h (puts-then e k)) (sym (rw (tabbed-fields b fs) (append_assoc b (fields fs) (10 ∷ []))));
+    }
 
-pub lines_then : {s s₁ s₂ : List ℕ} {at x r : ℕ} {a b : List (List Bytes)} → Lines s s₁ at a x → Lines s₁ s₂ x b r
-    → Lines s s₂ at (a ++ b) r
-lines_then {a = a} {b} h g = record { put = put_same (put_then h.put g.put) (sym (lines-append a b)) }
+pub lines_then : {w w₁ w₂ : Writer} {f g : Bytes → Bytes → List (List Bytes)} → LinesIn w w₁ f → LinesIn w₁ w₂ g
+    → LinesIn w w₂ (λ c q. f c q ++ g c q)
+lines_then {w} {w₁} {w₂} {f} {g} h k =
+    let e : Puts w₁ w₂ (show_lines (g w.catalog.now w.statement.now)) =
+    puts-same k.puts (rw (h.puts.catalog, h.puts.statement) refl) in
+    record { puts = puts-same (puts-then h.puts e) (sym (lines-append (f w.catalog.now w.statement.now) _)) }
 
-pub lines_same : {s s' : List ℕ} {at r : ℕ} {a b : List (List Bytes)} → Lines s s' at a r → a ≡ b → Lines s s' at b r
-lines_same h e = rw (← e) h
+pub lines_same : {w w' : Writer} {f g : Bytes → Bytes → List (List Bytes)} → LinesIn w w' f → ((c q : Bytes) → f c q ≡ g c q)
+    → LinesIn w w' g
+lines_same {w} h e = record { puts = puts-same h.puts (ap show_lines (e w.catalog.now w.statement.now)) }
 
 -- LOOPS
 -- what f gives for 0, 1 .. below n, one behind the other
@@ -50,42 +62,27 @@ listed (suc n) f = listed n f ++ f n
 unfoldable pub each : {B : Type 0} → ℕ → ℕ → (ℕ → List ℕ → List B) → List ℕ → List B
 each n w e t = listed n (λ i. e i (drop (i * w) t))
 
--- i of n fields are put
-pub record FieldLoop (s s' : List ℕ) (at : ℕ) (f : ℕ → List Bytes) (n i to : ℕ) : Type 0 where
-  pub most : i ≤ n
-  pub put : Fields s s' at (listed i f) to
-
-pub record LineLoop (s s' : List ℕ) (at : ℕ) (f : ℕ → List (List Bytes)) (n i to : ℕ) : Type 0 where
-  pub most : i ≤ n
-  pub put : Lines s s' at (listed i f) to
-
-pub fields-begin : {s : List ℕ} {at : ℕ} {f : ℕ → List Bytes} {n : ℕ} → FieldLoop s s at f n 0 at
-unfolding listed
-fields-begin {s} {at} {f} {n} = record { most = omega arith; put = fields-none }
-
-pub lines-begin : {s : List ℕ} {at : ℕ} {f : ℕ → List (List Bytes)} {n : ℕ} → LineLoop s s at f n 0 at
-unfolding listed
-lines-begin {s} {at} {f} {n} = record { most = omega arith; put = lines_none }
-
 one_more : {B : Type 0} (i : ℕ) (f : ℕ → List B) → listed i f ++ f i ≡ listed (i + 1) f
 unfolding listed
 one_more i f = sym (rw (add-one i))
 
-pub fields-more : {s s' s'' : List ℕ} {at to r n i : ℕ} (f : ℕ → List Bytes) → FieldLoop s s' at f n i to → i < n
-    → Fields s' s'' to (f i) r → FieldLoop s s'' at f n (i + 1) r
-fields-more {i = i} f h l g = record { most = omega arith; put = fields-same (fields-then h.put g) (one_more i f) }
+all_counted : {B : Type 0} {i n : ℕ} (f : ℕ → List B) → i ≤ n → n ≤ i → listed i f ≡ listed n f
+all_counted {i = i} {n} f h l = let e : i ≡ n = omega arith in ap (λ j. listed j f) e
 
-pub lines_more : {s s' s'' : List ℕ} {at to r n i : ℕ} (f : ℕ → List (List Bytes)) → LineLoop s s' at f n i to → i < n
-    → Lines s' s'' to (f i) r → LineLoop s s'' at f n (i + 1) r
-lines_more {i = i} f h l g = record { most = omega arith; put = lines_same (lines_then h.put g) (one_more i f) }
+module _ {w w' : Writer} (f : ℕ → Bytes → Bytes → List Bytes) {i : ℕ} (h : FieldsIn w w' (λ c q. listed i (λ j. f j c q))) where
+  pub fields-more : {w'' : Writer} → FieldsIn w' w'' (f i) → FieldsIn w w'' (λ c q. listed (i + 1) (λ j. f j c q))
+  fields-more g = fields-same (fields-then h g) (λ c q. one_more i (λ j. f j c q))
 
-pub fields-all : {s s' : List ℕ} {at to n i : ℕ} (f : ℕ → List Bytes) → FieldLoop s s' at f n i to → n ≤ i
-    → Fields s s' at (listed n f) to
-fields-all {n = n} {i} f h l = let e : i ≡ n = omega (arith, h.most) in fields-same h.put (ap (λ j. listed j f) e)
+  pub fields-all : {n : ℕ} → i ≤ n → n ≤ i → FieldsIn w w' (λ c q. listed n (λ j. f j c q))
+  fields-all l m = fields-same h (λ c q. all_counted (λ j. f j c q) l m)
 
-pub lines-all : {s s' : List ℕ} {at to n i : ℕ} (f : ℕ → List (List Bytes)) → LineLoop s s' at f n i to → n ≤ i
-    → Lines s s' at (listed n f) to
-lines-all {n = n} {i} f h l = let e : i ≡ n = omega (arith, h.most) in lines_same h.put (ap (λ j. listed j f) e)
+module _ {w w' : Writer} (f : ℕ → Bytes → Bytes → List (List Bytes)) {i : ℕ}
+    (h : LinesIn w w' (λ c q. listed i (λ j. f j c q))) where
+  pub lines_more : {w'' : Writer} → LinesIn w' w'' (f i) → LinesIn w w'' (λ c q. listed (i + 1) (λ j. f j c q))
+  lines_more g = lines_same (lines_then h g) (λ c q. one_more i (λ j. f j c q))
+
+  pub lines-all : {n : ℕ} → i ≤ n → n ≤ i → LinesIn w w' (λ c q. listed n (λ j. f j c q))
+  lines-all l m = lines_same h (λ c q. all_counted (λ j. f j c q) l m)
 
 -- THE FIRST OF THEM
 pub listed_same : {B : Type 0} (n : ℕ) (f g : ℕ → List B) → ((i : ℕ) → f i ≡ g i) → listed n f ≡ listed n g

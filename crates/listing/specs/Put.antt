@@ -1,9 +1,10 @@
 -- Bytes put into a window of a longer text.
-use Rattle.std.specs.Prelude.{ℕ, zero, suc, ◌+◌, ◌-◌, ◌≤◌, ◌<◌, ◌≡◌, refl, List, [], ◌∷◌, ◌++◌, length, take, drop, get_or, set}
-use Rattle.std.proofs.Common.{arith, add-one, sym, ap, ◌∙◌, append_assoc, append-nil, length-append, length-set, length-take, drop_of_length-le, take-suc, take-suc-set, take_all}
+use Rattle.std.specs.Prelude.{ℕ, zero, suc, ◌+◌, ◌-◌, ◌<◌, ◌≡◌, refl, List, [], ◌∷◌, ◌++◌, length, take, drop, get_or}
+use Rattle.std.proofs.Common.{arith, add-one, sym, ap, ◌∙◌, append_assoc, append-nil, length-append, length-take, take-suc}
 use Rattle.std.proofs.Math.Nat.{zero-sub, sub-zero, suc-sub-suc}
 use Rattle.std.proofs.Math.Seq.{take-nil, drop-nil}
 use Rattle.rules.specs.Lists.{Bytes}
+use Rattle.listing.specs.declared.put.Writer.{Writer}
 
 -- The bytes b, put into the window s, which is s' then. A position is how many bytes there are from it to the window's end: b
 -- starts at the position at and ends at r. What stands before the window, or behind it, is passed over.
@@ -18,39 +19,6 @@ put-none s at = record {
   left = omega arith;
   written = sym (rw (take-nil {A = ℕ} at, drop-nil {A = ℕ} (at - length s)) (append-nil (take (length s - at) s)));
 }
-
--- a byte inside the window
-pub put_one : (s : List ℕ) (at x : ℕ) → (at ≡ 0 → ⊥) → at ≤ length s
-    → Put s (set s (length s - at) x) at (x ∷ []) (at - 1)
-put_one s at x n h =
-    let p : 0 < at = omega (arith, n) in
-    let e : length s - (at - 1) ≡ suc (length s - at) = omega arith in
-    let z : at - length s ≡ 0 = omega arith in
-    record {
-      room = length-set s (length s - at) x;
-      left = refl;
-      written = rw (e, z, take_all at (x ∷ []) p) (take-suc-set s (length s - at) x (omega arith));
-    }
-
--- a byte before it
-pub put-before : (s : List ℕ) (at x : ℕ) → length s < at → Put s s at (x ∷ []) (at - 1)
-put-before s at x h =
-    let e : length s - (at - 1) ≡ 0 = omega arith in
-    let z : length s - at ≡ 0 = omega arith in
-    let l : length (take at (x ∷ [])) ≤ at - length s = omega (arith, length-take at (x ∷ [])) in
-    record {
-      room = refl;
-      left = refl;
-      written = rw (e, z) (sym (drop_of_length-le (take at (x ∷ [])) l));
-    }
-
--- a byte behind it
-pub put-behind : (s : List ℕ) (at x : ℕ) → at ≡ 0 → Put s s at (x ∷ []) 0
-put-behind s at x e = rw e (record {
-  room = refl;
-  left = refl;
-  written = sym (rw (drop-nil {A = ℕ} (0 - length s)) (append-nil (take (length s - 0) s)));
-})
 
 take-both : (n : ℕ) (a b : Bytes) → take n (a ++ b) ≡ take n a ++ take (n - length a) b
 take-both zero a b = rw (zero-sub (length a))
@@ -90,20 +58,27 @@ put_then {s} {s₁} {s₂} {at} {x} {r} {a} {b} h g =
 pub put_same : {s s' : List ℕ} {at r : ℕ} {a b : Bytes} → Put s s' at a r → a ≡ b → Put s s' at b r
 put_same h e = rw (← e) h
 
--- i bytes of b are put
-pub record Putting (s s' : List ℕ) (at : ℕ) (b : Bytes) (i to : ℕ) : Type 0 where
-  pub most : i ≤ length b
-  pub put : Put s s' at (take i b) to
+-- the bytes b put by a writer: its window and its texts stay the same ones
+pub record Puts (w w' : Writer) (b : Bytes) : Type 0 where
+  pub window : w'.window.ghost_name ≡ w.window.ghost_name
+  pub catalog : w'.catalog ≡ w.catalog
+  pub statement : w'.statement ≡ w.statement
+  pub put : Put w.window.now w'.window.now w.left b w'.left
 
-pub putting-none : (s : List ℕ) (at : ℕ) (b : Bytes) → Putting s s at b 0 at
-putting-none s at b = record { most = omega arith; put = put-none s at }
-
-pub putting-more : {s s' s'' : List ℕ} {at to r : ℕ} (b : Bytes) (i : ℕ) → Putting s s' at b i to → i < length b
-    → Put s' s'' to (get_or b i 0 ∷ []) r → Putting s s'' at b (i + 1) r
-putting-more b i h l g = record {
-  most = omega arith;
-  put = put_same (put_then h.put g) (sym (rw (add-one i) (take-suc b i 0 l)));
+pub puts-then : {w w₁ w₂ : Writer} {a b : Bytes} → Puts w w₁ a → Puts w₁ w₂ b → Puts w w₂ (a ++ b)
+puts-then h g = record {
+  window = g.window ∙ h.window;
+  catalog = g.catalog ∙ h.catalog;
+  statement = g.statement ∙ h.statement;
+  put = put_then h.put g.put;
 }
 
-pub putting-all : {s s' : List ℕ} {at to : ℕ} (b : Bytes) (i : ℕ) → Putting s s' at b i to → length b ≤ i → Put s s' at b to
-putting-all b i h l = put_same h.put (take_all i b l)
+pub puts-same : {w w' : Writer} {a b : Bytes} → Puts w w' a → a ≡ b → Puts w w' b
+puts-same h e = rw (← e) h
+
+pub puts-none : (w : Writer) → Puts w w []
+puts-none w = record { window = refl; catalog = refl; statement = refl; put = put-none w.window.now w.left }
+
+pub puts-more : {w w' w'' : Writer} (b : Bytes) (i : ℕ) → i < length b → Puts w w' (take i b) → Puts w' w'' (get_or b i 0 ∷ [])
+    → Puts w w'' (take (i + 1) b)
+puts-more b i l h g = puts-same (puts-then h g) (sym (rw (add-one i) (take-suc b i 0 l)))

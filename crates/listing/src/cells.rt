@@ -1,15 +1,23 @@
 // The lines of an area's cells: four numbers each, the first of them the kind.
 ghost use Rattle.std.specs.Prelude.{◌≡◌, [], ◌∷◌, ◌+◌, ◌*◌, ◌^◌, drop};
-ghost use Rattle.listing.specs.Fields.{Fields};
-ghost use Rattle.listing.specs.Lines.{Lines};
+ghost use Rattle.listing.specs.Fields.{Fields, FieldsIn};
+ghost use Rattle.listing.specs.Lines.{LinesIn};
 ghost use Rattle.listing.specs.Cells.{kind_word, value_rest, cell_fields, cell_line, cell_lines};
 
-use crate::put::{
-    put_bits, put_byte, put_bytes, put_field, put_integer, put_number, put_place, put_word,
-};
+use crate::put::Writer;
+use numbers::halves::joined;
 use numbers::number;
 
-// Kinds of cells: the first that is no constant, and the first with two operands.
+// Kinds of cells: the constants that have something behind the kind, the first that is no constant, the tests for null and
+// NaN, and the first with two operands.
+const BOOL: u32 = 2;
+
+const INTEGER: u32 = 3;
+
+const FLOAT: u32 = 4;
+
+const TEXT: u32 = 5;
+
 const COLUMN: u32 = 6;
 
 const IS_NULL: u32 = 14;
@@ -26,105 +34,75 @@ pub const HEADER: usize = 6;
 pub fn tail(s: &[u32], p: usize) -> &[u32]
     ensures { result.now ≡ drop p s.now }
 {
-    let n = s.len();
-    if n <= p {
-        return &s[n..];
-    }
-    &s[p..]
+    &s[p.min(s.len())..]
 }
 
-// A number of 64 bits from its halves.
-pub fn long(low: u32, high: u32) -> u64
-    ensures { result ≡ low + high * 2 ^ 32 }
-{
-    high as u64 * 0x100000000 + low as u64
-}
-
-// The word of a cell's kind.
-fn put_kind(out: &mut [u8], at: usize, k: u32) -> usize
-    ensures { Fields out.old out.new at (kind_word k ∷ []) result }
-{
-    put_word(
-        out,
-        at,
-        b" null bool int float text col  not fact ident neg sqrt  is is and or eq gt lt add div pow mul rem sub like ",
-        k,
-    )
-}
-
-// What stands behind a constant's kind k.
-pub fn put_constant(
-    out: &mut [u8],
-    at: usize,
-    catalog: &[u8],
-    statement: &[u8],
-    k: u32,
-    s: &[u32],
-) -> usize
-    ensures { Fields out.old out.new at (value_rest catalog.now statement.now k s.now) result }
-{
-    let a = number(s, 1);
-    let b = number(s, 2);
-    match k {
-        2 => put_word(out, at, b"f t ", a),
-        3 => put_integer(out, at, long(a, b)),
-        4 => put_bits(out, at, long(a, b)),
-        5 => put_place(out, at, catalog, statement, a, b),
-        _ => at,
-    }
-}
-
-// The fields of a cell, from its kind on.
-fn put_cell(out: &mut [u8], at: usize, catalog: &[u8], statement: &[u8], s: &[u32]) -> usize
-    ensures { Fields out.old out.new at (cell_fields catalog.now statement.now s.now) result }
-{
-    let k = number(s, 0);
-    let a = put_kind(out, at, k);
-    if k < COLUMN {
-        return put_constant(out, a, catalog, statement, k, s);
-    }
-    let b = put_number(out, a, number(s, 1));
-    if k == IS_NULL {
-        return put_field(out, b, b"null");
-    }
-    if k == IS_NAN {
-        let d = put_field(out, b, b"float");
-        return put_bits(out, d, long(number(s, 2), number(s, 3)));
-    }
-    if k < BINARY {
-        return b;
-    }
-    put_number(out, b, number(s, 2))
-}
-
-// The line of cell i.
-fn put_line(out: &mut [u8], at: usize, catalog: &[u8], statement: &[u8], i: u32, s: &[u32]) -> usize
-    ensures { Lines out.old out.new at (cell_line catalog.now statement.now i s.now) result }
-{
-    let a = put_bytes(out, at, b"cell");
-    let b = put_number(out, a, i);
-    let d = put_cell(out, b, catalog, statement, s);
-    put_byte(out, d, b'\n')
-}
-
-// The lines of the cells of an area.
-pub fn put_cells(out: &mut [u8], at: usize, catalog: &[u8], statement: &[u8], area: &[u32]) -> usize
-    ensures { Lines out.old out.new at (cell_lines catalog.now statement.now area.now) result }
-{
-    let n = number(area, 2);
-    let cells = tail(area, HEADER);
-    let mut to = at;
-    let mut i: u32 = 0;
-    while i < n {
-        to = put_line(
-            out,
-            to,
-            catalog,
-            statement,
-            i,
-            tail(cells, i as usize * CELL),
+impl<'a> Writer<'a> {
+    // The word of a cell's kind.
+    fn cell_word(&mut self, k: u32)
+        ensures { Fields self.old self.new (kind_word k ∷ []) }
+    {
+        self.word(
+            b" null bool int float text col  not fact ident neg sqrt  is is and or eq gt lt add div pow mul rem sub like ",
+            k,
         );
-        i += 1;
     }
-    to
+
+    // What stands behind a constant's kind k.
+    pub fn constant(&mut self, k: u32, s: &[u32])
+        ensures { FieldsIn self.old self.new (λ c q. value_rest c q k s.now) }
+    {
+        let a = number(s, 1);
+        let b = number(s, 2);
+        match k {
+            BOOL => self.word(b"f t ", a),
+            INTEGER => self.integer(joined(a, b)),
+            FLOAT => self.bits(joined(a, b)),
+            TEXT => self.place(a, b),
+            _ => {}
+        }
+    }
+
+    // The fields of a cell, from its kind on.
+    fn cell_fields(&mut self, s: &[u32])
+        ensures { FieldsIn self.old self.new (λ c q. cell_fields c q s.now) }
+    {
+        let k = number(s, 0);
+        self.cell_word(k);
+        if k < COLUMN {
+            return self.constant(k, s);
+        }
+        self.number(number(s, 1));
+        if k == IS_NULL {
+            return self.field(b"null");
+        }
+        if k == IS_NAN {
+            self.field(b"float");
+            return self.bits(joined(number(s, 2), number(s, 3)));
+        }
+        if k < BINARY {
+            return;
+        }
+        self.number(number(s, 2));
+    }
+
+    // The line of cell i.
+    fn cell(&mut self, i: u32, s: &[u32])
+        ensures { LinesIn self.old self.new (λ c q. cell_line c q i s.now) }
+    {
+        self.bytes(b"cell");
+        self.number(i);
+        self.cell_fields(s);
+        self.byte(b'\n');
+    }
+
+    // The lines of the cells of an area.
+    pub fn cells(&mut self, area: &[u32])
+        ensures { LinesIn self.old self.new (λ c q. cell_lines c q area.now) }
+    {
+        let cells = tail(area, HEADER);
+        for i in 0..number(area, 2) {
+            self.cell(i, tail(cells, i as usize * CELL));
+        }
+    }
 }

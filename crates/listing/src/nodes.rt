@@ -1,160 +1,162 @@
 // The lines of an area's nodes: the kind, how many numbers follow, and those.
 ghost use Rattle.std.specs.Prelude.{◌≡◌, [], ◌∷◌, ◌+◌, get_or, drop, take};
-ghost use Rattle.listing.specs.Fields.{Fields};
-ghost use Rattle.listing.specs.Lines.{Lines};
+ghost use Rattle.listing.specs.Fields.{Fields, FieldsIn};
+ghost use Rattle.listing.specs.Lines.{LinesIn};
 ghost use Rattle.listing.specs.Nodes.{scan_fields, join_fields, filter_fields, aggregate_fields, project_fields};
 ghost use Rattle.listing.specs.Nodes.{order_fields, limit_fields, remap_fields, node_rest, node_word, node_line, node_lines};
 
-use crate::cells::{CELL, HEADER, long, tail};
-use crate::parts::{
-    put_alias, put_functions, put_given, put_items, put_keys, put_numbers, put_rows, put_targets,
-};
-use crate::put::{put_byte, put_bytes, put_long, put_number, put_place, put_word};
+use crate::cells::{CELL, HEADER, tail};
+use crate::put::Writer;
+use numbers::halves::joined;
 use numbers::number;
+
+// Kinds of nodes.
+const SCAN: u32 = 1;
+
+const VALUES: u32 = 2;
+
+const JOIN: u32 = 3;
+
+const FILTER: u32 = 4;
+
+const AGGREGATE: u32 = 5;
+
+const PROJECT: u32 = 6;
+
+const ORDER: u32 = 7;
+
+const OFFSET: u32 = 8;
+
+const LIMIT: u32 = 9;
+
+const REMAP: u32 = 10;
 
 // The first n numbers, or as many as there are.
 fn front(s: &[u32], n: usize) -> &[u32]
     ensures { result.now ≡ take n s.now }
 {
-    if n <= s.len() {
-        return &s[0..n];
+    &s[..n.min(s.len())]
+}
+
+// The numbers behind a node's own.
+fn behind(s: &[u32]) -> &[u32]
+    ensures { result.now ≡ drop (2 + get_or s.now 1 0) s.now }
+{
+    tail(s, 2 + number(s, 1) as usize)
+}
+
+impl<'a> Writer<'a> {
+    fn scan(&mut self, s: &[u32])
+        ensures { FieldsIn self.old self.new (λ c q. scan_fields c q s.now) }
+    {
+        self.place(number(s, 0), number(s, 1));
+        self.alias(number(s, 3), number(s, 4));
+        self.given(number(s, 2));
     }
-    &s[0..]
-}
 
-fn put_scan(out: &mut [u8], at: usize, catalog: &[u8], statement: &[u8], s: &[u32]) -> usize
-    ensures { Fields out.old out.new at (scan_fields catalog.now statement.now s.now) result }
-{
-    let a = put_place(out, at, catalog, statement, number(s, 0), number(s, 1));
-    let b = put_alias(out, a, catalog, statement, number(s, 3), number(s, 4));
-    put_given(out, b, number(s, 2))
-}
-
-fn put_join(out: &mut [u8], at: usize, s: &[u32]) -> usize
-    ensures { Fields out.old out.new at (join_fields s.now) result }
-{
-    let a = put_number(out, at, number(s, 0));
-    let b = put_number(out, a, number(s, 1));
-    let d = put_word(out, b, b"inner outer ", number(s, 2));
-    put_given(out, d, number(s, 3))
-}
-
-fn put_filter(out: &mut [u8], at: usize, s: &[u32]) -> usize
-    ensures { Fields out.old out.new at (filter_fields s.now) result }
-{
-    let a = put_number(out, at, number(s, 0));
-    put_number(out, a, number(s, 1))
-}
-
-fn put_aggregate(out: &mut [u8], at: usize, s: &[u32]) -> usize
-    ensures { Fields out.old out.new at (aggregate_fields s.now) result }
-{
-    let n = number(s, 1);
-    let a = put_number(out, at, number(s, 0));
-    let b = put_numbers(out, a, n, tail(s, 2));
-    put_functions(out, b, tail(s, 2 + n as usize))
-}
-
-fn put_project(out: &mut [u8], at: usize, catalog: &[u8], statement: &[u8], s: &[u32]) -> usize
-    ensures { Fields out.old out.new at (project_fields catalog.now statement.now s.now) result }
-{
-    let a = put_number(out, at, number(s, 0));
-    put_items(out, a, catalog, statement, tail(s, 1))
-}
-
-fn put_order(out: &mut [u8], at: usize, s: &[u32]) -> usize
-    ensures { Fields out.old out.new at (order_fields s.now) result }
-{
-    let a = put_number(out, at, number(s, 0));
-    put_keys(out, a, tail(s, 1))
-}
-
-// An offset or a limit.
-fn put_limit(out: &mut [u8], at: usize, s: &[u32]) -> usize
-    ensures { Fields out.old out.new at (limit_fields s.now) result }
-{
-    let a = put_number(out, at, number(s, 0));
-    put_long(out, a, long(number(s, 1), number(s, 2)))
-}
-
-fn put_remap(out: &mut [u8], at: usize, s: &[u32]) -> usize
-    ensures { Fields out.old out.new at (remap_fields s.now) result }
-{
-    let a = put_number(out, at, number(s, 0));
-    put_targets(out, a, tail(s, 1))
-}
-
-// What stands behind a node's kind k.
-fn put_rest(out: &mut [u8], at: usize, catalog: &[u8], statement: &[u8], k: u32, s: &[u32]) -> usize
-    ensures { Fields out.old out.new at (node_rest catalog.now statement.now k s.now) result }
-{
-    match k {
-        1 => put_scan(out, at, catalog, statement, s),
-        2 => put_rows(out, at, s),
-        3 => put_join(out, at, s),
-        4 => put_filter(out, at, s),
-        5 => put_aggregate(out, at, s),
-        6 => put_project(out, at, catalog, statement, s),
-        7 => put_order(out, at, s),
-        8 => put_limit(out, at, s),
-        9 => put_limit(out, at, s),
-        10 => put_remap(out, at, s),
-        _ => at,
+    fn join(&mut self, s: &[u32])
+        ensures { Fields self.old self.new (join_fields s.now) }
+    {
+        self.number(number(s, 0));
+        self.number(number(s, 1));
+        self.word(b"inner outer ", number(s, 2));
+        self.given(number(s, 3));
     }
-}
 
-// The word of a node's kind.
-fn put_kind(out: &mut [u8], at: usize, k: u32) -> usize
-    ensures { Fields out.old out.new at (node_word k ∷ []) result }
-{
-    put_word(
-        out,
-        at,
-        b" scan values join filter aggregate project order offset limit remap ",
-        k,
-    )
-}
-
-// The line of node i.
-fn put_line(out: &mut [u8], at: usize, catalog: &[u8], statement: &[u8], i: u32, s: &[u32]) -> usize
-    ensures { Lines out.old out.new at (node_line catalog.now statement.now i s.now) result }
-{
-    let k = number(s, 0);
-    let body = front(tail(s, 2), number(s, 1) as usize);
-    let a = put_bytes(out, at, b"node");
-    let b = put_number(out, a, i);
-    let d = put_kind(out, b, k);
-    let e = put_rest(out, d, catalog, statement, k, body);
-    put_byte(out, e, b'\n')
-}
-
-// Where the node behind the one at p starts, or the end of the numbers.
-fn behind(s: &[u32], p: usize) -> usize
-    ensures { drop result s.now ≡ drop (2 + get_or (drop p s.now) 1 0) (drop p s.now) }
-{
-    let n = 2 + number(tail(s, p), 1) as usize;
-    let len = s.len();
-    if len <= p {
-        return len;
+    fn filter(&mut self, s: &[u32])
+        ensures { Fields self.old self.new (filter_fields s.now) }
+    {
+        self.number(number(s, 0));
+        self.number(number(s, 1));
     }
-    if len - p <= n {
-        return len;
-    }
-    p + n
-}
 
-// The lines of the nodes of an area.
-pub fn put_nodes(out: &mut [u8], at: usize, catalog: &[u8], statement: &[u8], area: &[u32]) -> usize
-    ensures { Lines out.old out.new at (node_lines catalog.now statement.now area.now) result }
-{
-    let n = number(area, 3);
-    let mut p = HEADER + number(area, 2) as usize * CELL;
-    let mut to = at;
-    let mut i: u32 = 0;
-    while i < n {
-        to = put_line(out, to, catalog, statement, i, tail(area, p));
-        p = behind(area, p);
-        i += 1;
+    fn aggregate(&mut self, s: &[u32])
+        ensures { Fields self.old self.new (aggregate_fields s.now) }
+    {
+        let n = number(s, 1);
+        self.number(number(s, 0));
+        self.numbers(n, tail(s, 2));
+        self.functions(tail(s, 2 + n as usize));
     }
-    to
+
+    fn project(&mut self, s: &[u32])
+        ensures { FieldsIn self.old self.new (λ c q. project_fields c q s.now) }
+    {
+        self.number(number(s, 0));
+        self.items(tail(s, 1));
+    }
+
+    fn order(&mut self, s: &[u32])
+        ensures { Fields self.old self.new (order_fields s.now) }
+    {
+        self.number(number(s, 0));
+        self.keys(tail(s, 1));
+    }
+
+    // An offset or a limit.
+    fn limit(&mut self, s: &[u32])
+        ensures { Fields self.old self.new (limit_fields s.now) }
+    {
+        self.number(number(s, 0));
+        self.long(joined(number(s, 1), number(s, 2)));
+    }
+
+    fn remap(&mut self, s: &[u32])
+        ensures { Fields self.old self.new (remap_fields s.now) }
+    {
+        self.number(number(s, 0));
+        self.targets(tail(s, 1));
+    }
+
+    // What stands behind a node's kind k.
+    fn node_rest(&mut self, k: u32, s: &[u32])
+        ensures { FieldsIn self.old self.new (λ c q. node_rest c q k s.now) }
+    {
+        match k {
+            SCAN => self.scan(s),
+            VALUES => self.rows(s),
+            JOIN => self.join(s),
+            FILTER => self.filter(s),
+            AGGREGATE => self.aggregate(s),
+            PROJECT => self.project(s),
+            ORDER => self.order(s),
+            OFFSET => self.limit(s),
+            LIMIT => self.limit(s),
+            REMAP => self.remap(s),
+            _ => {}
+        }
+    }
+
+    // The word of a node's kind.
+    fn node_word(&mut self, k: u32)
+        ensures { Fields self.old self.new (node_word k ∷ []) }
+    {
+        self.word(
+            b" scan values join filter aggregate project order offset limit remap ",
+            k,
+        );
+    }
+
+    // The line of node i.
+    fn node(&mut self, i: u32, s: &[u32])
+        ensures { LinesIn self.old self.new (λ c q. node_line c q i s.now) }
+    {
+        let k = number(s, 0);
+        self.bytes(b"node");
+        self.number(i);
+        self.node_word(k);
+        self.node_rest(k, front(tail(s, 2), number(s, 1) as usize));
+        self.byte(b'\n');
+    }
+
+    // The lines of the nodes of an area.
+    pub fn nodes(&mut self, area: &[u32])
+        ensures { LinesIn self.old self.new (λ c q. node_lines c q area.now) }
+    {
+        let mut rest = tail(area, HEADER + number(area, 2) as usize * CELL);
+        for i in 0..number(area, 3) {
+            self.node(i, rest);
+            rest = behind(rest);
+        }
+    }
 }

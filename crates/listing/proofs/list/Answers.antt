@@ -7,4 +7,4 @@ use Rattle.listing.proofs.list.Goals as goal
 
 pub returns : goal.returns
 unfolding show_area
-returns c = held _ (search rules) refl c.put_area-left.ensures.put _ c.told.ensures
+returns c = held _ (search rules) refl c.area.ensures.puts.put _ c.told.ensures

@@ -1,0 +1,10 @@
+-- `column`: the fields of the column, and LF.
+use Rattle.rules.specs.Lines.{bytes}
+use Rattle.listing.specs.Fields.{fields-then}
+use Rattle.listing.specs.Lines.{line, lines_same}
+use Rattle.listing.specs.Own.{column_line}
+use Rattle.listing.proofs.put.Writer.column.Goals as goal
+
+pub returns : goal.returns
+unfolding column_line bytes
+returns c = lines_same (line c.bytes.ensures (fields-then c.place.ensures (fields-then c.word.ensures (fields-then c.word-2.ensures (fields-then c.word-3.ensures (fields-then c.word-4.ensures c.reference.ensures))))) c.byte.ensures) (λ d q. cc)

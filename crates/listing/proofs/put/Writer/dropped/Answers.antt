@@ -1,0 +1,10 @@
+-- `dropped`: the first field, the name, whether it may be missing, and LF.
+use Rattle.rules.specs.Lines.{bytes}
+use Rattle.listing.specs.Fields.{fields-then}
+use Rattle.listing.specs.Lines.{line, lines_same}
+use Rattle.listing.specs.Own.{drop_line}
+use Rattle.listing.proofs.put.Writer.dropped.Goals as goal
+
+pub returns : goal.returns
+unfolding drop_line bytes
+returns c = lines_same (line c.bytes.ensures (fields-then c.place.ensures c.word.ensures) c.byte.ensures) (λ d q. cc)

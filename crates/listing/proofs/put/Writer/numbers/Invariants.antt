@@ -1,0 +1,9 @@
+-- `numbers`: the fields of the numbers counted are put.
+use Rattle.std.proofs.Common.{drop, ◌*◌}
+use Rattle.listing.specs.Fields.{FieldsIn}
+use Rattle.listing.specs.Lines.{listed}
+use Rattle.listing.specs.Nodes.{number_fields}
+use Rattle.listing.proofs.put.Writer.numbers.Given as goal
+
+abbrev pub invariant-loop-i : goal.invariant-loop-i
+invariant-loop-i l = FieldsIn l.fn.self l.self (λ d q. listed l.i (λ j. number_fields j (drop (j * 1) l.s)))
