@@ -1,8 +1,8 @@
 // The lines of an area's cells: four numbers each, the first of them the kind.
-ghost use Rattle.std.specs.Prelude.{◌≡◌, [], ◌∷◌, ◌+◌, ◌*◌, ◌^◌, drop};
-ghost use Rattle.listing.specs.Fields.{Fields, FieldsIn};
+ghost use Rattle.std.specs.Prelude.{◌≡◌, drop};
+ghost use Rattle.listing.specs.Fields.{FieldsIn};
 ghost use Rattle.listing.specs.Lines.{LinesIn};
-ghost use Rattle.listing.specs.Cells.{kind_word, value_rest, cell_fields, cell_line, cell_lines};
+ghost use Rattle.listing.specs.Cells.{value_rest, cell_fields, cell_line, cell_lines};
 
 use crate::put::Writer;
 use numbers::halves::joined;
@@ -38,16 +38,6 @@ pub fn tail(s: &[u32], p: usize) -> &[u32]
 }
 
 impl<'a> Writer<'a> {
-    // The word of a cell's kind.
-    fn cell_word(&mut self, k: u32)
-        ensures { Fields self.old self.new (kind_word k ∷ []) }
-    {
-        self.word(
-            b" null bool int float text col  not fact ident neg sqrt  is is and or eq gt lt add div pow mul rem sub like ",
-            k,
-        );
-    }
-
     // What stands behind a constant's kind k.
     pub fn constant(&mut self, k: u32, s: &[u32])
         ensures { FieldsIn self.old self.new (λ c q. value_rest c q k s.now) }
@@ -68,7 +58,10 @@ impl<'a> Writer<'a> {
         ensures { FieldsIn self.old self.new (λ c q. cell_fields c q s.now) }
     {
         let k = number(s, 0);
-        self.cell_word(k);
+        self.word(
+            b" null bool int float text col  not fact ident neg sqrt  is is and or eq gt lt add div pow mul rem sub like ",
+            k,
+        );
         if k < COLUMN {
             return self.constant(k, s);
         }

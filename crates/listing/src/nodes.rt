@@ -1,9 +1,9 @@
 // The lines of an area's nodes: the kind, how many numbers follow, and those.
-ghost use Rattle.std.specs.Prelude.{◌≡◌, [], ◌∷◌, ◌+◌, get_or, drop, take};
+ghost use Rattle.std.specs.Prelude.{◌≡◌, ◌+◌, get_or, drop, take};
 ghost use Rattle.listing.specs.Fields.{Fields, FieldsIn};
 ghost use Rattle.listing.specs.Lines.{LinesIn};
 ghost use Rattle.listing.specs.Nodes.{scan_fields, join_fields, filter_fields, aggregate_fields, project_fields};
-ghost use Rattle.listing.specs.Nodes.{order_fields, limit_fields, remap_fields, node_rest, node_word, node_line, node_lines};
+ghost use Rattle.listing.specs.Nodes.{order_fields, limit_fields, remap_fields, node_rest, node_line, node_lines};
 
 use crate::cells::{CELL, HEADER, tail};
 use crate::put::Writer;
@@ -127,16 +127,6 @@ impl<'a> Writer<'a> {
         }
     }
 
-    // The word of a node's kind.
-    fn node_word(&mut self, k: u32)
-        ensures { Fields self.old self.new (node_word k ∷ []) }
-    {
-        self.word(
-            b" scan values join filter aggregate project order offset limit remap ",
-            k,
-        );
-    }
-
     // The line of node i.
     fn node(&mut self, i: u32, s: &[u32])
         ensures { LinesIn self.old self.new (λ c q. node_line c q i s.now) }
@@ -144,7 +134,10 @@ impl<'a> Writer<'a> {
         let k = number(s, 0);
         self.bytes(b"node");
         self.number(i);
-        self.node_word(k);
+        self.word(
+            b" scan values join filter aggregate project order offset limit remap ",
+            k,
+        );
         self.node_rest(k, front(tail(s, 2), number(s, 1) as usize));
         self.byte(b'\n');
     }
