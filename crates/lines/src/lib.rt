@@ -29,13 +29,11 @@ fn lines_end(text: &[u8], at: usize, n: u32) -> usize
     ensures { result ≡ lines_end text.now at n }
 {
     let mut p = at;
-    let mut k = n;
-    while 0 < k {
+    for _ in 0..n {
         if text.len() <= p {
             return p;
         }
         p = text::line_end(text, p);
-        k -= 1;
     }
     p
 }

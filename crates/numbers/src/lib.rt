@@ -12,7 +12,7 @@ ghost use Rattle.std.proofs.lemmas.List.Edits.{sets};
 pub fn number(s: &[u32], i: usize) -> u32
     ensures { result ≡ get_or s.now i 0 }
 {
-    if i < s.len() { s[i] } else { 0 }
+    s.get(i).copied().unwrap_or(0)
 }
 
 // Four numbers from i on.

@@ -1,7 +1,7 @@
 -- Positions in a byte string: what stands there, and where the first of two bytes stands.
-use Rattle.std.specs.Prelude.{ℕ, suc, ◌+◌, ◌-◌, ◌≤◌, ◌<◌, ◌≡◌, refl, Bool, [], ◌∷◌, length, get_or, take}
+use Rattle.std.specs.Prelude.{◌⊎◌, ℕ, suc, ◌+◌, ◌-◌, ◌≤◌, ◌<◌, ◌≡◌, refl, Bool, [], ◌∷◌, length, get_or, take}
 use native.Mathlib.Omega.{arith}
-use Rattle.std.proofs.Common.{add-zero, add-one, drop_of_length-le, drop-cons, get_or-drop, take_all, length-take-le}
+use Rattle.std.proofs.Common.{inl, inr, add-zero, add-one, drop_of_length-le, drop-cons, get_or-drop, take_all, length-take-le}
 use Rattle.std.proofs.Math.Bool.{true, false}
 use Rattle.std.proofs.Math.Dec.{eqb}
 use Rattle.std.proofs.Math.ListN.{drop, length-drop}
@@ -36,17 +36,10 @@ module _ (x y : ℕ) (t : Bytes) (p : ℕ) where
   unfolding stop_at run
   stop-none h = rw (drop_of_length-le t h, add-zero)
 
-  pub stop-first : p < length t → get_or t p 0 ≡ x → stop_at x y t p ≡ p
+  pub stop-here : p < length t → (get_or t p 0 ≡ x) ⊎ ((get_or t p 0 ≡ x → ⊥) × (get_or t p 0 ≡ y)) → stop_at x y t p ≡ p
   unfolding stop_at run
-  stop-first h e = rw (step t p h, run, eq-eqb _ _ e) (add-zero p)
-
-  pub stop-second : p < length t → get_or t p 0 ≡ y → stop_at x y t p ≡ p
-  unfolding stop_at run
-  stop-second h e = rw (step t p h, zeroed (eqb (get_or t p 0) x) refl) (add-zero p)
-    where
-      zeroed : (b : Bool) → eqb (get_or t p 0) x ≡ b → run x y (get_or t p 0 ∷ drop (p + 1) t) ≡ 0
-      zeroed true f = rw (run, f)
-      zeroed false f = rw (run, f, eq-eqb _ _ e)
+  stop-here h (inl e) = rw (step t p h, run, eq-eqb _ _ e) (add-zero p)
+  stop-here h (inr e) = rw (step t p h, run, ne_eqb _ _ e.0, eq-eqb _ _ e.1) (add-zero p)
 
   pub stop_step : p < length t → (get_or t p 0 ≡ x → ⊥) → (get_or t p 0 ≡ y → ⊥) → stop_at x y t p ≡ stop_at x y t (p + 1)
   unfolding stop_at run

@@ -255,10 +255,10 @@ module _ (t : Bytes) (p : ℕ) (st ln : List ℕ) (n q e : ℕ) (k : n < kept_fi
         next = sym (line-hit t e l y) ∙ ended;
       }
 
-  pub unclosed : (c : ℕ) → c ≡ min kept_fields (n + 1 + 2) → length t ≤ e
+  unclosed-at : (c : ℕ) → c ≡ min kept_fields (n + 1 + 2) → length t ≤ e
       → Fields t p (record { starts = set (set (set st n q) (n + 1) e) (n + 1 + 1) e; lens = set (set (set ln n (e - q)) (n + 1) 0) (n + 1 + 1) 0; count = c; next = e })
   unfolding line_of Inside
-  unclosed c d l =
+  unclosed-at c d l =
       let st₁ = set st n q in
       let ln₁ = set ln n (e - q) in
       let st₂ = set st₁ (n + 1) e in
@@ -281,13 +281,17 @@ module _ (t : Bytes) (p : ℕ) (st ln : List ℕ) (n q e : ℕ) (k : n < kept_fi
         next = sym (line-none t e l) ∙ ended;
       }
 
+  pub unclosed : (c : ℕ) → c ≡ min kept_fields (n + 3) → length t ≤ e
+      → Fields t p (record { starts = set (set (set st n q) (n + 1) e) (n + 2) e; lens = set (set (set ln n (e - q)) (n + 1) 0) (n + 2) 0; count = c; next = e })
+  unclosed c d l = let s : n + 2 ≡ n + 1 + 1 = omega arith in rw s (unclosed-at c (d ∙ ap (min kept_fields) (omega arith)) l)
+
 -- ten fields are read
 first-fields : (t : Bytes) (p : ℕ) (st ln : List ℕ) (n q : ℕ) → n ≡ kept_fields → ((base : ℕ) → fields_at base t p ≡ fields_from base t st ln 0 n ++ fields_at base t q)
     → (base : ℕ) → fields_from base t st ln 0 n ≡ take kept_fields (fields (base + p) (drop p t))
 unfolding fields_at
 first-fields t p st ln n q e h base = rw (h base) (sym (take_at (fields_from base t st ln 0 n) (fields_at base t q) kept_fields (fields-length base t st ln 0 n ∙ e)))
 
-pub filled : (t : Bytes) (p : ℕ) (st ln : List ℕ) (n q e : ℕ) → n ≤ kept_fields → kept_fields ≤ n → Reading t p st ln n q → e ≡ line_end t q
-    → Fields t p (record { starts = st; lens = ln; count = n; next = e })
+pub filled : (t : Bytes) (p : ℕ) (st ln : List ℕ) (n q e : ℕ) → n ≡ kept_fields → Reading t p st ln n q → e ≡ line_end t q
+    → Fields t p (record { starts = st; lens = ln; count = kept_fields; next = e })
 unfolding line_of
-filled t p st ln n q e h g r x = record { fields = first-fields t p st ln n q (omega arith) r.is; inside = r.inside; next = x ∙ r.end }
+filled t p st ln n q e h r x = rw (← h) (record { fields = first-fields t p st ln n q h r.is; inside = r.inside; next = x ∙ r.end })

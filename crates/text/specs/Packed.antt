@@ -4,7 +4,7 @@ use native.Mathlib.Omega.{arith}
 use Rattle.std.proofs.Math.Path.{refl, sym}
 use Rattle.std.proofs.Common.{ap, ◌∙◌, drop_of_length-le}
 use Rattle.std.proofs.Math.ListN.{length, get_or, drop}
-use borrow.Author.Tests.{eqb-true, eqb-false, ne_eqb, ltb-true, lt-ltb, le-ltb}
+use borrow.Author.Tests.{eq-eqb, eqb-true, eqb-false, ne_eqb, ltb-true, lt-ltb, le-ltb}
 use Rattle.rules.specs.Lists.{Bytes, same}
 use Rattle.text.specs.Bytes.{step}
 use Rattle.text.specs.Order.{same_true, same_self}
@@ -180,6 +180,20 @@ pub find_none : (ns : List ℕ) (r : ℕ) → Apart ns r → find_number ns r �
 unfolding find_number Apart
 find_none [] r a = refl
 find_none (n ∷ ns) r a = rw (find_number, ne_eqb r n a.0) (ap suc (find_none ns r a.1))
+
+-- the search from a place on
+module _ (ns : List ℕ) (r i : ℕ) where
+  pub number-here : i < length ns → get_or ns i 0 ≡ r → find_number (drop i ns) r ≡ 0
+  unfolding find_number
+  number-here h e = rw (step ns i h, find_number, eq-eqb _ _ (sym e))
+
+  pub number-on : i < length ns → (get_or ns i 0 ≡ r → ⊥) → find_number (drop i ns) r ≡ suc (find_number (drop (i + 1) ns) r)
+  unfolding find_number
+  number-on h e = rw (step ns i h, find_number, ne_eqb r _ (λ z. e (sym z)))
+
+  pub number-end : length ns ≤ i → find_number (drop i ns) r ≡ 0
+  unfolding find_number
+  number-end h = rw (drop_of_length-le ns h)
 
 -- words that their numbers stand for
 pub record Keywords (words : Bytes) (ns : List ℕ) : Type 0 where

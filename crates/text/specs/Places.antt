@@ -1,5 +1,7 @@
 -- Places in both texts, by address and length.
-use Rattle.std.specs.Prelude.{ℕ, ◌-◌, ◌≤◌, ◌<◌, ◌≡◌, take, drop}
+use Rattle.std.specs.Prelude.{ℕ, ◌-◌, ◌≤◌, ◌<◌, ◌≡◌, length, take, drop}
+use Rattle.std.proofs.Common.{arith, length-take}
+use Rattle.std.proofs.Math.Decide.{dec_lt}
 use borrow.Author.Tests.{lt-ltb, le-ltb}
 use Rattle.rules.specs.Limits.{most_bytes}
 use Rattle.rules.specs.Lists.{Bytes}
@@ -13,3 +15,9 @@ module _ (c q : Bytes) (a n : ℕ) where
   pub bytes-statement : most_bytes ≤ a → bytes_at c q a n ≡ take n (drop (a - most_bytes) q)
   unfolding bytes_at
   bytes-statement h = rw (bytes_at, le-ltb a most_bytes h)
+
+  pub bytes-most : length (bytes_at c q a n) ≤ n
+  bytes-most = elim (dec_lt a most_bytes) [
+    | yes y ↦ rw (bytes-catalog (omega (arith, y))) (omega (arith, length-take n (drop a c)))
+    | no y ↦ rw (bytes-statement (omega (arith, y))) (omega (arith, length-take n (drop (a - most_bytes) q)))
+  ]

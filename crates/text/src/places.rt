@@ -31,74 +31,32 @@ pub fn bytes_at<'a>(catalog: &'a [u8], statement: &'a [u8], a: u32, n: u32) -> &
     if a < MOST_BYTES {
         return part(catalog, a as usize, n as usize);
     }
-    let b = a - MOST_BYTES;
-    part(statement, b as usize, n as usize)
+    part(statement, (a - MOST_BYTES) as usize, n as usize)
 }
 
 // Whether the n bytes at an address, or as many of them as there are, are x.
 pub fn holds_at(catalog: &[u8], statement: &[u8], a: u32, n: u32, x: &[u8]) -> bool
     ensures { result ≡ same (bytes_at catalog.now statement.now a n) x.now }
 {
-    if a < MOST_BYTES {
-        return equal(part(catalog, a as usize, n as usize), x);
-    }
-    let b = a - MOST_BYTES;
-    equal(part(statement, b as usize, n as usize), x)
+    equal(bytes_at(catalog, statement, a, n), x)
 }
 
 // Whether the bytes at two places, or as many of them as there are, are the same.
 pub fn same_bytes(catalog: &[u8], statement: &[u8], a: u32, n: u32, b: u32, m: u32) -> bool
     ensures { result ≡ same (bytes_at catalog.now statement.now a n) (bytes_at catalog.now statement.now b m) }
 {
-    if b < MOST_BYTES {
-        return holds_at(
-            catalog,
-            statement,
-            a,
-            n,
-            part(catalog, b as usize, m as usize),
-        );
-    }
-    let d = b - MOST_BYTES;
-    holds_at(
-        catalog,
-        statement,
-        a,
-        n,
-        part(statement, d as usize, m as usize),
+    equal(
+        bytes_at(catalog, statement, a, n),
+        bytes_at(catalog, statement, b, m),
     )
-}
-
-// The order of the n bytes at an address, or as many of them as there are, and x.
-fn order_with(catalog: &[u8], statement: &[u8], a: u32, n: u32, x: &[u8]) -> Ordering
-    ensures { result ≡ order_of (bytes_at catalog.now statement.now a n) x.now }
-{
-    if a < MOST_BYTES {
-        return compare(part(catalog, a as usize, n as usize), x);
-    }
-    let b = a - MOST_BYTES;
-    compare(part(statement, b as usize, n as usize), x)
 }
 
 // The order of the bytes at two places.
 pub fn order_texts(catalog: &[u8], statement: &[u8], a: u32, n: u32, b: u32, m: u32) -> Ordering
     ensures { result ≡ order_of (bytes_at catalog.now statement.now a n) (bytes_at catalog.now statement.now b m) }
 {
-    if b < MOST_BYTES {
-        return order_with(
-            catalog,
-            statement,
-            a,
-            n,
-            part(catalog, b as usize, m as usize),
-        );
-    }
-    let d = b - MOST_BYTES;
-    order_with(
-        catalog,
-        statement,
-        a,
-        n,
-        part(statement, d as usize, m as usize),
+    compare(
+        bytes_at(catalog, statement, a, n),
+        bytes_at(catalog, statement, b, m),
     )
 }

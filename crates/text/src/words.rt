@@ -1,7 +1,8 @@
 // Keywords: as the numbers that `packed` makes of them, the word's bytes, the first one lowest, below a 1; and tables of them.
-ghost use Rattle.std.specs.Prelude.{◌≡◌, take, drop};
+ghost use Rattle.std.specs.Prelude.{◌≡◌, ℕ, List, take, drop};
 ghost use Rattle.rules.specs.Lines.{bytes};
 ghost use Rattle.text.specs.Words.{find, words_of};
+ghost use Rattle.text.specs.Packed.{Keywords};
 
 // Expressions that are no literals.
 pub const OP: u64 = 0x1706f;
@@ -92,79 +93,57 @@ pub const SET: u64 = 0x1746573;
 
 pub const COLUMN: u64 = 0x16e6d756c6f63;
 
+// Where the n bytes at a stand in a table of keywords' numbers, or how many there are.
+fn place_in(table: &[u64], t: &[u8], a: usize, n: usize) -> usize
+    ensures { (words : List ℕ) → Keywords words table.now → result ≡ find (words_of words) (take n (drop a t.now)) }
+{
+    let w = crate::packed(t, a, n);
+    for i in 0..table.len() {
+        if table[i] == w {
+            return i;
+        }
+    }
+    table.len()
+}
+
 // Which keyword of an expression that is no literal the n bytes at a are: its number in the table, or how many there are.
 pub fn head(t: &[u8], a: usize, n: usize) -> usize
     ensures { result ≡ find (words_of (bytes "op col fn star ")) (take n (drop a t.now)) }
 {
-    let w = crate::packed(t, a, n);
-    match w {
-        OP => 0,
-        COL => 1,
-        FN => 2,
-        STAR => 3,
-        _ => 4,
-    }
+    place_in(&[OP, COL, FN, STAR], t, a, n)
 }
 
 // Which keyword of a literal the n bytes at a are: its number in the table, or how many there are.
 pub fn literal(t: &[u8], a: usize, n: usize) -> usize
     ensures { result ≡ find (words_of (bytes "null bool int float text ")) (take n (drop a t.now)) }
 {
-    let w = crate::packed(t, a, n);
-    match w {
-        NULL => 0,
-        BOOL => 1,
-        INT => 2,
-        FLOAT => 3,
-        TEXT => 4,
-        _ => 5,
-    }
+    place_in(&[NULL, BOOL, INT, FLOAT, TEXT], t, a, n)
 }
 
 // Which keyword of a type the n bytes at a are: its number in the table, or how many there are.
 pub fn datatype(t: &[u8], a: usize, n: usize) -> usize
     ensures { result ≡ find (words_of (bytes "bool int float text ")) (take n (drop a t.now)) }
 {
-    let w = crate::packed(t, a, n);
-    match w {
-        BOOL => 0,
-        INT => 1,
-        FLOAT => 2,
-        TEXT => 3,
-        _ => 4,
-    }
+    place_in(&[BOOL, INT, FLOAT, TEXT], t, a, n)
 }
 
 // Which keyword of a column that may be null or not the n bytes at a are: its number in the table, or how many there are.
 pub fn nullable(t: &[u8], a: usize, n: usize) -> usize
     ensures { result ≡ find (words_of (bytes "null notnull ")) (take n (drop a t.now)) }
 {
-    let w = crate::packed(t, a, n);
-    match w {
-        NULL => 0,
-        NOTNULL => 1,
-        _ => 2,
-    }
+    place_in(&[NULL, NOTNULL], t, a, n)
 }
 
 // Which keyword of a statement's part the n bytes at a are: its number in the table, or how many there are.
 pub fn part(t: &[u8], a: usize, n: usize) -> usize
     ensures { result ≡ find (words_of (bytes "item where group having order offset limit columns name row set column ")) (take n (drop a t.now)) }
 {
-    let w = crate::packed(t, a, n);
-    match w {
-        ITEM => 0,
-        WHERE => 1,
-        GROUP => 2,
-        HAVING => 3,
-        ORDER => 4,
-        OFFSET => 5,
-        LIMIT => 6,
-        COLUMNS => 7,
-        NAME => 8,
-        ROW => 9,
-        SET => 10,
-        COLUMN => 11,
-        _ => 12,
-    }
+    place_in(
+        &[
+            ITEM, WHERE, GROUP, HAVING, ORDER, OFFSET, LIMIT, COLUMNS, NAME, ROW, SET, COLUMN,
+        ],
+        t,
+        a,
+        n,
+    )
 }

@@ -1,16 +1,18 @@
--- `lines_end`: k lines on from p is n lines on from the start.
-use mathlib.Core.Path.{refl, sym, ◌∙◌}
-use Rattle.lines.specs.Spans.{end_stays, end-next, end_none}
+-- `lines_end`: the lines left, on from p, are n lines on from the start.
+use native.Mathlib.Omega.{arith}
+use mathlib.Core.Path.{◌≡◌, sym, ap, ◌∙◌}
+use Prim.Native.Nat.{◌-◌, ◌+◌}
+use Rattle.lines.specs.Spans.{lines_end, end_stays, end-next, end_none}
 use Rattle.lines.proofs.lines_end.Goals as goal
 
-pub loop-k-init : goal.loop-k-init
-loop-k-init c = refl
+pub loop-init : goal.loop-init
+loop-init c = ap (lines_end c.args.text.now c.args.at) (omega arith)
 
 pub returns-then-text-p : goal.returns-then-text-p
-returns-then-text-p c = sym (end_stays _ _ _ c.if-text-p.true) ∙ c.loop-k.invariant
+returns-then-text-p c = sym (end_stays _ _ _ c.if-text-p.true) ∙ c.loop.invariant
 
-pub loop-k-preserved : goal.loop-k-preserved
-loop-k-preserved c = end-next _ _ _ _ c.loop-k-test.true c.line_end-p.ensures ∙ c.loop-k.invariant
+pub loop-preserved : goal.loop-preserved
+loop-preserved c = let e : c.args.n - (c.loop.counter + 1) ≡ c.args.n - c.loop.counter - 1 = omega arith in rw e (end-next _ _ _ _ (omega arith) c.line_end-p.ensures ∙ c.loop.invariant)
 
 pub returns : goal.returns
-returns c = sym (end_none _ _ _ c.loop-k-test.false) ∙ c.loop-k.invariant
+returns c = sym (end_none _ _ _ (omega arith)) ∙ c.loop.invariant

@@ -10,14 +10,8 @@ loop-i-init c = packing-begin _
 pub returns-then-v-ge-ROOM : goal.returns-then-v-ge-ROOM
 returns-then-v-ge-ROOM c = packed-as _ _ _ c.part-word.ensures (packing-long _ _ _ c.loop-i-test.true c.loop-i.invariant c.if-v-ge-ROOM.true)
 
-pub overflow_cast-v : goal.overflow_cast-v
-overflow_cast-v c = omega (arith, c.shared_slice_known-in-loop-i-1.given (c.loop-i.i - 1))
-
-pub overflow_add-v : goal.overflow_add-v
-overflow_add-v c = omega (arith, c.shared_slice_known-in-loop-i-1.given (c.loop-i.i - 1), c.if-v-ge-ROOM.false)
-
 pub loop-i-preserved : goal.loop-i-preserved
-loop-i-preserved c = packing-step _ _ _ c.loop-i-test.true c.loop-i.invariant c.if-v-ge-ROOM.false (omega (arith, c.shared_slice_known-in-loop-i-1.given (c.loop-i.i - 1)))
+loop-i-preserved c = packing-step _ _ _ c.loop-i-test.true c.loop-i.invariant c.if-v-ge-ROOM.false (omega (arith, c.type_inv.word (c.loop-i.i - 1)))
 
 pub returns : goal.returns
 returns c = packed-as _ _ _ c.part-word.ensures (packing-end _ _ _ c.loop-i-test.false c.loop-i.invariant)

@@ -1,16 +1,13 @@
 -- `stop_at`: from here on the first such byte is the one that is looked for.
 use mathlib.Core.Path.{refl, sym, ◌∙◌}
-use Rattle.text.specs.Bytes.{stop-none, stop-first, stop-second, stop_step}
+use Rattle.text.specs.Bytes.{stop-none, stop-here, stop_step}
 use Rattle.text.proofs.stop_at.Goals as goal
 
 pub loop-i-init : goal.loop-i-init
 loop-i-init c = refl
 
 pub returns-then-b-x : goal.returns-then-b-x
-returns-then-b-x c = sym (stop-first _ _ _ _ c.loop-i-test.true c.if-b-x.true) ∙ c.loop-i.invariant
-
-pub returns-then-b-y : goal.returns-then-b-y
-returns-then-b-y c = sym (stop-second _ _ _ _ c.loop-i-test.true c.if-b-y.true) ∙ c.loop-i.invariant
+returns-then-b-x c = sym (stop-here _ _ _ _ c.loop-i-test.true c.then-b-x.either) ∙ c.loop-i.invariant
 
 pub loop-i-preserved : goal.loop-i-preserved
 loop-i-preserved c = sym (stop_step _ _ _ _ c.loop-i-test.true c.if-b-x.false c.if-b-y.false) ∙ c.loop-i.invariant

@@ -1,11 +1,9 @@
--- `length_at`: the text by the address.
-use mathlib.Core.Path.{sym, ap, ◌∙◌}
+-- `length_at`: no more than n bytes.
+use native.Mathlib.Omega.{arith}
+use Prim.Native.Nat.{◌≤◌}
 use lib.ListN.{length}
-use Rattle.text.specs.Places.{bytes-catalog, bytes-statement}
+use Rattle.text.specs.Places.{bytes-most}
 use Rattle.text.proofs.lengths.length_at.Goals as goal
 
-pub returns-then-a-lt-MOST_BYTES : goal.returns-then-a-lt-MOST_BYTES
-returns-then-a-lt-MOST_BYTES c = c.length_in.ensures ∙ sym (ap length (bytes-catalog _ _ _ _ c.if-a-lt-MOST_BYTES.true))
-
-pub returns : goal.returns
-returns c = c.length_in-2.ensures ∙ sym (ap length (bytes-statement _ _ _ _ c.if-a-lt-MOST_BYTES.false))
+pub overflow_cast-result : goal.overflow_cast-result
+overflow_cast-result c = let k : length c.bytes_at.result.now ≤ c.args.n = rw c.bytes_at.ensures (bytes-most _ _ _ _) in omega (arith, c.ranges.n)
