@@ -1,6 +1,6 @@
 -- Entries of a node's record appended one after the other: the cells of their expressions to the area, their numbers to
 -- the record. A loop over the rows of groups or of functions.
-use Rattle.std.specs.Prelude.{ℕ, suc, ◌+◌, ◌*◌, ◌≤◌, ◌<◌, refl, length, get_or, take, drop}
+use Rattle.std.specs.Prelude.{ℕ, suc, ◌+◌, ◌*◌, ◌≤◌, ◌<◌, refl, length, get_or, take, drop, Ok, Err}
 use Rattle.std.proofs.Common.{arith, add-one, ◌∙◌, drop_of_length-le, drop-cons}
 use Rattle.std.proofs.Math.Path.{◌≡◌, sym, ap}
 use mathlib.Core.List.{List, [], ◌∷◌, ◌++◌, map, append-nil, append_assoc}
@@ -15,11 +15,10 @@ use Rattle.appends.specs.Area.{cells_numbers, cells-numbers-append}
 use Rattle.appends.specs.Lists.Each.{after, emit_each, emit_entry, after_none, each_step, each-stop, each-done}
 use Rattle.plan.specs.Layout.{cells_end}
 use Rattle.plan.specs.Cells.{Room, room-less}
-use Rattle.plan.specs.Emits.{written_of, Emits, accepted}
+use Rattle.plan.specs.Emits.{Written, written_of, Emits, accepted}
 use Rattle.plan.specs.Appended.{Appended, appended-none}
-use Rattle.plan.specs.Steps.{Refuses}
-use Rattle.plan.specs.declared.cells.Written.{Written}
-use Rattle.plan.specs.declared.cells.Written.TheVariants as W
+use Rattle.plan.specs.Steps.{RefusedWith}
+use Rattle.numbers.specs.declared.refusals.Refusal.{Refusal}
 use Rattle.build_aggregate.specs.Functions.{step_of}
 
 -- WHAT IS APPENDED
@@ -45,40 +44,27 @@ step-gave (refused w) xs m e = absurd (let z : ◌≡◌ {A = ℕ} 0 1 = cc in o
 
 pub gave : {D : Type 0} {num : D → List ℕ} {a : Answer (List Cell × D × ℕ)} {n k k' : ℕ}
     {area area' nodes nodes' : List ℕ} {x : Written} (m : ℕ) → Lists num a n k k' area area' nodes nodes' x
-    → x ≡ W.Done m → Gave a m
+    → x ≡ Ok m → Gave a m
 gave {a = a} m l e = let d = accepted m l.emits e in step-gave a d.cells m d.is
 
 -- a refusal
 pub gave-refused : {D : Type 0} {num : D → List ℕ} {a : Answer (List Cell × D × ℕ)} {n k k' : ℕ}
-    {area area' nodes nodes' : List ℕ} {x : Written} (z l : ℕ) → Lists num a n k k' area area' nodes nodes' x
-    → x ≡ W.Refused z l → Refuses a z l
+    {area area' nodes nodes' : List ℕ} {x : Written} (w : Refusal) → Lists num a n k k' area area' nodes nodes' x
+    → x ≡ Err w → RefusedWith a w
 unfolding step_of ◌>>=◌ written_of
-gave-refused {D = D} {a = a} z l h e = go a (sym e ∙ h.emits.answer)
+gave-refused {D = D} {a = a} w h e = go a (sym e ∙ h.emits.answer)
   where
-    go : (a : Answer (List Cell × D × ℕ)) → W.Refused z l ≡ written_of (step_of a) → Refuses a z l
+    go : (a : Answer (List Cell × D × ℕ)) → ◌≡◌ {A = Written} (Err w) (written_of (step_of a)) → RefusedWith a w
     go (ok p) g = absurd (let y : ◌≡◌ {A = ℕ} 0 1 = cc in omega arith)
-    go (refused w) g = record {
-      why = w;
-      number = ap first g;
-      line = ap second g;
-      is = refl;
-    }
-      where
-        first : Written → ℕ
-        first (W.Done m) = z
-        first (W.Refused a b) = a
-
-        second : Written → ℕ
-        second (W.Done m) = l
-        second (W.Refused a b) = b
+    go (refused v) g = record { why = v; is = refl; noted' = cc }
 
 pub lists-refused : {D : Type 0} {num : D → List ℕ} {a : Answer (List Cell × D × ℕ)} {n k k' : ℕ}
-    {area area' nodes nodes' : List ℕ} (z l : ℕ) → Refuses a z l → length area' ≡ length area
-    → length nodes' ≡ length nodes → Lists num a n k k' area area' nodes nodes' (W.Refused z l)
+    {area area' nodes nodes' : List ℕ} (w : Refusal) → RefusedWith a w → length area' ≡ length area
+    → length nodes' ≡ length nodes → Lists num a n k k' area area' nodes nodes' (Err w)
 unfolding step_of ◌>>=◌ written_of
-lists-refused {a = a} z l r p q = record {
+lists-refused {a = a} w r p q = record {
   emits = record {
-    answer = (λ i. W.Refused (r.number i) (r.line i)) ∙ sym (rw r.is);
+    answer = ap Err r.noted' ∙ sym (rw r.is);
     kept = p;
     cells = λ cs m e. ok-not-refused _ r.why (sym e ∙ rw r.is);
   };
@@ -110,7 +96,7 @@ module _ {B C : Type 0} (L : Listing B C) where
       : Type 0 where
     pub is : (h : ℕ) → Lists L.num (emit_each L.key L.mark (L.build h) n (map tree rows))
         n k (k + L.each * length rows) area area' nodes nodes' x
-    pub most : (m : ℕ) → x ≡ W.Done m → m ≤ n + 3 * total (λ r. size (tree r)) rows
+    pub most : (m : ℕ) → x ≡ Ok m → m ≤ n + 3 * total (λ r. size (tree r)) rows
 
   -- A LOOP: the entries so far, and the rest
   pub record Looping (h n k : ℕ) (area₀ nodes₀ : List ℕ) (es rest : List Expr) (m j : ℕ) (area nodes : List ℕ)
@@ -139,7 +125,7 @@ module _ {B C : Type 0} (L : Listing B C) where
       (e : Expr) (rest : List Expr) (s : Looping h n k area₀ nodes₀ es (e ∷ rest) m j area nodes)
       (l : Lists (λ c. L.num (c ∷ [])) (emit_entry L.key L.mark (L.build h) m e)
       m j (j + L.each) area area' nodes nodes' x) where
-    more : (m' : ℕ) → x ≡ W.Done m' → Looping h n k area₀ nodes₀ es rest m' (j + L.each) area' nodes'
+    more : (m' : ℕ) → x ≡ Ok m' → Looping h n k area₀ nodes₀ es rest m' (j + L.each) area' nodes'
     unfolding step_of ◌>>=◌
     more m' d =
         let g = gave m' l d in
@@ -159,21 +145,19 @@ module _ {B C : Type 0} (L : Listing B C) where
           numbers = L.on s.entries g.entry s.numbers (l.numbers g.cells g.entry m' g.is);
         }
 
-    stopped : (z y : ℕ) → x ≡ W.Refused z y
-        → Refuses (emit_each L.key L.mark (L.build h) n es) z y
-    stopped z y d =
-        let r = gave-refused z y l d in
+    stopped : (w : Refusal) → x ≡ Err w → RefusedWith (emit_each L.key L.mark (L.build h) n es) w
+    stopped w d =
+        let r = gave-refused w l d in
         record {
           why = r.why;
-          number = r.number;
-          line = r.line;
+          noted' = r.noted';
           is = sym s.whole ∙ each-stop L.key L.mark (L.build h) (s.cells, s.entries, m) e rest r.why
               r.is;
         }
 
   finished : {h n k m j : ℕ} {area₀ nodes₀ area nodes : List ℕ} {es : List Expr}
       → Looping h n k area₀ nodes₀ es [] m j area nodes
-      → Lists L.num (emit_each L.key L.mark (L.build h) n es) n k j area₀ area nodes₀ nodes (W.Done m)
+      → Lists L.num (emit_each L.key L.mark (L.build h) n es) n k j area₀ area nodes₀ nodes (Ok m)
   unfolding step_of ◌>>=◌ written_of
   finished {h} {n} {k} {m} {j} {area₀} {nodes₀} {area} {nodes} {es} s =
       let e : emit_each L.key L.mark (L.build h) n es ≡ ok (s.cells, s.entries, m) =
@@ -196,10 +180,10 @@ module _ {B C : Type 0} (L : Listing B C) where
       }
 
 -- THE ROWS
-not_done : {z y m : ℕ} → W.Refused z y ≡ W.Done m → ⊥
+not_done : {w : Refusal} {m : ℕ} → ◌≡◌ {A = Written} (Err w) (Ok m) → ⊥
 not_done e = absurd (let z : ◌≡◌ {A = ℕ} 0 1 = cc in omega arith)
 
-done-same : {m m' : ℕ} → W.Done m ≡ W.Done m' → m ≡ m'
+done-same : {m m' : ℕ} → ◌≡◌ {A = Written} (Ok m) (Ok m') → m ≡ m'
 done-same e = cc
 
 -- the rows from the i-th on are still to be appended, and have room
@@ -243,7 +227,7 @@ module _ {B C : Type 0} {L : Listing B C} {tree : ℕ → Expr} {rows : List ℕ
 
     module _ {area' nodes' : List ℕ} {x : Written}
         (a : Adds L (tree (get_or rows i 0)) m (k + L.each * i) area area' nodes nodes' x) where
-      pub rows_more : (m' : ℕ) → x ≡ W.Done m' → RowLoop L tree rows n k area₀ nodes₀ (i + 1) m' area' nodes'
+      pub rows_more : (m' : ℕ) → x ≡ Ok m' → RowLoop L tree rows n k area₀ nodes₀ (i + 1) m' area' nodes'
       rows_more m' d =
           let g = gave m' (a.is 0) d in
           let w = L.within 0 m (tree (get_or rows i 0)) g.cells g.entry m' g.is in
@@ -257,15 +241,15 @@ module _ {B C : Type 0} {L : Listing B C} {tree : ℕ → Expr} {rows : List ℕ
             few = omega (arith, sizes, w, s.few);
           })
 
-      pub rows-stop : (z y : ℕ) → x ≡ W.Refused z y → AddsAll L tree rows n k area₀ area' nodes₀ nodes' x
-      rows-stop z y d = record {
-        is = λ h. rw d (lists-refused z y
-            (stopped L (tree (get_or rows i 0)) (map tree (drop (suc i) rows)) (looping h) (a.is h) z y d)
-            ((a.is h).emits.kept ∙ (s.at h).kept) ((a.is h).all ∙ (s.at h).numbers.all));
-        most = λ m' e. absurd (not_done (sym d ∙ e));
+      pub rows-stop : (w : Refusal) → x ≡ Err w → AddsAll L tree rows n k area₀ area' nodes₀ nodes' (Err w)
+      rows-stop w d = record {
+        is = λ h. lists-refused w
+            (stopped L (tree (get_or rows i 0)) (map tree (drop (suc i) rows)) (looping h) (a.is h) w d)
+            ((a.is h).emits.kept ∙ (s.at h).kept) ((a.is h).all ∙ (s.at h).numbers.all);
+        most = λ m' e. absurd (not_done e);
       }
 
-  pub rows-done : length rows ≤ i → i ≤ length rows → AddsAll L tree rows n k area₀ area nodes₀ nodes (W.Done m)
+  pub rows-done : length rows ≤ i → i ≤ length rows → AddsAll L tree rows n k area₀ area nodes₀ nodes (Ok m)
   rows-done g f =
       let e : i ≡ length rows = omega arith in
       record {

@@ -2,11 +2,11 @@
 use Prim.Native.Nat.{ℕ, zero, suc, ◌+◌, ◌*◌, ◌<◌}
 use Rattle.std.proofs.Common.{arith, add-one, sym, ◌∙◌, eqb-true}
 use Rattle.std.specs.Prelude as std
-use Rattle.std.specs.Prelude.{◌≡◌, Bool, true, false, ◌&&◌, List, [], ◌∷◌, length, eqb}
+use Rattle.std.specs.Prelude.{◌≡◌, Bool, true, false, ◌&&◌, List, [], ◌∷◌, length, eqb, Ok, Err}
 use Rattle.std.proofs.Math.Path.{refl, ap}
 use Rattle.std.proofs.Math.Option.{Option, none, some}
 use Rattle.std.proofs.lemmas.Bool.{eqb-false}
-use Rattle.rules.specs.Refusals.{refusal_number, Answer, ok, refused, ◌>>=◌, refuse, argument_count, nested_aggregate}
+use Rattle.rules.specs.Refusals.{Answer, ok, refused, ◌>>=◌, refuse, argument_count, nested_aggregate}
 use Rattle.rules.specs.Lists.{Bytes, named, is_some}
 use Rattle.rules.specs.Lines.{Word}
 use Rattle.rules.specs.Places.{bytes_at, word_at}
@@ -33,9 +33,9 @@ use Rattle.ast.specs.Aggregates.{named_of}
 use Rattle.ast.specs.declared.aggregates.Aggregate as A
 use Rattle.ast.specs.declared.row.Kind.TheVariants as K
 use Rattle.plan.specs.Cells.{Room, room-less, Puts}
-use Rattle.plan.specs.Emits.{Emitting, Emits, accepts, refuses, emits-same}
-use Rattle.plan.specs.declared.cells.Written.{Written}
-use Rattle.plan.specs.declared.cells.Written.TheVariants as W
+use Rattle.plan.specs.Emits.{Emitting, Written, Emits, accepts, refuses, emits-same}
+use Rattle.numbers.specs.Reasons.{named as named_reason}
+use Rattle.numbers.specs.declared.refusals.Reason.TheVariants as Re
 use Rattle.build_expression.specs.Calls.{one_argument}
 use Rattle.build_expression.specs.Builds.{scope_at, Builds}
 
@@ -168,7 +168,7 @@ counted-star s n sum e h = absurd (true-false h)
 module _ (c q : Bytes) (t xs ms ts : List ℕ) (g : Aggregate) (r n : ℕ) (area area' : List ℕ) where
   pub operand-constant : starred g (tree_at c q t r) ≡ true
       → Puts n (C.constant (value_at c q 2 1 0) ∷ []) area area'
-      → OperandBuilds c q t xs ms ts g r n area area' (W.Done (n + 1))
+      → OperandBuilds c q t xs ms ts g r n area area' (Ok (n + 1))
   unfolding value_at coded is_one
   operand-constant e p = record { is = λ h. accepts (n + 1) p refl (counted-star _ n g _ e) }
 
@@ -220,10 +220,11 @@ module _ {c q : Bytes} {t : List ℕ} {r : ℕ} {g : Aggregate} (e : Calls c q t
   name-is = rw tree_is at e.is
 
   pub function-count : {xs ms ts area area' : List ℕ} {n : ℕ} (l : ℕ) → (row.argument_count t r ≡ 1 → ⊥)
-      → l ≡ line_at t r → length area' ≡ length area → FunctionBuilds c q t xs ms ts r n area area' (W.Refused 14 l)
-  unfolding refusal_number
+      → l ≡ line_at t r → length area' ≡ length area → FunctionBuilds c q t xs ms ts r n area area'
+      (Err (record { reason = Re.ArgumentCount; line = l }))
+  unfolding named_reason
   function-count {n = n} l ne f k = record {
-    is = λ h. refuses argument_count (line_at t r) 14 l k refl f
+    is = λ h. refuses argument_count (line_at t r) Re.ArgumentCount l k refl f
         (ap (function_step _ n) tree_is ∙ step_count _ n _ _ g _ t _ _ name-is ne);
   }
 
@@ -243,10 +244,11 @@ module _ {c q : Bytes} {t : List ℕ} {r : ℕ} {g : Aggregate} (e : Calls c q t
         room-less _ (omega (arith, z)) h
 
     pub function-inner : {xs ms ts area area' : List ℕ} {n : ℕ} (l : ℕ) → contains (tree_at c q t (r + 1)) ≡ true
-        → l ≡ line_at t r → length area' ≡ length area → FunctionBuilds c q t xs ms ts r n area area' (W.Refused 15 l)
-    unfolding refusal_number
+        → l ≡ line_at t r → length area' ≡ length area → FunctionBuilds c q t xs ms ts r n area area'
+        (Err (record { reason = Re.NestedAggregate; line = l }))
+    unfolding named_reason
     function-inner {n = n} l h f k = record {
-      is = λ i. refuses nested_aggregate (line_at t r) 15 l k refl f
+      is = λ i. refuses nested_aggregate (line_at t r) Re.NestedAggregate l k refl f
           (ap (function_step _ n) one-tree ∙ step-nested _ n _ _ g _ name-is h);
     }
 

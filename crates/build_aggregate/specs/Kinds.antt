@@ -2,11 +2,11 @@
 use Prim.Native.Nat.{ℕ, ◌+◌, ◌-◌, ◌*◌, ◌≤◌, ◌<◌, pred}
 use Rattle.std.proofs.Common.{arith, sym, ◌∙◌}
 use Rattle.std.proofs.Math.Numerals.{sub-one}
-use Rattle.std.specs.Prelude.{◌≡◌, refl, Bool, true, false, List, [], ◌∷◌}
+use Rattle.std.specs.Prelude.{◌≡◌, refl, Bool, true, false, List, [], ◌∷◌, Ok, Err}
 use Rattle.std.proofs.Math.Path.{ap}
 use Rattle.std.proofs.Math.Option.{none, some}
-use Rattle.rules.specs.Refusals.{Reason, refusal_number, argument_count, nested_aggregate, unknown_function}
-use Rattle.rules.specs.Refusals.{statement, Answer, ok, refused, ◌>>=◌, refuse, refuse_if}
+use Rattle.rules.specs.Refusals.{Reason, argument_count, nested_aggregate, unknown_function}
+use Rattle.rules.specs.Refusals.{Answer, ok, refused, ◌>>=◌, refuse, refuse_if}
 use Rattle.rules.specs.Lists.{Bytes}
 use Rattle.rules.specs.Ast.{Expr, star, column, literal, call, unary, binary, is, Exprs, nil, cons, size, size_all, line_of}
 use Rattle.rules.specs.Views.{as_call}
@@ -28,9 +28,11 @@ use Rattle.appends.specs.Room.Written.{written-whole, written-most}
 use Rattle.ast.specs.Table.{tree_at}
 use Rattle.ast.specs.Row.{line_at, line-of}
 use Rattle.plan.specs.Layout.{function_size}
-use Rattle.plan.specs.Emits.{Emitting, written_of, emits-same, accepted}
-use Rattle.plan.specs.declared.cells.Written.{Written}
-use Rattle.plan.specs.declared.cells.Written.TheVariants as W
+use Rattle.plan.specs.Emits.{Emitting, Written, written_of, emits-same, accepted}
+use Rattle.numbers.specs.Reasons.{named}
+use Rattle.numbers.specs.declared.refusals.Reason.TheVariants as Re
+use Rattle.numbers.specs.declared.refusals.Refusal.{Refusal}
+use Rattle.plan.specs.Steps.{refused-at}
 use Rattle.plan.specs.Appended.{Appended, appended-on}
 use Rattle.plan.specs.Parts.{functions-on}
 use Rattle.build_expression.specs.Builds.{scope_at, Builds}
@@ -117,11 +119,12 @@ module _ (c q : Bytes) (t xs ms ts : List ℕ) where
   }
 
 -- what is refused is not accepted
-not-accepted : (a : Emitting) (p : List Cell × ℕ) {z l : ℕ} → a ≡ ok p → W.Refused z l ≡ written_of a → ⊥
+not-accepted : (a : Emitting) (p : List Cell × ℕ) {w : Refusal} → a ≡ ok p
+    → ◌≡◌ {A = Written} (Err w) (written_of a) → ⊥
 unfolding written_of
 not-accepted a p e h = absurd (let y : ◌≡◌ {A = ℕ} 0 1 = go (rw e at h) in omega arith)
   where
-    go : {z l m : ℕ} → W.Refused z l ≡ W.Done m → ◌≡◌ {A = ℕ} 0 1
+    go : {w : Refusal} {m : ℕ} → ◌≡◌ {A = Written} (Err w) (Ok m) → ◌≡◌ {A = ℕ} 0 1
     go f = cc
 
 -- A GROUP
@@ -135,8 +138,8 @@ one_same s n e = go (emit s n e) refl
 
 module _ {c q : Bytes} {t xs ms ts : List ℕ} {r n : ℕ} {area area' : List ℕ} {x : Written}
     (b : Builds c q t xs ms ts r n area area' x) where
-  pub group-added : (m k j : ℕ) {nodes nodes' : List ℕ} → x ≡ W.Done m → Appended ((m - 1) ∷ []) k nodes j nodes'
-      → Adds (groups_listing c q t xs ms ts) (tree_at c q t r) n k area area' nodes nodes' (W.Done m)
+  pub group-added : (m k j : ℕ) {nodes nodes' : List ℕ} → x ≡ Ok m → Appended ((m - 1) ∷ []) k nodes j nodes'
+      → Adds (groups_listing c q t xs ms ts) (tree_at c q t r) n k area area' nodes nodes' (Ok m)
   unfolding emit_one step_of ◌>>=◌
   group-added m k j {nodes} {nodes'} d a = record {
     is = λ h.
@@ -154,15 +157,15 @@ module _ {c q : Bytes} {t xs ms ts : List ℕ} {r n : ℕ} {area area' : List �
         };
   }
 
-  pub group-refused : (z l k : ℕ) (nodes : List ℕ) → x ≡ W.Refused z l
-      → Adds (groups_listing c q t xs ms ts) (tree_at c q t r) n k area area' nodes nodes x
+  pub group-refused : (w : Refusal) (k : ℕ) (nodes : List ℕ) → x ≡ Err w
+      → Adds (groups_listing c q t xs ms ts) (tree_at c q t r) n k area area' nodes nodes (Err w)
   unfolding emit_one written_of step_of ◌>>=◌
-  group-refused z l k nodes d = record {
+  group-refused w k nodes d = record {
     is = λ h.
         let s = scope_at c q t xs ms ts h in
         let y = emits-same (one_same s n (tree_at c q t r)) (b.is h) in
         record {
-          emits = y;
+          emits = rw (← d) y;
           all = refl;
           numbers = λ ys i m' f. absurd (not-accepted _ (ys, m') (ap step_of f) (sym d ∙ y.answer));
         };
@@ -212,10 +215,10 @@ function-entry s n e g ys d m h f =
 
 module _ {c q : Bytes} {t xs ms ts : List ℕ} {r n : ℕ} {area area' : List ℕ} {x : Written}
     (b : FunctionBuilds c q t xs ms ts r n area area' x) where
-  pub function-added : (m k j y : ℕ) (g : Aggregate) {nodes nodes' : List ℕ} → Calls c q t r g → x ≡ W.Done m
+  pub function-added : (m k j y : ℕ) (g : Aggregate) {nodes nodes' : List ℕ} → Calls c q t r g → x ≡ Ok m
       → aggregate_code g ≡ y
       → ((f : Aggregate) → aggregate_code f ≡ y → Appended (function_numbers ((f, m - 1) ∷ [])) k nodes j nodes')
-      → Adds (functions_listing c q t xs ms ts) (tree_at c q t r) n k area area' nodes nodes' (W.Done m)
+      → Adds (functions_listing c q t xs ms ts) (tree_at c q t r) n k area area' nodes nodes' (Ok m)
   unfolding emit_second function_step function_numbers step_of ◌>>=◌
   function-added m k j y g {nodes} {nodes'} w d e a = record {
     is = λ h.
@@ -233,19 +236,19 @@ module _ {c q : Bytes} {t xs ms ts : List ℕ} {r n : ℕ} {area area' : List �
         };
   }
 
-  pub function-refused : (z l k : ℕ) (nodes : List ℕ) → x ≡ W.Refused z l
-      → Adds (functions_listing c q t xs ms ts) (tree_at c q t r) n k area area' nodes nodes x
+  pub function-refused : (w : Refusal) (k : ℕ) (nodes : List ℕ) → x ≡ Err w
+      → Adds (functions_listing c q t xs ms ts) (tree_at c q t r) n k area area' nodes nodes (Err w)
   unfolding emit_second function_step step_of ◌>>=◌
-  function-refused z l k nodes d = record {
+  function-refused w k nodes d = record {
     is = λ h. record {
-      emits = b.is h;
+      emits = rw (← d) (b.is h);
       all = refl;
       numbers = λ ys i m' f. absurd (not-accepted _ (ys, m') (ap step_of f) (sym d ∙ (b.is h).answer));
     };
   }
 
 pub function-some : {c q : Bytes} {t xs ms ts : List ℕ} {r n : ℕ} {area area' : List ℕ} {x : Written} (m : ℕ)
-    → FunctionBuilds c q t xs ms ts r n area area' x → x ≡ W.Done m → 0 < m
+    → FunctionBuilds c q t xs ms ts r n area area' x → x ≡ Ok m → 0 < m
 unfolding function_step emit_second emit_entry
 function-some {c} {q} {t} {xs} {ms} {ts} {r} {n} m b d =
     let s = scope_at c q t xs ms ts 0 in
@@ -267,13 +270,10 @@ unknown s (call l w as') h = rw (h, build_function)
 
 pub function-unknown : (c q : Bytes) (t xs ms ts : List ℕ) (r n k : ℕ) (area nodes : List ℕ) (l : ℕ)
     → called_of (tree_at c q t r) ≡ none → l ≡ line_at t r
-    → Adds (functions_listing c q t xs ms ts) (tree_at c q t r) n k area area nodes nodes (W.Refused 13 l)
-unfolding emit_second emit_entry refusal_number refuse ◌>>=◌
+    → Adds (functions_listing c q t xs ms ts) (tree_at c q t r) n k area area nodes nodes
+    (Err (record { reason = Re.UnknownFunction; line = l }))
+unfolding emit_second emit_entry named refuse ◌>>=◌
 function-unknown c q t xs ms ts r n k area nodes l e f = record {
-  is = λ h. lists-refused 13 l (record {
-    why = record { reason = unknown_function; text = statement; line = line_at t r };
-    number = refl;
-    line = f;
-    is = rw (unknown (scope_at c q t xs ms ts h) (tree_at c q t r) e, line-of c q t r);
-  }) refl refl;
+  is = λ h. lists-refused _ (refused-at unknown_function (line_at t r) Re.UnknownFunction l
+      (rw (unknown (scope_at c q t xs ms ts h) (tree_at c q t r) e, line-of c q t r)) refl f) refl refl;
 }

@@ -1,11 +1,11 @@
 -- The aggregate node: its groups, then its functions, then 3 where they are more than the most columns.
-use Rattle.std.specs.Prelude.{ℕ, zero, suc, ◌+◌, ◌*◌, ◌-◌, ◌≤◌, ◌<◌, refl, get_or, take, drop, set}
+use Rattle.std.specs.Prelude.{ℕ, zero, suc, ◌+◌, ◌*◌, ◌-◌, ◌≤◌, ◌<◌, refl, get_or, take, drop, set, Ok, Err}
 use Rattle.std.proofs.Common.{arith, ◌∙◌, length-set, length-take-le}
 use Rattle.std.proofs.Math.Path.{◌≡◌, sym, ap}
 use mathlib.Core.List.{List, [], ◌∷◌, ◌++◌, map, append_assoc}
 use Rattle.std.proofs.Math.ListN.{length, length-map, length-append, get_or-append}
 use Rattle.std.proofs.Math.Seq.{split_at}
-use Rattle.rules.specs.Refusals.{refusal_number, limit_passed, statement, Answer, ok, ◌>>=◌, refuse, at_most}
+use Rattle.rules.specs.Refusals.{limit_passed, Answer, ok, ◌>>=◌, refuse, at_most}
 use Rattle.rules.specs.Limits.{most_columns}
 use Rattle.rules.specs.Lists.{Bytes}
 use Rattle.rules.specs.Ast.{Expr, line_of, size}
@@ -23,15 +23,16 @@ use Rattle.appends.specs.Lists.Kinds.{emit_all, emit_seconds}
 use Rattle.ast.specs.Table.{tree_at}
 use Rattle.ast.specs.Row.{line_at, line-of}
 use Rattle.plan.specs.Layout.{record_head, aggregate_head, groups_place, length_place, function_size}
-use Rattle.plan.specs.Emits.{written_of}
+use Rattle.plan.specs.Emits.{Written, written_of}
 use Rattle.plan.specs.Appended.{Appended}
-use Rattle.plan.specs.Steps.{Refuses}
+use Rattle.plan.specs.Steps.{RefusedWith, refused-at, refused-on}
 use Rattle.plan.specs.Parts.{groups-on, groups-ended, aggregate-functions}
 use Rattle.plan.specs.Cells.{Room}
 use Rattle.plan.specs.Room.{aggregate-in-use}
 use Rattle.plan.specs.Records.{opened, ended}
-use Rattle.plan.specs.declared.cells.Written.{Written}
-use Rattle.plan.specs.declared.cells.Written.TheVariants as W
+use Rattle.numbers.specs.Reasons.{named}
+use Rattle.numbers.specs.declared.refusals.Reason.TheVariants as Re
+use Rattle.numbers.specs.declared.refusals.Refusal.{Refusal}
 use Rattle.build_expression.specs.Builds.{scope_at}
 use Rattle.build_aggregate.specs.Functions.{step_of}
 use Rattle.build_aggregate.specs.Entries.{Lists, Gave, gave, gave-refused, lists-refused, Listing, AddsAll}
@@ -51,7 +52,7 @@ record_end k g f = k + aggregate_head + g + function_size * f
 -- behind the groups there is room for the functions
 pub rest-room : {B C : Type 0} {L : Listing B C} {tree : ℕ → Expr} {gs : List ℕ} {n j : ℕ}
     {area area₁ nodes nodes₂ : List ℕ} {x : Written} (w m : ℕ)
-    → AddsAll L tree gs n j area area₁ nodes nodes₂ x → x ≡ W.Done m
+    → AddsAll L tree gs n j area area₁ nodes nodes₂ x → x ≡ Ok m
     → Room n (3 * (total (λ r. size (tree r)) gs + w)) area → Room m (3 * w) area₁
 rest-room w m a d r = record {
   counted = omega (arith, a.most m d, r.counted);
@@ -78,33 +79,26 @@ pub record NodeBuilt (c q : Bytes) (t xs ms ts gs fs : List ℕ) (source n k k' 
 
 -- STEP BY STEP
 module _ (s : Scope) (n : ℕ) (gs fs : List Expr) where
-  step-groups : (z l : ℕ) → Refuses (emit_all s n gs) z l → Refuses (aggregate_step s n gs fs) z l
+  step-groups : (w : Refusal) → RefusedWith (emit_all s n gs) w → RefusedWith (aggregate_step s n gs fs) w
   unfolding aggregate_step
-  step-groups z l r = record { why = r.why; number = r.number; line = r.line; is = bind-refused _ _ r.why r.is }
+  step-groups w r = refused-on r (λ v e. bind-refused _ _ v e)
 
   module _ (m : ℕ) (g : Gave (emit_all s n gs) m) where
-    step-functions : (z l : ℕ) → Refuses (emit_seconds (build_function s) m fs) z l → Refuses (aggregate_step s n gs fs) z l
+    step-functions : (w : Refusal) → RefusedWith (emit_seconds (build_function s) m fs) w
+        → RefusedWith (aggregate_step s n gs fs) w
     unfolding aggregate_step
-    step-functions z l r = record {
-      why = r.why;
-      number = r.number;
-      line = r.line;
-      is = bind_ok _ _ _ g.is ∙ bind-refused _ _ r.why r.is;
-    }
+    step-functions w r = refused-on r (λ v e. bind_ok _ _ _ g.is ∙ bind-refused _ _ v e)
 
     module _ (p : ℕ) (f : Gave (emit_seconds (build_function s) m fs) p) where
       step-wide : (es : List Expr) (e : Expr) (rest : List Expr) (l : ℕ) → gs ++ fs ≡ es ++ (e ∷ rest)
-          → length es ≡ most_columns → l ≡ line_of e → Refuses (aggregate_step s n gs fs) 3 l
-      unfolding aggregate_step refuse refusal_number
-      step-wide es e rest l h w y = record {
-        why = record { reason = limit_passed; text = statement; line = line_of e };
-        number = refl;
-        line = y;
-        is = bind_ok _ _ _ g.is ∙ bind_ok _ _ _ f.is
-            ∙ ap (λ (u : List Expr). at_most most_columns line_of u
-            >>= λ v. ok (g.cells ++ f.cells, (g.entry, f.entry), p)) h
-            ∙ at_most-refused most_columns line_of es e rest _ w;
-      }
+          → length es ≡ most_columns → l ≡ line_of e
+          → RefusedWith (aggregate_step s n gs fs) (record { reason = Re.LimitPassed; line = l })
+      unfolding aggregate_step named
+      step-wide es e rest l h w y = refused-at limit_passed (line_of e) Re.LimitPassed l
+          (bind_ok _ _ _ g.is ∙ bind_ok _ _ _ f.is
+          ∙ ap (λ (u : List Expr). at_most most_columns line_of u
+          >>= λ v. ok (g.cells ++ f.cells, (g.entry, f.entry), p)) h
+          ∙ at_most-refused most_columns line_of es e rest _ w) refl y
 
       step-whole : length (gs ++ fs) ≤ most_columns
           → aggregate_step s n gs fs ≡ ok (g.cells ++ f.cells, (g.entry, f.entry), p)
@@ -126,14 +120,14 @@ module _ (c q : Bytes) (t xs ms ts gs fs : List ℕ) (source n k j : ℕ) {area 
   unfolding emit_all
   groups-list h = a.is h
 
-  pub node-groups : (z l k' : ℕ) → x ≡ W.Refused z l
-      → NodeBuilt c q t xs ms ts gs fs source n k k' area area₁ nodes nodes₂ x
-  node-groups z l k' d = record {
-    is = λ h. rw d (lists-refused z l (step-groups _ n _ _ z l (gave-refused z l (groups-list h) d))
-        (groups-list h).emits.kept ((groups-list h).all ∙ b.all));
+  pub node-groups : (w : Refusal) (k' : ℕ) → x ≡ Err w
+      → NodeBuilt c q t xs ms ts gs fs source n k k' area area₁ nodes nodes₂ (Err w)
+  node-groups w k' d = record {
+    is = λ h. lists-refused w (step-groups _ n _ _ w (gave-refused w (groups-list h) d))
+        (groups-list h).emits.kept ((groups-list h).all ∙ b.all);
   }
 
-  module _ (m : ℕ) (d : x ≡ W.Done m) {nodes₃ area₂ nodes₄ : List ℕ} {y : Written}
+  module _ (m : ℕ) (d : x ≡ Ok m) {nodes₃ area₂ nodes₄ : List ℕ} {y : Written}
       (e : nodes₃ ≡ set nodes₂ (k + groups_place) (j + length gs - (k + aggregate_head)))
       (f : AddsAll (functions_listing c q t xs ms ts) (tree_at c q t) fs m (j + length gs) area₁ area₂ nodes₃ nodes₄ y)
     where
@@ -149,18 +143,19 @@ module _ (c q : Bytes) (t xs ms ts gs fs : List ℕ) (source n k j : ℕ) {area 
       nodes-kept : (h : ℕ) → length nodes₄ ≡ length nodes
       nodes-kept h = (functions-list h).all ∙ ap length e ∙ length-set nodes₂ _ _ ∙ (groups-list h).all ∙ b.all
 
-      pub node-functions : (z l k' : ℕ) → y ≡ W.Refused z l
-          → NodeBuilt c q t xs ms ts gs fs source n k k' area area₂ nodes nodes₄ y
-      node-functions z l k' w = record {
-        is = λ h. rw w (lists-refused z l
-            (step-functions _ n _ _ m (gave m (groups-list h) d) z l (gave-refused z l (functions-list h) w))
-            (area-kept h) (nodes-kept h));
+      pub node-functions : (w : Refusal) (k' : ℕ) → y ≡ Err w
+          → NodeBuilt c q t xs ms ts gs fs source n k k' area area₂ nodes nodes₄ (Err w)
+      node-functions w k' z = record {
+        is = λ h. lists-refused w
+            (step-functions _ n _ _ m (gave m (groups-list h) d) w (gave-refused w (functions-list h) z))
+            (area-kept h) (nodes-kept h);
       }
 
-      module _ (p : ℕ) (w : y ≡ W.Done p) where
+      module _ (p : ℕ) (w : y ≡ Ok p) where
         pub node_wide : (r' l k' : ℕ) → most_columns < length gs + length fs → r' ≡ get_or (gs ++ fs) most_columns 0
             → l ≡ line_at t r'
-            → NodeBuilt c q t xs ms ts gs fs source n k k' area area₂ nodes nodes₄ (W.Refused 3 l)
+            → NodeBuilt c q t xs ms ts gs fs source n k k' area area₂ nodes nodes₄
+            (Err (record { reason = Re.LimitPassed; line = l }))
         node_wide r' l k' v' u o =
             let tree = tree_at c q t in
             let rows = gs ++ fs in
@@ -175,7 +170,7 @@ module _ (c q : Bytes) (t xs ms ts gs fs : List ℕ) (source n k j : ℕ) {area 
             let i : length (map tree (take most_columns rows)) ≡ most_columns =
             length-map (take most_columns rows) tree ∙ length-take-le most_columns rows (omega (arith, v)) in
             record {
-              is = λ h. lists-refused 3 l
+              is = λ h. lists-refused _
                   (step-wide _ n _ _ m (gave m (groups-list h) d) p (gave p (functions-list h) w)
                   (map tree (take most_columns rows)) (tree r) (map tree (drop (suc most_columns) rows)) l z i
                   (o ∙ ap (line_at t) u ∙ sym (line-of c q t r))) (area-kept h) (nodes-kept h);
@@ -184,7 +179,7 @@ module _ (c q : Bytes) (t xs ms ts gs fs : List ℕ) (source n k j : ℕ) {area 
         pub node-whole : {nodes₅ : List ℕ} → length gs + length fs ≤ most_columns
             → nodes₅ ≡ set nodes₄ (k + length_place) (j + length gs + function_size * length fs - (k + record_head))
             → NodeBuilt c q t xs ms ts gs fs source n k (record_end k (length gs) (length fs)) area area₂ nodes nodes₅
-            (W.Done p)
+            (Ok p)
         unfolding step_of ◌>>=◌ written_of
         node-whole {nodes₅} u o = record {
           is = λ h.

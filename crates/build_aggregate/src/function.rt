@@ -11,9 +11,8 @@ ghost use Rattle.build_aggregate.specs.Functions.{called_of, Calls, starred, Ope
 use ast::aggregates::{Aggregate, is_aggregate};
 use ast::{row, rows, walk};
 use build_expression::build_expression;
-use numbers::refusals::{ARGUMENT_COUNT, NESTED_AGGREGATE};
+use numbers::refusals::{Reason, Refusal};
 use plan::cells;
-use plan::cells::Written;
 
 // The kind of a literal that is true or false.
 const BOOL: u32 = 2;
@@ -71,7 +70,7 @@ fn argument<'t, 'a>(
     aggregate: Aggregate,
     area: &mut [u32],
     n: u32,
-) -> Written
+) -> Result<u32, Refusal>
     requires { Room n (3 * size (tree_at catalog.now statement.now table.now r)) area.old }
     ensures { OperandBuilds catalog.now statement.now table.now
         (take width labels.now) (take width matches.now) (take count tables.now)
@@ -79,14 +78,14 @@ fn argument<'t, 'a>(
 {
     if takes_star(table, r, aggregate) {
         cells::constant(catalog, statement, area, n, BOOL, 1, 0);
-        return Written::Done(n + 1);
+        return Ok(n + 1);
     }
     build_expression(
         catalog, statement, table, r, labels, matches, width, tables, count, area, n,
     )
 }
 
-// The argument of the aggregate that the record at row r calls: 14 where it has not one argument, then 15 where an
+// The argument of the aggregate that the record at row r calls: refused where it has not one argument, then where an
 // aggregate stands in it.
 pub fn build_function<'t, 'a>(
     catalog: &'t [u8],
@@ -101,7 +100,7 @@ pub fn build_function<'t, 'a>(
     aggregate: Aggregate,
     area: &mut [u32],
     n: u32,
-) -> Written
+) -> Result<u32, Refusal>
     requires calls { Calls catalog.now statement.now table.now r (aggregate_of aggregate) }
     requires room { Room n (3 * size (tree_at catalog.now statement.now table.now r)) area.old }
     ensures { FunctionBuilds catalog.now statement.now table.now
@@ -110,12 +109,18 @@ pub fn build_function<'t, 'a>(
 {
     if row::arguments(table, r) != 1 {
         let line = row::line(table, r);
-        return Written::Refused(ARGUMENT_COUNT, line);
+        return Err(Refusal {
+            reason: Reason::ArgumentCount,
+            line,
+        });
     }
     let a = r + 1;
     if walk::contains(catalog, statement, table, a) {
         let line = row::line(table, r);
-        return Written::Refused(NESTED_AGGREGATE, line);
+        return Err(Refusal {
+            reason: Reason::NestedAggregate,
+            line,
+        });
     }
     argument(
         catalog, statement, table, a, labels, matches, width, tables, count, aggregate, area, n,

@@ -12,8 +12,7 @@ ghost use Rattle.build_aggregate.specs.Kinds.{groups_listing, functions_listing}
 use crate::function::{build_function, called, code};
 use ast::row;
 use build_expression::build_expression;
-use numbers::refusals::UNKNOWN_FUNCTION;
-use plan::cells::Written;
+use numbers::refusals::{Reason, Refusal};
 use plan::parts::function;
 use plan::pushes::push;
 
@@ -35,7 +34,7 @@ fn add_group<'t, 'a>(
     n: u32,
     nodes: &mut [u32],
     k: usize,
-) -> Written
+) -> Result<u32, Refusal>
     requires room { Room n (3 * size (tree_at catalog.now statement.now table.now r)) area.old }
     requires k_in_bounds { k + 1 ≤ length nodes.old }
     ensures { Adds (groups_listing catalog.now statement.now table.now
@@ -43,14 +42,11 @@ fn add_group<'t, 'a>(
         (tree_at catalog.now statement.now table.now r)
         n k area.old area.new nodes.old nodes.new result }
 {
-    let built = build_expression(
+    let m = build_expression(
         catalog, statement, table, r, labels, matches, width, tables, count, area, n,
-    );
-    let Written::Done(m) = built else {
-        return built;
-    };
+    )?;
     push(nodes, k, m - 1);
-    Written::Done(m)
+    Ok(m)
 }
 
 // The function at row r.
@@ -68,7 +64,7 @@ fn add_function<'t, 'a>(
     n: u32,
     nodes: &mut [u32],
     k: usize,
-) -> Written
+) -> Result<u32, Refusal>
     requires room { Room n (3 * size (tree_at catalog.now statement.now table.now r)) area.old }
     requires function_size_in_bounds { k + function_size ≤ length nodes.old }
     ensures { Adds (functions_listing catalog.now statement.now table.now
@@ -78,17 +74,16 @@ fn add_function<'t, 'a>(
 {
     let Some(aggregate) = called(catalog, statement, table, r) else {
         let line = row::line(table, r);
-        return Written::Refused(UNKNOWN_FUNCTION, line);
+        return Err(Refusal {
+            reason: Reason::UnknownFunction,
+            line,
+        });
     };
-    let built = build_function(
+    let m = build_function(
         catalog, statement, table, r, labels, matches, width, tables, count, aggregate, area, n,
-    );
-    let Written::Done(m) = built else {
-        return built;
-    };
-    let number = code(aggregate);
-    function(nodes, k, number, m - 1);
-    Written::Done(m)
+    )?;
+    function(nodes, k, code(aggregate), m - 1);
+    Ok(m)
 }
 
 // The groups at the rows.
@@ -106,7 +101,7 @@ pub fn build_groups<'t, 'a>(
     n: u32,
     nodes: &mut [u32],
     k: usize,
-) -> Written
+) -> Result<u32, Refusal>
     requires room { Room n (3 * total (λ r. size (tree_at catalog.now statement.now table.now r)) rows.now) area.old }
     requires rows_in_bounds { k + length rows.now ≤ length nodes.old }
     ensures { AddsAll (groups_listing catalog.now statement.now table.now
@@ -117,7 +112,7 @@ pub fn build_groups<'t, 'a>(
     let mut m = n;
     let mut i: usize = 0;
     while i < rows.len() {
-        let added = add_group(
+        m = add_group(
             catalog,
             statement,
             table,
@@ -131,14 +126,10 @@ pub fn build_groups<'t, 'a>(
             m,
             nodes,
             k + i,
-        );
-        let Written::Done(next) = added else {
-            return added;
-        };
-        m = next;
+        )?;
         i += 1;
     }
-    Written::Done(m)
+    Ok(m)
 }
 
 // The functions at the rows.
@@ -156,7 +147,7 @@ pub fn build_functions<'t, 'a>(
     n: u32,
     nodes: &mut [u32],
     k: usize,
-) -> Written
+) -> Result<u32, Refusal>
     requires room { Room n (3 * total (λ r. size (tree_at catalog.now statement.now table.now r)) rows.now) area.old }
     requires rows_in_bounds { k + function_size * length rows.now ≤ length nodes.old }
     ensures { AddsAll (functions_listing catalog.now statement.now table.now
@@ -167,7 +158,7 @@ pub fn build_functions<'t, 'a>(
     let mut m = n;
     let mut i: usize = 0;
     while i < rows.len() {
-        let added = add_function(
+        m = add_function(
             catalog,
             statement,
             table,
@@ -181,12 +172,8 @@ pub fn build_functions<'t, 'a>(
             m,
             nodes,
             k + FUNCTION_SIZE * i,
-        );
-        let Written::Done(next) = added else {
-            return added;
-        };
-        m = next;
+        )?;
         i += 1;
     }
-    Written::Done(m)
+    Ok(m)
 }

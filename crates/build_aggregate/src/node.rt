@@ -1,4 +1,4 @@
-// The aggregate node (planner.rs, build_aggregate): groups, then functions, and 3 only when all of them are built.
+// The aggregate node (planner.rs, build_aggregate): groups, then functions, and the limit only when all of them are built.
 ghost use Rattle.std.specs.Prelude.{◌≡◌, ◌+◌, ◌*◌, ◌≤◌, ◌<◌, ◌++◌, length, get_or, take};
 ghost use Rattle.rules.specs.Ast.{size};
 ghost use Rattle.rules.specs.Sizes.{total};
@@ -9,8 +9,7 @@ ghost use Rattle.build_aggregate.specs.Nodes.{record_end, NodeBuilt};
 
 use crate::lists::{FUNCTION_SIZE, build_functions, build_groups};
 use ast::row;
-use numbers::refusals::LIMIT_PASSED;
-use plan::cells::Written;
+use numbers::refusals::{Reason, Refusal};
 use plan::parts::{begin_aggregate, end, end_groups};
 use scope::COLUMNS;
 
@@ -42,7 +41,7 @@ pub fn build_node<'t, 'a>(
     n: u32,
     nodes: &mut [u32],
     k: usize,
-) -> Written
+) -> Result<u32, Refusal>
     requires room { Room n (3 * (total (λ r. size (tree_at catalog.now statement.now table.now r)) groups.now
         + total (λ r. size (tree_at catalog.now statement.now table.now r)) functions.now)) area.old }
     requires functions_in_bounds { record_end k (length groups.now) (length functions.now) ≤ length nodes.old }
@@ -54,15 +53,12 @@ pub fn build_node<'t, 'a>(
         area.old area.new nodes.old nodes.new result }
 {
     let start = begin_aggregate(nodes, k, source);
-    let first = build_groups(
+    let m = build_groups(
         catalog, statement, table, groups, labels, matches, width, tables, count, area, n, nodes,
         start,
-    );
-    let Written::Done(m) = first else {
-        return first;
-    };
+    )?;
     end_groups(nodes, k, start + groups.len());
-    let second = build_functions(
+    let p = build_functions(
         catalog,
         statement,
         table,
@@ -76,19 +72,19 @@ pub fn build_node<'t, 'a>(
         m,
         nodes,
         start + groups.len(),
-    );
-    let Written::Done(p) = second else {
-        return second;
-    };
+    )?;
     if COLUMNS < groups.len() + functions.len() {
         let r = row_at(groups, functions, COLUMNS);
         let line = row::line(table, r);
-        return Written::Refused(LIMIT_PASSED, line);
+        return Err(Refusal {
+            reason: Reason::LimitPassed,
+            line,
+        });
     }
     end(
         nodes,
         k,
         start + groups.len() + FUNCTION_SIZE * functions.len(),
     );
-    Written::Done(p)
+    Ok(p)
 }

@@ -1,10 +1,10 @@
 -- WHERE and HAVING as steps: the cells of an expression, then a filter.
-use Rattle.std.specs.Prelude.{ℕ, pred, ◌+◌, ◌-◌, ◌*◌, ◌≤◌, ◌<◌, ◌≡◌, Bool, true, false, List, [], ◌∷◌, ◌++◌, length}
+use Rattle.std.specs.Prelude.{ℕ, pred, ◌+◌, ◌-◌, ◌*◌, ◌≤◌, ◌<◌, ◌≡◌, Bool, true, false, List, [], ◌∷◌, ◌++◌, length, Ok, Err}
 use Rattle.std.proofs.Math.Numerals.{sub-one}
 use Rattle.std.proofs.Math.Path.{refl, ap}
 use Rattle.std.proofs.Common.{◌∙◌}
 use Rattle.std.proofs.Math.Bool.{not}
-use Rattle.rules.specs.Refusals.{Refusal, refusal_number, Answer, ok, refused, ◌>>=◌}
+use Rattle.rules.specs.Refusals.{Refusal, Answer, ok, refused, ◌>>=◌}
 use Rattle.rules.specs.Refusals.{having_without_aggregate}
 use Rattle.rules.specs.Lists.{Bytes, is_empty, map_option}
 use Rattle.rules.specs.Ast.{Expr, size}
@@ -26,13 +26,12 @@ use Rattle.statement.specs.declared.access.Clause.{Clause}
 use Rattle.statement.specs.declared.access.Clause.TheVariants as C
 use Rattle.plan.specs.Cells.{Room}
 use Rattle.plan.specs.Appended.{Appended}
-use Rattle.plan.specs.Emits.{Emitting, accepted}
-use Rattle.plan.specs.Steps.{Refuses, refuses-at, refuses-on, emits-refused, Stands, stands_one, Lies, stage-lies}
+use Rattle.plan.specs.Emits.{Emitting, Written, accepted}
+use Rattle.plan.specs.Steps.{RefusedWith, refused-at, refused-on, emits-refused, Stands, stands_one, Lies, stage-lies, Stepped}
 use Rattle.plan.specs.Steps.{node-lies, Steps, step-none, step-done, step-refused}
-use Rattle.plan.specs.declared.cells.Written.{Written}
-use Rattle.plan.specs.declared.cells.Written.TheVariants as W
-use Rattle.plan.specs.declared.steps.Step.{Step}
-use Rattle.plan.specs.declared.steps.Step.TheVariants as S
+use Rattle.numbers.specs.Reasons.{named}
+use Rattle.numbers.specs.declared.refusals.Reason.TheVariants as Re
+use Rattle.numbers.specs.declared.refusals.Refusal as code
 use Rattle.build_expression.specs.Rows.{emit-within}
 use Rattle.build_expression.specs.Builds.{scope_at, Builds}
 
@@ -43,12 +42,12 @@ pub record Accepted (a : Emitting) (n m k : ℕ) (area nodes : List ℕ) (n' m' 
   pub next : m' ≡ m + 1
   pub stands : Stands n k area nodes cells (filter (pred m) (pred n') ∷ []) n' k' area' nodes'
 
-unfoldable pub FilterAs : Emitting → ℕ → ℕ → ℕ → List ℕ → List ℕ → List ℕ → List ℕ → Step → Type 0
-FilterAs a n m k area nodes area' nodes' (S.Done n' m' k') = Accepted a n m k area nodes n' m' k' area' nodes'
-FilterAs a n m k area nodes area' nodes' (S.Refused x l) = Refuses a x l
+unfoldable pub FilterAs : Emitting → ℕ → ℕ → ℕ → List ℕ → List ℕ → List ℕ → List ℕ → Stepped → Type 0
+FilterAs a n m k area nodes area' nodes' (Ok s) = Accepted a n m k area nodes s.cell s.node s.used area' nodes'
+FilterAs a n m k area nodes area' nodes' (Err w) = RefusedWith a w
 
 -- by the tree at row r, over the scope of labels xs, matches ms and tables ts, whatever is hidden
-pub record Filtered (c q : Bytes) (t xs ms ts : List ℕ) (r n m k : ℕ) (area nodes area' nodes' : List ℕ) (x : Step)
+pub record Filtered (c q : Bytes) (t xs ms ts : List ℕ) (r n m k : ℕ) (area nodes area' nodes' : List ℕ) (x : Stepped)
     : Type 0 where
   pub kept : length area' ≡ length area
   pub kept-nodes : length nodes' ≡ length nodes
@@ -57,14 +56,15 @@ pub record Filtered (c q : Bytes) (t xs ms ts : List ℕ) (r n m k : ℕ) (area 
 module _ {c q : Bytes} {t xs ms ts : List ℕ} {r n : ℕ} {area area' : List ℕ} {w : Written}
     (b : Builds c q t xs ms ts r n area area' w) where
   -- the next cell is behind the n-th
-  pub built-some : (p : ℕ) → w ≡ W.Done p → n < p
+  pub built-some : (p : ℕ) → w ≡ Ok p → n < p
   built-some p e =
       let o = accepted p (b.is 0) e in
       (emit-within (scope_at c q t xs ms ts 0) n (tree_at c q t r) o.cells p o.is).some'
 
-  pub filter-done : {m k j : ℕ} {nodes nodes' : List ℕ} (p : ℕ) → w ≡ W.Done p
+  pub filter-done : {m k j : ℕ} {nodes nodes' : List ℕ} (p : ℕ) → w ≡ Ok p
       → Appended (record_numbers (filter (m - 1) (p - 1))) k nodes j nodes'
-      → Filtered c q t xs ms ts r n m k area nodes area' nodes' (S.Done p (m + 1) j)
+      → Filtered c q t xs ms ts r n m k area nodes area' nodes'
+      (Ok (record { cell = p; node = m + 1; used = j }))
   unfolding FilterAs
   filter-done {m} p e a = record {
     kept = (b.is 0).kept;
@@ -80,13 +80,13 @@ module _ {c q : Bytes} {t xs ms ts : List ℕ} {r n : ℕ} {area area' : List �
         };
   }
 
-  pub filter-refused : {m k : ℕ} {nodes : List ℕ} (x l : ℕ) → w ≡ W.Refused x l
-      → Filtered c q t xs ms ts r n m k area nodes area' nodes (S.Refused x l)
+  pub filter-refused : {m k : ℕ} {nodes : List ℕ} (v : code.Refusal) → w ≡ Err v
+      → Filtered c q t xs ms ts r n m k area nodes area' nodes (Err v)
   unfolding FilterAs
-  filter-refused x l e = record {
+  filter-refused v e = record {
     kept = (b.is 0).kept;
     kept-nodes = refl;
-    is = λ h. emits-refused x l (b.is h) e;
+    is = λ h. emits-refused v (b.is h) e;
   }
 
 -- it is a step where its expression's cells and a filter are what the rule appends
@@ -98,15 +98,15 @@ module _ {B : Type 0} (view : Node Built → B) (a : Node Built → Answer B) (e
       → ((d : Node Built) (cs : List Cell) (rs : List NodeRecord) → Lays 0 0 d cs rs n m
       → (w : Refusal) → e ≡ refused w → a d ≡ refused w)
       → length area' ≡ length area → length nodes' ≡ length nodes
-      → (x : Step) → FilterAs e n m k area nodes area' nodes' x → Steps view a n m k area nodes area' nodes' x
+      → (x : Stepped) → FilterAs e n m k area nodes area' nodes' x → Steps view a n m k area nodes area' nodes' x
   unfolding FilterAs
-  filter_steps f g u v (S.Done n' m' k') y = step-done u v (record {
+  filter_steps f g u v (Ok s) y = step-done u v (record {
     cells = y.cells;
-    records = filter (pred m) (pred n') ∷ [];
-    lies = λ d cs rs l. rw y.next (f d cs rs l y.cells n' y.is);
+    records = filter (pred m) (pred s.cell) ∷ [];
+    lies = λ d cs rs l. rw y.next (f d cs rs l y.cells s.cell y.is);
     stands = y.stands;
   })
-  filter_steps f g u v (S.Refused x l) y = step-refused u v (λ d cs rs z. refuses-on y (g d cs rs z))
+  filter_steps f g u v (Err w) y = step-refused u v (λ d cs rs z. refused-on y (g d cs rs z))
 
 -- the room of a clause's expression
 pub clause-room : (c q : Bytes) (t : List ℕ) {w : Clause} {n : ℕ} {area : List ℕ} (l r : ℕ) → w ≡ C.Stands l r
@@ -116,17 +116,17 @@ clause-room c q t l r e h = rw e at h
 
 -- WHERE
 pub record WhereBuilt (c q : Bytes) (t : List ℕ) (w : Clause) (xs ms ts : List ℕ) (n m k : ℕ)
-    (area nodes area' nodes' : List ℕ) (x : Step) : Type 0 where
+    (area nodes area' nodes' : List ℕ) (x : Stepped) : Type 0 where
   pub is : (h : ℕ) → Steps (λ d. stage_of d (scope_at c q t xs ms ts h))
       (λ d. build_where (stage_of d (scope_at c q t xs ms ts h)) (clause_of c q t w)) n m k area nodes area' nodes' x
 
 module _ {c q : Bytes} {t : List ℕ} {w : Clause} {xs ms ts : List ℕ} {n m k : ℕ} {area nodes : List ℕ} where
   pub where-missing : w ≡ C.Missing → k ≤ length nodes
-      → WhereBuilt c q t w xs ms ts n m k area nodes area nodes (S.Done n m k)
+      → WhereBuilt c q t w xs ms ts n m k area nodes area nodes (Ok (record { cell = n; node = m; used = k }))
   unfolding clause_of build_where clause_expr map_option build_option filtered ◌>>=◌
   where-missing e l = rw e (record { is = λ h. step-none l (λ d. refl) })
 
-  pub where-stands : (l r : ℕ) → w ≡ C.Stands l r → {area' nodes' : List ℕ} {x : Step}
+  pub where-stands : (l r : ℕ) → w ≡ C.Stands l r → {area' nodes' : List ℕ} {x : Stepped}
       → Filtered c q t xs ms ts r n m k area nodes area' nodes' x
       → WhereBuilt c q t w xs ms ts n m k area nodes area' nodes' x
   unfolding clause_of
@@ -141,7 +141,7 @@ module _ {c q : Bytes} {t : List ℕ} {w : Clause} {xs ms ts : List ℕ} {n m k 
 
 -- HAVING
 pub record HavingBuilt (c q : Bytes) (t : List ℕ) (w : Clause) (xs ms ts : List ℕ) (n m k : ℕ)
-    (area nodes area' nodes' : List ℕ) (x : Step) : Type 0 where
+    (area nodes area' nodes' : List ℕ) (x : Stepped) : Type 0 where
   pub is : (h : ℕ) → Steps (λ d. d) (λ d. build_having d (clause_of c q t w) (scope_at c q t xs ms ts h))
       n m k area nodes area' nodes' x
 
@@ -153,22 +153,22 @@ not_back false false e = e
 
 module _ {c q : Bytes} {t : List ℕ} {w : Clause} {xs ms ts : List ℕ} {n m k : ℕ} {area nodes : List ℕ} where
   pub having-missing : w ≡ C.Missing → k ≤ length nodes
-      → HavingBuilt c q t w xs ms ts n m k area nodes area nodes (S.Done n m k)
+      → HavingBuilt c q t w xs ms ts n m k area nodes area nodes (Ok (record { cell = n; node = m; used = k }))
   unfolding clause_of build_having
   having-missing e l = rw e (record { is = λ h. step-none l (λ d. refl) })
 
   module _ (l r : ℕ) (e : w ≡ C.Stands l r) {b : Bool} (g : (f : ℕ → Expr) → b ≡ not (is_empty (matches_of f 0 ms))) where
-    pub having-unmatched : b ≡ false → (x : ℕ) → x ≡ refusal_number having_without_aggregate
-        → HavingBuilt c q t w xs ms ts n m k area nodes area nodes (S.Refused x l)
-    unfolding clause_of scope_from
-    having-unmatched f x y =
+    pub having-unmatched : b ≡ false → HavingBuilt c q t w xs ms ts n m k area nodes area nodes
+        (Err (record { reason = Re.HavingWithoutAggregate; line = l }))
+    unfolding clause_of scope_from named
+    having-unmatched f =
         let u = not_back b (is_empty (matches_of (tree_at c q t) 0 ms)) (g (tree_at c q t)) in
         rw e (record {
-          is = λ h. step-refused refl refl (λ d cs rs z. refuses-at having_without_aggregate l x l
-              (having-without 0 0 d cs rs n m z _ (scope_at c q t xs ms ts h) (u ∙ ap not f)) y refl);
+          is = λ h. step-refused refl refl (λ d cs rs z. refused-at having_without_aggregate l Re.HavingWithoutAggregate l
+              (having-without 0 0 d cs rs n m z _ (scope_at c q t xs ms ts h) (u ∙ ap not f)) refl refl);
         })
 
-    pub having-matched : b ≡ true → {area' nodes' : List ℕ} {x : Step}
+    pub having-matched : b ≡ true → {area' nodes' : List ℕ} {x : Stepped}
         → Filtered c q t xs ms ts r n m k area nodes area' nodes' x
         → HavingBuilt c q t w xs ms ts n m k area nodes area' nodes' x
     unfolding clause_of scope_from

@@ -1,5 +1,5 @@
 -- The keys of an order one after the other: their cells, and their parts of its node record.
-use Rattle.std.specs.Prelude.{ℕ, suc, pred, ◌+◌, ◌-◌, ◌*◌, ◌≤◌, ◌<◌, ◌≡◌, refl, Bool, take}
+use Rattle.std.specs.Prelude.{ℕ, suc, pred, ◌+◌, ◌-◌, ◌*◌, ◌≤◌, ◌<◌, ◌≡◌, refl, Bool, take, Ok, Err}
 use Rattle.std.proofs.Common.{arith, add-one, sym, ◌∙◌}
 use Rattle.std.proofs.Math.Numerals.{sub-one}
 use mathlib.Core.List.{List, [], ◌∷◌, ◌++◌, append_assoc, append-nil}
@@ -28,13 +28,12 @@ use Rattle.statement.specs.Layout.{map_entries, to_key}
 use Rattle.statement.specs.EntryAccess.{map-length, key-at}
 use Rattle.plan.specs.Layout.{cells_end, key_size}
 use Rattle.plan.specs.Cells.{Room}
-use Rattle.plan.specs.Emits.{accepted}
+use Rattle.plan.specs.Emits.{Written, accepted}
 use Rattle.plan.specs.Appended.{Appended, appended-none}
 use Rattle.plan.specs.Parts.{keys_on}
 use Rattle.plan.specs.Room.{keys-size}
-use Rattle.plan.specs.Steps.{Refuses, refuses-on, emits-refused}
-use Rattle.plan.specs.declared.cells.Written.{Written}
-use Rattle.plan.specs.declared.cells.Written.TheVariants as W
+use Rattle.plan.specs.Steps.{RefusedWith, refused-on, emits-refused}
+use Rattle.numbers.specs.declared.refusals.Refusal.{Refusal}
 use Rattle.build_expression.specs.Rows.{emit-within}
 use Rattle.build_expression.specs.Builds.{scope_at, Builds}
 
@@ -54,8 +53,8 @@ pub record One (s : Scope) (y : Key) (n k : ℕ) (area nodes : List ℕ) (p : �
   pub part : Appended (key_numbers ((pred p, y.descending) ∷ [])) k nodes (k + key_size) nodes'
 
 unfoldable pub KeyAs : Scope → Key → ℕ → ℕ → List ℕ → List ℕ → List ℕ → List ℕ → Written → Type 0
-KeyAs s y n k area nodes area' nodes' (W.Done p) = One s y n k area nodes p area' nodes'
-KeyAs s y n k area nodes area' nodes' (W.Refused x l) = Refuses (emit s n y.expr) x l
+KeyAs s y n k area nodes area' nodes' (Ok p) = One s y n k area nodes p area' nodes'
+KeyAs s y n k area nodes area' nodes' (Err w) = RefusedWith (emit s n y.expr) w
 
 pub record KeyPut (c q : Bytes) (t xs ms ts : List ℕ) (e : Entry) (n k : ℕ) (area nodes area' nodes' : List ℕ)
     (x : Written) : Type 0 where
@@ -73,8 +72,8 @@ pub record All (s : Scope) (ks : List Key) (n k : ℕ) (area nodes : List ℕ) (
   pub appended : Appended (key_numbers entries) k nodes (k + key_size * length ks) nodes'
 
 unfoldable pub KeysAs : Scope → List Key → ℕ → ℕ → List ℕ → List ℕ → List ℕ → List ℕ → Written → Type 0
-KeysAs s ks n k area nodes area' nodes' (W.Done p) = All s ks n k area nodes p area' nodes'
-KeysAs s ks n k area nodes area' nodes' (W.Refused x l) = Refuses (emit_firsts (key_built s) n ks) x l
+KeysAs s ks n k area nodes area' nodes' (Ok p) = All s ks n k area nodes p area' nodes'
+KeysAs s ks n k area nodes area' nodes' (Err w) = RefusedWith (emit_firsts (key_built s) n ks) w
 
 pub record KeysPut (c q : Bytes) (t parts xs ms ts : List ℕ) (n k : ℕ) (area nodes area' nodes' : List ℕ)
     (x : Written) : Type 0 where
@@ -91,18 +90,18 @@ module _ {c q : Bytes} {t xs ms ts : List ℕ} {r n : ℕ} {area area' : List �
   here : Builds c q t xs ms ts (first_row e) n area area' w
   here = rw (← g) b
 
-  pub key-refuses : {k : ℕ} {nodes : List ℕ} (x l : ℕ) → w ≡ W.Refused x l
-      → KeyPut c q t xs ms ts e n k area nodes area' nodes w
+  pub key-refuses : {k : ℕ} {nodes : List ℕ} (v : Refusal) → w ≡ Err v
+      → KeyPut c q t xs ms ts e n k area nodes area' nodes (Err v)
   unfolding KeyAs
-  key-refuses {k} {nodes} x l f = record {
+  key-refuses {k} {nodes} v f = record {
     kept = (b.is 0).kept;
     kept-nodes = refl;
-    is = λ h. rw f (emits-refused x l (here.is h) f);
+    is = λ h. emits-refused v (here.is h) f;
   }
 
-  pub key-done : {k j : ℕ} {nodes nodes' : List ℕ} (p : ℕ) (d : Bool) → w ≡ W.Done p → d ≡ is_one e.code
+  pub key-done : {k j : ℕ} {nodes nodes' : List ℕ} (p : ℕ) (d : Bool) → w ≡ Ok p → d ≡ is_one e.code
       → Appended (key_numbers ((p - 1, d) ∷ [])) k nodes j nodes'
-      → KeyPut c q t xs ms ts e n k area nodes area' nodes' (W.Done p)
+      → KeyPut c q t xs ms ts e n k area nodes area' nodes' (Ok p)
   unfolding KeyAs
   key-done {k} {j} p d f v a = record {
     kept = (b.is 0).kept;
@@ -202,21 +201,21 @@ module _ {c q : Bytes} {t parts xs ms ts : List ℕ} {n k : ℕ} {area₀ nodes�
 
     module _ {area' nodes' : List ℕ} {x : Written}
         (a : KeyPut c q t xs ms ts e p (k + key_size * i) area nodes area' nodes' x) where
-      pub putting-refused : (y w : ℕ) → x ≡ W.Refused y w
-          → KeysPut c q t parts xs ms ts n k area₀ nodes₀ area' nodes' x
+      pub putting-refused : (w : Refusal) → x ≡ Err w
+          → KeysPut c q t parts xs ms ts n k area₀ nodes₀ area' nodes' (Err w)
       unfolding KeysAs KeyAs
-      putting-refused y w f = record {
+      putting-refused w f = record {
         kept = a.kept ∙ u.area-kept;
         kept-nodes = a.kept-nodes ∙ u.nodes-kept;
         is = λ h.
             let s = scope_at c q t xs ms ts h in
             let o = u.sofar h in
-            let b : Refuses (emit s p (key_of c q t e).expr) y w = rw f at (a.is h) in
-            rw f (refuses-on b (λ v j. o.is ∙ rw key_here_lem
+            let b : RefusedWith (emit s p (key_of c q t e).expr) w = rw f at (a.is h) in
+            (refused-on b (λ v j. o.is ∙ rw key_here_lem
             (firsts-stop (key_built s) (o.cells, o.entries, p) _ _ v (key-refused s p _ v j))));
       }
 
-      pub putting-more : (p' : ℕ) → x ≡ W.Done p'
+      pub putting-more : (p' : ℕ) → x ≡ Ok p'
           → Putting c q t parts xs ms ts n k area₀ nodes₀ (i + 1) p' area' nodes'
       putting-more p' f =
           let o = one 0 in
@@ -250,7 +249,7 @@ module _ {c q : Bytes} {t parts xs ms ts : List ℕ} {n k : ℕ} {area₀ nodes�
           one h = unfold KeyAs in rw f at (a.is h)
 
   pub putting-end : length (keys_at c q t parts) ≤ i
-      → KeysPut c q t parts xs ms ts n k area₀ nodes₀ area nodes (W.Done p)
+      → KeysPut c q t parts xs ms ts n k area₀ nodes₀ area nodes (Ok p)
   unfolding KeysAs
   putting-end l =
       let z : i ≡ length (keys_at c q t parts) = omega (arith, l, u.within) in

@@ -1,5 +1,5 @@
 -- ORDER as a step: the cells of its keys, then an order.
-use Rattle.std.specs.Prelude.{ℕ, pred, ◌+◌, ◌-◌, ◌*◌, ◌≤◌, ◌≡◌, refl, Bool, List, [], ◌∷◌, ◌++◌, length, set}
+use Rattle.std.specs.Prelude.{ℕ, pred, ◌+◌, ◌-◌, ◌*◌, ◌≤◌, ◌≡◌, refl, Bool, List, [], ◌∷◌, ◌++◌, length, set, Ok, Err}
 use Rattle.std.proofs.Common.{arith, sub-one, ◌∙◌}
 use Rattle.rules.specs.Refusals.{Refusal, ok, refused}
 use Rattle.rules.specs.Lists.{Bytes}
@@ -15,19 +15,17 @@ use Rattle.appends.specs.From.Laid.{NodeLaid}
 use Rattle.appends.specs.Select.Filters.{order-step, order-refused}
 use Rattle.plan.specs.Layout.{nodes_size, record_head, source_head, length_place, key_size}
 use Rattle.plan.specs.Appended.{Appended}
+use Rattle.plan.specs.Emits.{Written}
 use Rattle.plan.specs.Parts.{order-keys}
 use Rattle.plan.specs.Records.{opened, ended, opened-room}
 use Rattle.plan.specs.Room.{order-in-use}
-use Rattle.plan.specs.Steps.{Refuses, refuses-on, stands_one, node-lies, Steps, step-none, step-done, step-refused}
-use Rattle.plan.specs.declared.cells.Written.{Written}
-use Rattle.plan.specs.declared.cells.Written.TheVariants as W
-use Rattle.plan.specs.declared.steps.Step.{Step}
-use Rattle.plan.specs.declared.steps.Step.TheVariants as S
+use Rattle.plan.specs.Steps.{RefusedWith, refused-on, stands_one, node-lies, Stepped, Steps, step-none, step-done, step-refused}
+use Rattle.numbers.specs.declared.refusals.Refusal as code
 use Rattle.build_expression.specs.Builds.{scope_at}
 use Rattle.build_clauses.specs.Follows.{Follows}
 use Rattle.build_clauses.specs.Keys.{keys_at, KeysAs, All, KeysPut}
 
-pub record OrderBuilt (c q : Bytes) (t parts xs ms ts : List ℕ) (n m k : ℕ) (area nodes area' nodes' : List ℕ) (x : Step)
+pub record OrderBuilt (c q : Bytes) (t parts xs ms ts : List ℕ) (n m k : ℕ) (area nodes area' nodes' : List ℕ) (x : Stepped)
     : Type 0 where
   pub is : (h : ℕ) → Steps (λ d. d) (λ d. build_order d (keys_at c q t parts) (scope_at c q t xs ms ts h))
       n m k area nodes area' nodes' x
@@ -40,7 +38,7 @@ nothing (x ∷ ks) e s d = absurd (omega (arith, e))
 
 pub order-nothing : {c q : Bytes} {t parts xs ms ts : List ℕ} {n m k : ℕ} {area nodes : List ℕ}
     → length (keys_at c q t parts) ≡ 0 → k ≤ length nodes
-    → OrderBuilt c q t parts xs ms ts n m k area nodes area nodes (S.Done n m k)
+    → OrderBuilt c q t parts xs ms ts n m k area nodes area nodes (Ok (record { cell = n; node = m; used = k }))
 order-nothing {c} {q} {t} {parts} e l = record { is = λ h. step-none l (nothing (keys_at c q t parts) e _) }
 
 -- there is room for x keys behind the head of the record
@@ -64,18 +62,18 @@ module _ (n m : ℕ) (d : Node Built) (cs : List Cell) (rs : List NodeRecord) (h
 module _ {c q : Bytes} {t parts xs ms ts : List ℕ} {n : ℕ} (m : ℕ) {k i : ℕ} {area nodes v area' u : List ℕ} {w : Written}
     (z : length (keys_at c q t parts) ≡ 0 → ⊥) (o : Appended (opened (order (m - 1) [])) k nodes i v)
     (a : KeysPut c q t parts xs ms ts n i area v area' u w) where
-  pub order-stop : (x l : ℕ) → w ≡ W.Refused x l
-      → OrderBuilt c q t parts xs ms ts n m k area nodes area' u (S.Refused x l)
+  pub order-stop : (v' : code.Refusal) → w ≡ Err v'
+      → OrderBuilt c q t parts xs ms ts n m k area nodes area' u (Err v')
   unfolding KeysAs
-  order-stop x l e = record {
+  order-stop v' e = record {
     is = λ h.
         let s = scope_at c q t xs ms ts h in
-        let b : Refuses (emit_firsts (key_built s) n (keys_at c q t parts)) x l = rw e at (a.is h) in
+        let b : RefusedWith (emit_firsts (key_built s) n (keys_at c q t parts)) v' = rw e at (a.is h) in
         step-refused a.kept (a.kept-nodes ∙ o.all)
-        (λ d cs rs y. refuses-on b (keys-stop n m d cs rs y s (keys_at c q t parts) z));
+        (λ d cs rs y. refused-on b (keys-stop n m d cs rs y s (keys_at c q t parts) z));
   }
 
-  module _ (p : ℕ) (e : w ≡ W.Done p) where
+  module _ (p : ℕ) (e : w ≡ Ok p) where
     all : (h : ℕ) → All (scope_at c q t xs ms ts h) (keys_at c q t parts) n i area v p area' u
     unfolding KeysAs
     all h = rw e at (a.is h)
@@ -92,7 +90,8 @@ module _ {c q : Bytes} {t parts xs ms ts : List ℕ} {n : ℕ} (m : ℕ) {k i : 
 
     pub order-done : {x : ℕ} {u' : List ℕ} → x ≡ length (keys_at c q t parts)
         → u' ≡ set u (k + length_place) (i + key_size * x - (k + record_head))
-        → OrderBuilt c q t parts xs ms ts n m k area nodes area' u' (S.Done p (m + 1) (i + key_size * x))
+        → OrderBuilt c q t parts xs ms ts n m k area nodes area' u'
+        (Ok (record { cell = p; node = m + 1; used = i + key_size * x }))
     order-done {x} {u'} f g = record {
       is = λ h.
           let s = scope_at c q t xs ms ts h in

@@ -1,5 +1,5 @@
 -- The remap that drops hidden columns as a step: a record and no cell.
-use Rattle.std.specs.Prelude.{ℕ, zero, suc, pred, ◌+◌, ◌-◌, ◌≤◌, ◌<◌, ◌≡◌, refl, List, [], ◌∷◌, ◌++◌, length, get_or, take, set}
+use Rattle.std.specs.Prelude.{ℕ, zero, suc, pred, ◌+◌, ◌-◌, ◌≤◌, ◌<◌, ◌≡◌, refl, List, [], ◌∷◌, ◌++◌, length, get_or, take, set, Ok}
 use Rattle.std.proofs.Common.{arith, add-one, sub-one, sym, ap, ◌∙◌, append-nil, take-suc, take_all}
 use Rattle.std.proofs.Math.Option.{Option, none, some}
 use Rattle.rules.specs.Refusals.{ok}
@@ -21,14 +21,13 @@ use Rattle.plan.specs.Records.{opened, ended, opened-room}
 use Rattle.plan.specs.Room.{remap-in-use}
 use Rattle.plan.specs.Steps.{Steps, step-none, step-done}
 use Rattle.plan.specs.declared.steps.Step.{Step}
-use Rattle.plan.specs.declared.steps.Step.TheVariants as S
 use Rattle.build_clauses.specs.Follows.{Follows}
 use Rattle.build_clauses.specs.Rows.{stands-record}
 
 -- of every scope of width w with h columns hidden
 pub record RemapBuilt (w h n m k : ℕ) (nodes nodes' : List ℕ) (x : Step) : Type 0 where
   pub is : (s : Scope) → Valid s → s.width ≡ w → s.hidden ≡ h → (e : ℕ → Expr) (c q : Bytes) (area : List ℕ)
-      → Steps (λ d. d) (λ d. ok (build_remap d (scope_of e c q s))) n m k area nodes area nodes' x
+      → Steps (λ d. d) (λ d. ok (build_remap d (scope_of e c q s))) n m k area nodes area nodes' (Ok x)
 
 -- THE TARGETS of the first i columns are pushed
 pub record Pushing (w h i k : ℕ) (nodes₀ : List ℕ) (j : ℕ) (nodes : List ℕ) : Type 0 where
@@ -62,7 +61,7 @@ unfolding build_remap
 remap-none d s e = rw (e, build_remap)
 
 pub remap-nothing : {w h n m k : ℕ} {nodes : List ℕ} → h ≡ 0 → k ≤ length nodes
-    → RemapBuilt w h n m k nodes nodes (S.Done n m k)
+    → RemapBuilt w h n m k nodes nodes (record { cell = n; node = m; used = k })
 unfolding hidden_targets
 remap-nothing z l = record {
   is = λ s v ew eh e c q area.
@@ -101,7 +100,7 @@ module _ (w h m : ℕ) (z : h ≡ 0 → ⊥) {k : ℕ} {nodes : List ℕ} {i j :
       (r.0, r.1, omega (arith, r.1, a.all, o.all, l))
 
   pub remap-done : {n : ℕ} {u' : List ℕ} → h ≤ w → u' ≡ set u (k + length_place) (j - (k + record_head))
-      → RemapBuilt w h n m k nodes u' (S.Done n (m + 1) j)
+      → RemapBuilt w h n m k nodes u' (record { cell = n; node = m + 1; used = j })
   remap-done {n} {u'} l f =
       let x = some-targets w h z in
       let b = ended (remap (m - 1) x.targets) whole f in

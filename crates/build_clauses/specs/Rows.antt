@@ -1,9 +1,9 @@
 -- OFFSET and LIMIT as steps: a record and no cell.
-use Rattle.std.specs.Prelude.{ℕ, pred, ◌+◌, ◌-◌, ◌≤◌, ◌≡◌, List, [], ◌∷◌, ◌++◌, length, take}
+use Rattle.std.specs.Prelude.{ℕ, pred, ◌+◌, ◌-◌, ◌≤◌, ◌≡◌, List, [], ◌∷◌, ◌++◌, length, take, Ok, Err}
 use Rattle.std.proofs.Math.Numerals.{sub-one}
 use Rattle.std.proofs.Math.Path.{refl}
 use Rattle.std.proofs.Common.{sym, ap, ◌∙◌, append-nil}
-use Rattle.rules.specs.Refusals.{Reason, refusal_number, Answer, ok, ◌>>=◌, refuse, invalid_offset, invalid_limit}
+use Rattle.rules.specs.Refusals.{Reason, Answer, ok, ◌>>=◌, refuse, invalid_offset, invalid_limit}
 use Rattle.rules.specs.Lists.{Bytes, concat}
 use Rattle.rules.specs.Plan.{Built, Node}
 use Rattle.rules.specs.Plan as P
@@ -25,21 +25,21 @@ use Rattle.expression.specs.declared.planned.Natural.TheVariants as N
 use Rattle.statement.specs.EntryAccess.{clause_of}
 use Rattle.statement.specs.declared.access.Clause.{Clause}
 use Rattle.statement.specs.declared.access.Clause.TheVariants as C
+use Rattle.numbers.specs.Reasons.{named}
+use Rattle.numbers.specs.declared.refusals.Reason as code
 use Rattle.plan.specs.Layout.{cells_end}
 use Rattle.plan.specs.Appended.{Appended}
-use Rattle.plan.specs.Steps.{refuses-at, Stands, stands_one, Steps, step-none, step-done, step-refused}
-use Rattle.plan.specs.declared.steps.Step.{Step}
-use Rattle.plan.specs.declared.steps.Step.TheVariants as S
+use Rattle.plan.specs.Steps.{refused-at, Stands, stands_one, Stepped, Steps, step-none, step-done, step-refused}
 
 -- a clause w that refuses by r what is no number of 0 or more, and makes of a number a node by f
 pub record RowsBuilt (r : Reason) (f : ℕ → Node Built → Node Built) (c q : Bytes) (t : List ℕ) (w : Clause) (n m k : ℕ)
-    (nodes nodes' : List ℕ) (x : Step) : Type 0 where
+    (nodes nodes' : List ℕ) (x : Stepped) : Type 0 where
   pub is : (area : List ℕ) → Steps (λ d. d) (λ d. build_rows r f d (clause_of c q t w)) n m k area nodes area nodes' x
 
-abbrev pub OffsetBuilt : Bytes → Bytes → List ℕ → Clause → ℕ → ℕ → ℕ → List ℕ → List ℕ → Step → Type 0
+abbrev pub OffsetBuilt : Bytes → Bytes → List ℕ → Clause → ℕ → ℕ → ℕ → List ℕ → List ℕ → Stepped → Type 0
 OffsetBuilt = RowsBuilt invalid_offset (λ y d. P.offset d y)
 
-abbrev pub LimitBuilt : Bytes → Bytes → List ℕ → Clause → ℕ → ℕ → ℕ → List ℕ → List ℕ → Step → Type 0
+abbrev pub LimitBuilt : Bytes → Bytes → List ℕ → Clause → ℕ → ℕ → ℕ → List ℕ → List ℕ → Stepped → Type 0
 LimitBuilt = RowsBuilt invalid_limit (λ y d. P.limit d y)
 
 -- a record and no cell behind the n-th
@@ -61,26 +61,26 @@ rows_told r f l {c} {q} {t} {p} told d =
 
 module _ (r : Reason) (f : ℕ → Node Built → Node Built) {c q : Bytes} {t : List ℕ} {w : Clause} {n m k : ℕ}
     {nodes : List ℕ} where
-  pub rows-missing : w ≡ C.Missing → k ≤ length nodes → RowsBuilt r f c q t w n m k nodes nodes (S.Done n m k)
+  pub rows-missing : w ≡ C.Missing → k ≤ length nodes → RowsBuilt r f c q t w n m k nodes nodes (Ok (record { cell = n; node = m; used = k }))
   unfolding clause_of build_rows
   rows-missing e l = rw e (record { is = λ area. step-none l (λ d. refl) })
 
   module _ (l p : ℕ) (e : w ≡ C.Stands l p) {x : Natural} (told : Counted c q t p x) where
-    refused-told : (s : Reason) (y : ℕ) → natural_of r l x ≡ refuse s y → (z : ℕ) → z ≡ refusal_number s
-        → RowsBuilt r f c q t w n m k nodes nodes (S.Refused z y)
+    refused-told : (s : Reason) (y : ℕ) → natural_of r l x ≡ refuse s y → (z : code.Reason) → z ≡ named s
+        → RowsBuilt r f c q t w n m k nodes nodes (Err (record { reason = z; line = y }))
     unfolding refuse
     refused-told s y g z h = rw e (record {
-      is = λ area. step-refused refl refl (λ d cs rs u. refuses-at s y z y
+      is = λ area. step-refused refl refl (λ d cs rs u. refused-at s y z y
           (rows_told r f l told d ∙ bind-refused _ _ _ g) h refl);
     })
 
-    pub rows-invalid : x ≡ N.Invalid → (z : ℕ) → z ≡ refusal_number r
-        → RowsBuilt r f c q t w n m k nodes nodes (S.Refused z l)
+    pub rows-invalid : x ≡ N.Invalid → (z : code.Reason) → z ≡ named r
+        → RowsBuilt r f c q t w n m k nodes nodes (Err (record { reason = z; line = l }))
     unfolding natural_of
     rows-invalid g z h = refused-told r l (ap (natural_of r l) g) z h
 
-    pub rows-refused : (s : E.Reason) (y : ℕ) → x ≡ N.Refused s y → (z : ℕ) → z ≡ refusal_number (reason_of s)
-        → RowsBuilt r f c q t w n m k nodes nodes (S.Refused z y)
+    pub rows-refused : (s : E.Reason) (y : ℕ) → x ≡ N.Refused s y → (z : code.Reason) → z ≡ named (reason_of s)
+        → RowsBuilt r f c q t w n m k nodes nodes (Err (record { reason = z; line = y }))
     unfolding natural_of
     rows-refused s y g z h = refused-told (reason_of s) y (ap (natural_of r l) g) z h
 
@@ -88,7 +88,8 @@ module _ (r : Reason) (f : ℕ → Node Built → Node Built) {c q : Bytes} {t :
         → ((d : Node Built) (cs : List Cell) (rs : List NodeRecord) → Lays 0 0 d cs rs n m → (y : ℕ)
         → Lays 0 0 (f y d) cs (rs ++ (v (pred m) y ∷ [])) n (m + 1))
         → (y : ℕ) → x ≡ N.Number y → {j : ℕ} {nodes' : List ℕ} → Appended (record_numbers (v (m - 1) y)) k nodes j nodes'
-        → RowsBuilt r f c q t w n m k nodes nodes' (S.Done n (m + 1) j)
+        → RowsBuilt r f c q t w n m k nodes nodes'
+        (Ok (record { cell = n; node = m + 1; used = j }))
     unfolding natural_of
     rows-number v lays y g a = rw e (record {
       is = λ area. step-done refl a.all (record {
@@ -106,11 +107,13 @@ module _ (r : Reason) (f : ℕ → Node Built → Node Built) {c q : Bytes} {t :
 module _ {c q : Bytes} {t : List ℕ} {w : Clause} {n m k : ℕ} {nodes : List ℕ} (l p : ℕ) (e : w ≡ C.Stands l p)
     {x : Natural} (told : Counted c q t p x) (y : ℕ) (g : x ≡ N.Number y) {j : ℕ} {nodes' : List ℕ} where
   pub offset-number : Appended (record_numbers (offset (m - 1) y)) k nodes j nodes'
-      → OffsetBuilt c q t w n m k nodes nodes' (S.Done n (m + 1) j)
+      → OffsetBuilt c q t w n m k nodes nodes'
+      (Ok (record { cell = n; node = m + 1; used = j }))
   offset-number a = rows-number invalid_offset (λ z d. P.offset d z) l p e told offset
       (λ d cs rs h z. lays-offset 0 0 d cs rs n m h z) y g a
 
   pub limit-number : Appended (record_numbers (limit (m - 1) y)) k nodes j nodes'
-      → LimitBuilt c q t w n m k nodes nodes' (S.Done n (m + 1) j)
+      → LimitBuilt c q t w n m k nodes nodes'
+      (Ok (record { cell = n; node = m + 1; used = j }))
   limit-number a = rows-number invalid_limit (λ z d. P.limit d z) l p e told limit
       (λ d cs rs h z. lays-limit 0 0 d cs rs n m h z) y g a

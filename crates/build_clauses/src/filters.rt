@@ -10,8 +10,7 @@ ghost use Rattle.build_clauses.specs.Follows.{Follows};
 ghost use Rattle.build_clauses.specs.Filters.{Filtered, WhereBuilt, HavingBuilt};
 
 use build_expression::build_expression;
-use numbers::refusals::HAVING_WITHOUT_AGGREGATE;
-use plan::cells::Written;
+use numbers::refusals::{Reason, Refusal};
 use plan::nodes::filter;
 use plan::steps::Step;
 use scope::lookup::is_matched;
@@ -33,23 +32,22 @@ fn build_filter<'t, 'a>(
     nodes: &mut [u32],
     m: u32,
     k: usize,
-) -> Step
+) -> Result<Step, Refusal>
     requires room { Room n (3 * size (tree_at catalog.now statement.now cells.now r)) area.old }
     requires follows { Follows filter_size m k nodes.old }
     ensures { Filtered catalog.now statement.now cells.now
         (take width labels.now) (take width matches.now) (take count tables.now)
         r n m k area.old nodes.old area.new nodes.new result }
 {
-    let built = build_expression(
+    let cell = build_expression(
         catalog, statement, cells, r, labels, matches, width, tables, count, area, n,
-    );
-    match built {
-        Written::Refused(x, l) => Step::Refused(x, l),
-        Written::Done(p) => {
-            let j = filter(nodes, k, m - 1, p - 1);
-            Step::Done(p, m + 1, j)
-        }
-    }
+    )?;
+    let used = filter(nodes, k, m - 1, cell - 1);
+    Ok(Step {
+        cell,
+        node: m + 1,
+        used,
+    })
 }
 
 // WHERE over FROM's scope.
@@ -68,7 +66,7 @@ pub fn build_where<'t, 'a>(
     nodes: &mut [u32],
     m: u32,
     k: usize,
-) -> Step
+) -> Result<Step, Refusal>
     requires room { Room n (3 * clause_size (clause_of catalog.now statement.now cells.now clause)) area.old }
     requires follows { Follows filter_size m k nodes.old }
     ensures { WhereBuilt catalog.now statement.now cells.now clause
@@ -76,7 +74,11 @@ pub fn build_where<'t, 'a>(
         n m k area.old nodes.old area.new nodes.new result }
 {
     match clause {
-        Clause::Missing => Step::Done(n, m, k),
+        Clause::Missing => Ok(Step {
+            cell: n,
+            node: m,
+            used: k,
+        }),
         Clause::Stands(_, r) => build_filter(
             catalog, statement, cells, r, labels, matches, width, tables, count, area, n, nodes, m,
             k,
@@ -100,7 +102,7 @@ pub fn build_having<'t, 'a>(
     nodes: &mut [u32],
     m: u32,
     k: usize,
-) -> Step
+) -> Result<Step, Refusal>
     requires room { Room n (3 * clause_size (clause_of catalog.now statement.now cells.now clause)) area.old }
     requires follows { Follows filter_size m k nodes.old }
     ensures { HavingBuilt catalog.now statement.now cells.now clause
@@ -108,10 +110,17 @@ pub fn build_having<'t, 'a>(
         n m k area.old nodes.old area.new nodes.new result }
 {
     match clause {
-        Clause::Missing => Step::Done(n, m, k),
+        Clause::Missing => Ok(Step {
+            cell: n,
+            node: m,
+            used: k,
+        }),
         Clause::Stands(line, r) => {
             if !is_matched(matches, width) {
-                return Step::Refused(HAVING_WITHOUT_AGGREGATE, line);
+                return Err(Refusal {
+                    reason: Reason::HavingWithoutAggregate,
+                    line,
+                });
             }
             build_filter(
                 catalog, statement, cells, r, labels, matches, width, tables, count, area, n,

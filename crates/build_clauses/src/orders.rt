@@ -11,7 +11,7 @@ ghost use Rattle.build_clauses.specs.Keys.{keys_at, KeyPut, KeysPut};
 ghost use Rattle.build_clauses.specs.Orders.{OrderBuilt};
 
 use build_expression::build_expression;
-use plan::cells::Written;
+use numbers::refusals::Refusal;
 use plan::parts::{KEY_SIZE, begin_order, end, key};
 use plan::steps::Step;
 use sections::entry;
@@ -33,7 +33,7 @@ fn put_key<'t, 'a>(
     n: u32,
     nodes: &mut [u32],
     k: usize,
-) -> Written
+) -> Result<u32, Refusal>
     requires room { Room n (3 * size (tree_at catalog.now statement.now cells.now (first_row e))) area.old }
     requires key_size_in_bounds { k + key_size ≤ length nodes.old }
     ensures { KeyPut catalog.now statement.now cells.now
@@ -42,14 +42,11 @@ fn put_key<'t, 'a>(
 {
     let descends = descending(e);
     let r = first_row(e);
-    let built = build_expression(
+    let p = build_expression(
         catalog, statement, cells, r, labels, matches, width, tables, count, area, n,
-    );
-    let Written::Done(p) = built else {
-        return built;
-    };
+    )?;
     key(nodes, k, p - 1, descends);
-    Written::Done(p)
+    Ok(p)
 }
 
 // All keys, one after the other.
@@ -67,7 +64,7 @@ fn put_keys<'t, 'a>(
     n: u32,
     nodes: &mut [u32],
     k: usize,
-) -> Written
+) -> Result<u32, Refusal>
     requires cells_len { length cells.now ≡ table_size }
     requires room { Room n (3 * keys_size (keys_at catalog.now statement.now cells.now parts.now)) area.old }
     requires parts_in_bounds { k + key_size * length (keys_at catalog.now statement.now cells.now parts.now)
@@ -81,7 +78,7 @@ fn put_keys<'t, 'a>(
     let mut i: u32 = 0;
     while i < keys {
         let e = entry_at(parts, ORDER, i);
-        let put = put_key(
+        p = put_key(
             catalog,
             statement,
             cells,
@@ -95,14 +92,10 @@ fn put_keys<'t, 'a>(
             p,
             nodes,
             k + KEY_SIZE * (i as usize),
-        );
-        let Written::Done(next) = put else {
-            return put;
-        };
-        p = next;
+        )?;
         i += 1;
     }
-    Written::Done(p)
+    Ok(p)
 }
 
 // ORDER; without keys nothing is appended.
@@ -121,7 +114,7 @@ pub fn build_order<'t, 'a>(
     nodes: &mut [u32],
     m: u32,
     k: usize,
-) -> Step
+) -> Result<Step, Refusal>
     requires cells_len { length cells.now ≡ table_size }
     requires room { Room n (3 * keys_size (keys_at catalog.now statement.now cells.now parts.now)) area.old }
     requires follows { Follows (source_head + key_size * length (keys_at catalog.now statement.now cells.now parts.now))
@@ -132,19 +125,22 @@ pub fn build_order<'t, 'a>(
 {
     let keys = entry::count(parts, ORDER);
     if keys == 0 {
-        return Step::Done(n, m, k);
+        return Ok(Step {
+            cell: n,
+            node: m,
+            used: k,
+        });
     }
     let start = begin_order(nodes, k, m - 1);
-    let put = put_keys(
+    let cell = put_keys(
         catalog, statement, cells, parts, labels, matches, width, tables, count, area, n, nodes,
         start,
-    );
-    match put {
-        Written::Refused(x, l) => Step::Refused(x, l),
-        Written::Done(p) => {
-            let j = start + KEY_SIZE * (keys as usize);
-            end(nodes, k, j);
-            Step::Done(p, m + 1, j)
-        }
-    }
+    )?;
+    let used = start + KEY_SIZE * (keys as usize);
+    end(nodes, k, used);
+    Ok(Step {
+        cell,
+        node: m + 1,
+        used,
+    })
 }

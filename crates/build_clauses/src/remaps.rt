@@ -33,10 +33,18 @@ pub fn build_remap(width: u32, hidden: u32, nodes: &mut [u32], n: u32, m: u32, k
     ensures { RemapBuilt width hidden n m k nodes.old nodes.new result }
 {
     if hidden == 0 {
-        return Step::Done(n, m, k);
+        return Step {
+            cell: n,
+            node: m,
+            used: k,
+        };
     }
     let start = begin_remap(nodes, k, m - 1);
-    let j = push_targets(width, hidden, nodes, start);
-    end(nodes, k, j);
-    Step::Done(n, m + 1, j)
+    let used = push_targets(width, hidden, nodes, start);
+    end(nodes, k, used);
+    Step {
+        cell: n,
+        node: m + 1,
+        used,
+    }
 }

@@ -4,9 +4,9 @@ ghost use Rattle.build_clauses.specs.Follows.{Follows};
 ghost use Rattle.build_clauses.specs.Rows.{Counted, OffsetBuilt, LimitBuilt};
 
 use expression::constants::build_constant_value;
-use expression::number;
 use expression::planned::{Natural, to_natural};
-use numbers::refusals::{INVALID_LIMIT, INVALID_OFFSET};
+use expression::to_reason;
+use numbers::refusals::{Reason, Refusal};
 use plan::nodes::{limit, offset};
 use plan::steps::Step;
 use statement::access::Clause;
@@ -29,22 +29,36 @@ pub fn build_offset(
     n: u32,
     m: u32,
     k: usize,
-) -> Step
+) -> Result<Step, Refusal>
     requires { Follows rows_size m k nodes.old }
     ensures { OffsetBuilt catalog.now statement.now cells.now clause n m k
         nodes.old nodes.new result }
 {
     match clause {
-        Clause::Missing => Step::Done(n, m, k),
+        Clause::Missing => Ok(Step {
+            cell: n,
+            node: m,
+            used: k,
+        }),
         Clause::Stands(line, r) => {
             let natural = row_count(catalog, statement, cells, r);
             match natural {
                 Natural::Number(z) => {
-                    let j = offset(nodes, k, m - 1, z);
-                    Step::Done(n, m + 1, j)
+                    let used = offset(nodes, k, m - 1, z);
+                    Ok(Step {
+                        cell: n,
+                        node: m + 1,
+                        used,
+                    })
                 }
-                Natural::Invalid => Step::Refused(INVALID_OFFSET, line),
-                Natural::Refused(reason, l) => Step::Refused(number(reason), l),
+                Natural::Invalid => Err(Refusal {
+                    reason: Reason::InvalidOffset,
+                    line,
+                }),
+                Natural::Refused(reason, line) => Err(Refusal {
+                    reason: to_reason(reason),
+                    line,
+                }),
             }
         }
     }
@@ -60,22 +74,36 @@ pub fn build_limit(
     n: u32,
     m: u32,
     k: usize,
-) -> Step
+) -> Result<Step, Refusal>
     requires { Follows rows_size m k nodes.old }
     ensures { LimitBuilt catalog.now statement.now cells.now clause n m k
         nodes.old nodes.new result }
 {
     match clause {
-        Clause::Missing => Step::Done(n, m, k),
+        Clause::Missing => Ok(Step {
+            cell: n,
+            node: m,
+            used: k,
+        }),
         Clause::Stands(line, r) => {
             let natural = row_count(catalog, statement, cells, r);
             match natural {
                 Natural::Number(z) => {
-                    let j = limit(nodes, k, m - 1, z);
-                    Step::Done(n, m + 1, j)
+                    let used = limit(nodes, k, m - 1, z);
+                    Ok(Step {
+                        cell: n,
+                        node: m + 1,
+                        used,
+                    })
                 }
-                Natural::Invalid => Step::Refused(INVALID_LIMIT, line),
-                Natural::Refused(reason, l) => Step::Refused(number(reason), l),
+                Natural::Invalid => Err(Refusal {
+                    reason: Reason::InvalidLimit,
+                    line,
+                }),
+                Natural::Refused(reason, line) => Err(Refusal {
+                    reason: to_reason(reason),
+                    line,
+                }),
             }
         }
     }

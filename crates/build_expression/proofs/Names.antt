@@ -13,8 +13,7 @@ use Rattle.scope.specs.Scopes.{scope_from}
 use Rattle.scope.specs.Lookup.{found_of, Looked}
 use Rattle.std.specs.Prelude.{Result}
 use Rattle.numbers.specs.declared.refusals.Reason.{Reason}
-use Rattle.plan.specs.Emits.{Emits}
-use Rattle.plan.specs.declared.cells.Written.{Written}
+use Rattle.plan.specs.Emits.{Written, Emits}
 use Rattle.build_expression.specs.Rows.{column_step}
 
 pub resolved : {c q : Bytes} {xs ms ts : List ℕ} {o : Option Word} {f : Result ℕ Reason} {area area' : List ℕ} {x : Written}

@@ -13,8 +13,7 @@ use Rattle.ast.specs.Row.{line_at, operator_at, row_literal, first_operand, seco
 use Rattle.scope.specs.Scopes.{matches_of, scope_from}
 use Rattle.scope.specs.Matches.{matched-from}
 use Rattle.scope.specs.UsedMatches.{used_matches, used-again, used-scope}
-use Rattle.plan.specs.Emits.{Emitting, Emits, joined}
-use Rattle.plan.specs.declared.cells.Written.{Written}
+use Rattle.plan.specs.Emits.{Emitting, Written, Emits, joined}
 use Rattle.build_expression.specs.Rows.{unary_step, is_step, binary_step}
 use Rattle.build_expression.specs.declared.Begun.{Begun}
 use Rattle.build_expression.specs.declared.Begun.TheVariants as B

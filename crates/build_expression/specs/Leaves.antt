@@ -1,10 +1,10 @@
 -- What is built of a record before its operands, by its kind.
-use Rattle.std.specs.Prelude.{ℕ, suc, ◌+◌, ◌*◌, ◌<◌, ◌≡◌, true, false, List, [], ◌∷◌, length}
+use Rattle.std.specs.Prelude.{ℕ, suc, ◌+◌, ◌*◌, ◌<◌, ◌≡◌, true, false, List, [], ◌∷◌, length, Ok, Err}
 use Rattle.std.specs.Prelude as std
 use Rattle.std.proofs.Common.{arith, ◌∙◌}
 use Rattle.std.proofs.Math.Path.{refl, sym, ap}
 use Rattle.std.proofs.Math.Option.{Option, none, some}
-use Rattle.rules.specs.Refusals.{refusal_number, unsupported_star, unknown_function}
+use Rattle.rules.specs.Refusals.{unsupported_star, unknown_function}
 use Rattle.rules.specs.Lists.{Bytes}
 use Rattle.rules.specs.Lines.{Word}
 use Rattle.rules.specs.Codes.{unary_code}
@@ -23,9 +23,9 @@ use Rattle.scope.specs.Scopes.{matches_of}
 use Rattle.numbers.specs.Options.{option_of}
 use Rattle.scope.specs.Matches.{matched-from}
 use Rattle.plan.specs.Cells.{Puts}
-use Rattle.plan.specs.Emits.{Emits, accepts, refuses, emits-same}
-use Rattle.plan.specs.declared.cells.Written.{Written}
-use Rattle.plan.specs.declared.cells.Written.TheVariants as W
+use Rattle.numbers.specs.Reasons.{named}
+use Rattle.numbers.specs.declared.refusals.Reason.TheVariants as Re
+use Rattle.plan.specs.Emits.{Written, Emits, accepts, refuses, emits-same}
 use Rattle.build_expression.specs.Rows.{column_step, literal_step, column-is, unary-is, root_is, is-is, binary-is}
 use Rattle.build_expression.specs.Calls.{root_of, is-root, no-root, one_argument, call-unknown}
 use Rattle.build_expression.specs.Builds.{scope_at, Builds, Unmatched, unmatched, Operates, BeginsAs, Begins}
@@ -48,7 +48,7 @@ module _ (c q : Bytes) (t xs ms ts : List ℕ) (r n : ℕ) (area area' : List �
   -- a match is one column
   pub begins-matched : (m : std.Option ℕ) (i : ℕ)
       → option_of m ≡ match_at (matches_of (tree_at c q t) 0 ms) (tree_at c q t r) → m ≡ std.Some i
-      → Puts n (C.column i ∷ []) area area' → Begins c q t xs ms ts r n area area' (B.Whole (W.Done (n + 1)))
+      → Puts n (C.column i ∷ []) area area' → Begins c q t xs ms ts r n area area' (B.Whole (Ok (n + 1)))
   unfolding BeginsAs
   begins-matched m i e f p = record {
     is = record {
@@ -84,11 +84,11 @@ module _ (c q : Bytes) (t xs ms ts : List ℕ) (r n : ℕ) (area area' : List �
 
     module _ (k : Kind) (kind : number_of k ≡ kind_at t r) where
       pub begins-star : (l : ℕ) → k ≡ K.Star → l ≡ line_at t r → length area' ≡ length area
-          → Begins c q t xs ms ts r n area area' (B.Whole (W.Refused 12 l))
-      unfolding refusal_number
+          → Begins c q t xs ms ts r n area area' (B.Whole (Err (record { reason = Re.UnsupportedStar; line = l })))
+      unfolding named
       begins-star l e f g =
           let tree = star-row c q t r k kind e in
-          whole _ _ tree (λ h. refuses unsupported_star (line_at t r) 12 l g refl f
+          whole _ _ tree (λ h. refuses unsupported_star (line_at t r) Re.UnsupportedStar l g refl f
           (star-refused _ n (line_at t r) (none_of _ h tree)))
 
       pub begins-column : (x : Written) → k ≡ K.Column
@@ -197,8 +197,8 @@ module _ (c q : Bytes) (t xs ms ts : List ℕ) (r n : ℕ) (area area' : List �
           }
 
       pub begins-unknown : (l : ℕ) → root_of c q t r ≡ false → l ≡ line_at t r → length area' ≡ length area
-          → Begins c q t xs ms ts r n area area' (B.Whole (W.Refused 13 l))
-      unfolding refusal_number
-      begins-unknown l e f g = whole _ _ call-tree (λ h. refuses unknown_function (line_at t r) 13 l g refl f
+          → Begins c q t xs ms ts r n area area' (B.Whole (Err (record { reason = Re.UnknownFunction; line = l })))
+      unfolding named
+      begins-unknown l e f g = whole _ _ call-tree (λ h. refuses unknown_function (line_at t r) Re.UnknownFunction l g refl f
           (call-unknown _ n (line_at t r) (row_name c q t r) (tree_at c q t) t _ _ (none_of _ h call-tree)
           (no-root c q t r e)))

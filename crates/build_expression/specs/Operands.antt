@@ -1,6 +1,6 @@
 -- A record whose operands are built: each operand has room, and a refused operand, or the cells behind the operands, are
 -- the whole tree's.
-use Rattle.std.specs.Prelude.{ℕ, suc, ◌+◌, ◌*◌, ◌<◌, ◌≡◌, List}
+use Rattle.std.specs.Prelude.{ℕ, suc, ◌+◌, ◌*◌, ◌<◌, ◌≡◌, List, Ok, Err}
 use Rattle.std.proofs.Common.{arith, add-one, ap, ◌∙◌}
 use Rattle.std.proofs.Math.ListN.{length}
 use Rattle.rules.specs.Lists.{Bytes}
@@ -11,9 +11,8 @@ use Rattle.ast.specs.Row.{line_at, operator_at, row_literal, second_operand}
 use Rattle.claims.specs.Count.Arguments.{arguments-most}
 use Rattle.rules.specs.Scope.{empty}
 use Rattle.plan.specs.Cells.{Room, room-less}
-use Rattle.plan.specs.Emits.{Emits, emits-same, accepted, stop, next}
-use Rattle.plan.specs.declared.cells.Written.{Written}
-use Rattle.plan.specs.declared.cells.Written.TheVariants as W
+use Rattle.numbers.specs.declared.refusals.Refusal.{Refusal}
+use Rattle.plan.specs.Emits.{Written, Emits, emits-same, accepted, stop, next}
 use Rattle.build_expression.specs.Rows.{unary_step, is_step, binary_step, Within, emit-within}
 use Rattle.build_expression.specs.Builds.{scope_at, Builds, One, Two, UnaryRow, Operates, BeginsAs, Begins}
 use Rattle.build_expression.specs.declared.Begun.{Begun}
@@ -23,7 +22,7 @@ use Rattle.build_expression.specs.declared.Operator.TheVariants as O
 
 -- what was built is some cells, three for each expression cell at most
 pub built-within : {c q : Bytes} {t xs ms ts : List ℕ} {r n : ℕ} {area area' : List ℕ} {x : Written} (m : ℕ)
-    → Builds c q t xs ms ts r n area area' x → x ≡ W.Done m → Within n m (tree_at c q t r)
+    → Builds c q t xs ms ts r n area area' x → x ≡ Ok m → Within n m (tree_at c q t r)
 built-within {c} {q} {t} {xs} {ms} {ts} {r} {n} m b e =
     let a = accepted m (b.is 0) e in
     emit-within (scope_at c q t xs ms ts 0) n (tree_at c q t r) a.cells m a.is
@@ -76,16 +75,16 @@ module _ {c q : Bytes} {t xs ms ts : List ℕ} {r n : ℕ} {area area₁ : List 
       first : Builds c q t xs ms ts (suc r) n area area₂ x
       first = rw (add-one r, opened.0) at f
 
-      pub first-refused : (k l : ℕ) → x ≡ W.Refused k l → Builds c q t xs ms ts r n area area₂ x
+      pub first-refused : (w : Refusal) → x ≡ Err w → Builds c q t xs ms ts r n area area₂ (Err w)
       unfolding Operates
-      first-refused k l d = go o opened.1
+      first-refused w d = go o opened.1
         where
-          go : (o : Operator) → Operates c q t xs ms ts r o → Builds c q t xs ms ts r n area area₂ x
-          go (O.Unary j) h = record { is = λ i. emits-same (h.one.is i n) (stop _ k l (first.is i) d) }
-          go O.Is h = record { is = λ i. emits-same (h.is i n) (stop _ k l (first.is i) d) }
-          go O.Binary h = record { is = λ i. emits-same (h.is i n) (stop _ k l (first.is i) d) }
+          go : (o : Operator) → Operates c q t xs ms ts r o → Builds c q t xs ms ts r n area area₂ (Err w)
+          go (O.Unary j) h = record { is = λ i. emits-same (h.one.is i n) (stop _ w (first.is i) d) }
+          go O.Is h = record { is = λ i. emits-same (h.is i n) (stop _ w (first.is i) d) }
+          go O.Binary h = record { is = λ i. emits-same (h.is i n) (stop _ w (first.is i) d) }
 
-      module _ (m : ℕ) (d : x ≡ W.Done m) where
+      module _ (m : ℕ) (d : x ≡ Ok m) where
         pub first_some : 0 < m
         first_some = omega (arith, (built-within m first d).some')
 
@@ -133,13 +132,13 @@ module _ {c q : Bytes} {t xs ms ts : List ℕ} {r n : ℕ} {area area₁ : List 
             second : Builds c q t xs ms ts (second_operand t r) m area₂ area₃ y
             second = rw second-row at s
 
-            pub second-refused : (k l : ℕ) → y ≡ W.Refused k l → Builds c q t xs ms ts r n area area₃ y
-            second-refused k l z = record {
+            pub second-refused : (w : Refusal) → y ≡ Err w → Builds c q t xs ms ts r n area area₃ (Err w)
+            second-refused w z = record {
               is = λ i. emits-same (two.is i n)
-                  (next _ m (first.is i) d (stop _ k l (second.is i) z));
+                  (next _ m (first.is i) d (stop _ w (second.is i) z));
             }
 
-            module _ (k : ℕ) (z : y ≡ W.Done k) where
+            module _ (k : ℕ) (z : y ≡ Ok k) where
               pub second-some : 0 < k
               second-some = omega (arith, (built-within k second z).some')
 

@@ -1,9 +1,9 @@
 -- A column that was looked up: its position, or a refusal.
-use Rattle.std.specs.Prelude.{ℕ}
-use Rattle.rules.specs.Refusals.{refusal_number, Answer, ok, refused}
-use Rattle.build_expression.specs.declared.position.Position.{Position}
-use Rattle.build_expression.specs.declared.position.Position.TheVariants.{At, Refused}
+use Rattle.std.specs.Prelude.{ℕ, Result, Ok, Err}
+use Rattle.rules.specs.Refusals.{Answer, ok, refused}
+use Rattle.numbers.specs.Reasons.{noted}
+use Rattle.numbers.specs.declared.refusals.Refusal.{Refusal}
 
-unfoldable pub position_of : Answer ℕ → Position
-position_of (ok i) = At i
-position_of (refused w) = Refused (refusal_number w.reason) w.line
+unfoldable pub position_of : Answer ℕ → Result ℕ Refusal
+position_of (ok i) = Ok i
+position_of (refused w) = Err (noted w)

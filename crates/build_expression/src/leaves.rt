@@ -1,5 +1,5 @@
 // What is built of a record before its operands: a match, a column, a literal, or a refusal.
-ghost use Rattle.std.specs.Prelude.{◌≡◌, List, ℕ, take};
+ghost use Rattle.std.specs.Prelude.{◌≡◌, List, ℕ, take, Ok};
 ghost use Rattle.rules.specs.Ast as ast;
 ghost use Rattle.rules.specs.Scope as rules;
 ghost use Rattle.ast.specs.Operands.{kind_at};
@@ -12,13 +12,12 @@ ghost use Rattle.build_expression.specs.Rows.{column_step, literal_step};
 ghost use Rattle.build_expression.specs.Builds.{Builds, Unmatched, Begins};
 ghost use Rattle.build_expression.specs.Calls.{root_of};
 
-use crate::position::{Position, position_of};
+use crate::position::position_of;
 use crate::{Begun, Operator};
 use ast::row;
 use ast::row::Kind;
-use numbers::refusals::{Reason, UNKNOWN_FUNCTION, UNSUPPORTED_STAR};
+use numbers::refusals::{Reason, Refusal};
 use plan::cells;
-use plan::cells::Written;
 use scope::lookup::lookup;
 use scope::matches::lookup_aggregate;
 use text::places::{Place, holds_at};
@@ -27,18 +26,13 @@ use text::places::{Place, holds_at};
 const SQRT: u32 = 12;
 
 // A column that was looked up, in a record at a line.
-fn found(f: Result<u32, Reason>, line: u32, area: &mut [u32], n: u32) -> Written
+fn found(f: Result<u32, Reason>, line: u32, area: &mut [u32], n: u32) -> Result<u32, Refusal>
     requires { Room n 1 area.old }
     ensures { Emits (column_step n line (found_of f)) n area.old area.new result }
 {
-    let p = position_of(f, line);
-    match p {
-        Position::At(i) => {
-            cells::column(area, n, i);
-            Written::Done(n + 1)
-        }
-        Position::Refused(number, l) => Written::Refused(number, l),
-    }
+    let i = position_of(f, line)?;
+    cells::column(area, n, i);
+    Ok(n + 1)
 }
 
 // The column record at row r, under a qualifier.
@@ -55,7 +49,7 @@ fn column<'t, 'a>(
     qualifier: Option<Place>,
     area: &mut [u32],
     n: u32,
-) -> Written
+) -> Result<u32, Refusal>
     requires { Room n 1 area.old }
     ensures { (e : ℕ → ast.Expr) (h : ℕ) → Emits
         (column_step n (line_at table.now r) (rules.lookup
@@ -86,7 +80,7 @@ pub fn qualified<'t, 'a>(
     count: u32,
     area: &mut [u32],
     n: u32,
-) -> Written
+) -> Result<u32, Refusal>
     requires room { Room n 1 area.old }
     requires r_value { kind_at table.now r ≡ 3 }
     requires unmatched { Unmatched catalog.now statement.now table.now (take width matches.now) r }
@@ -134,20 +128,20 @@ fn literal(
     r: usize,
     area: &mut [u32],
     n: u32,
-) -> Written
+) -> u32
     requires { Room n 1 area.old }
     ensures { Emits
         (literal_step n (row_literal catalog.now statement.now table.now r))
-        n area.old area.new result }
+        n area.old area.new (Ok result) }
 {
     let kind = row::literal_number(table, r);
     let a = row::literal_first(table, r);
     let b = row::literal_second(table, r);
     cells::constant(catalog, statement, area, n, kind, a, b);
-    Written::Done(n + 1)
+    n + 1
 }
 
-// A call: 13 for any but `sqrt` of one argument, before its arguments.
+// A call: refused for any but `sqrt` of one argument, before its arguments.
 fn call(catalog: &[u8], statement: &[u8], table: &[u32], r: usize) -> Begun
     requires { kind_at table.now r ≡ 4 }
     ensures { (xs ms ts area : List ℕ) (n : ℕ)
@@ -157,7 +151,10 @@ fn call(catalog: &[u8], statement: &[u8], table: &[u32], r: usize) -> Begun
     if is_root(catalog, statement, table, r) {
         return Begun::Operands(Operator::Unary(SQRT));
     }
-    Begun::Whole(Written::Refused(UNKNOWN_FUNCTION, row::line(table, r)))
+    Begun::Whole(Err(Refusal {
+        reason: Reason::UnknownFunction,
+        line: row::line(table, r),
+    }))
 }
 
 // A record that is matched to no column.
@@ -182,20 +179,12 @@ fn unmatched<'t, 'a>(
 {
     let kind = row::kind_of(table, r);
     match kind {
-        Kind::Star => Begun::Whole(Written::Refused(UNSUPPORTED_STAR, row::line(table, r))),
+        Kind::Star => Begun::Whole(Err(Refusal {
+            reason: Reason::UnsupportedStar,
+            line: row::line(table, r),
+        })),
         Kind::Column => Begun::Whole(column(
-            catalog,
-            statement,
-            table,
-            r,
-            labels,
-            matches,
-            width,
-            tables,
-            count,
-            None,
-            area,
-            n,
+            catalog, statement, table, r, labels, matches, width, tables, count, None, area, n,
         )),
         Kind::Qualified => Begun::Whole(qualified(
             catalog, statement, table, r, labels, matches, width, tables, count, area, n,
@@ -204,7 +193,7 @@ fn unmatched<'t, 'a>(
         Kind::Unary => Begun::Operands(Operator::Unary(row::unary_code(table, r))),
         Kind::Binary => Begun::Operands(Operator::Binary),
         Kind::Is => Begun::Operands(Operator::Is),
-        Kind::Literal => Begun::Whole(literal(catalog, statement, table, r, area, n)),
+        Kind::Literal => Begun::Whole(Ok(literal(catalog, statement, table, r, area, n))),
     }
 }
 
@@ -231,7 +220,7 @@ pub fn begin<'t, 'a>(
     match matched {
         Some(i) => {
             cells::column(area, n, i);
-            Begun::Whole(Written::Done(n + 1))
+            Begun::Whole(Ok(n + 1))
         }
         None => unmatched(
             catalog, statement, table, r, labels, matches, width, tables, count, area, n,

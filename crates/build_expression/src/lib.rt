@@ -12,7 +12,7 @@ ghost use Rattle.plan.specs.Cells.{Room};
 ghost use Rattle.build_expression.specs.Builds.{Builds};
 
 use ast::rows;
-use plan::cells::Written;
+use numbers::refusals::Refusal;
 use scope::lookup::used_matches;
 
 // A record whose operands are to be built: a unary operator by its code, `is`, or a binary operator.
@@ -26,7 +26,7 @@ pub enum Operator {
 // What is built of a record before its operands: the whole, or nothing yet.
 #[derive(Clone, Copy)]
 pub enum Begun {
-    Whole(Written),
+    Whole(Result<u32, Refusal>),
     Operands(Operator),
 }
 
@@ -43,7 +43,7 @@ fn build_tree<'t, 'a>(
     count: u32,
     area: &mut [u32],
     n: u32,
-) -> Written
+) -> Result<u32, Refusal>
     requires { Room n (3 * size (tree_at catalog.now statement.now table.now r)) area.old }
     ensures { Builds catalog.now statement.now table.now
         (take width labels.now) (take width matches.now) (take count tables.now)
@@ -57,24 +57,18 @@ fn build_tree<'t, 'a>(
         Begun::Operands(operator) => {
             let left = r + 1;
             let right = rows::next(table, left);
-            let first = build_tree(
+            let m = build_tree(
                 catalog, statement, table, left, labels, matches, width, tables, count, area, n,
-            );
-            let Written::Done(m) = first else {
-                return first;
-            };
+            )?;
             match operator {
-                Operator::Unary(code) => operators::unary(area, m, code),
+                Operator::Unary(code) => Ok(operators::unary(area, m, code)),
                 Operator::Is => operators::is(table, r, area, m),
                 Operator::Binary => {
-                    let second = build_tree(
+                    let k = build_tree(
                         catalog, statement, table, right, labels, matches, width, tables, count,
                         area, m,
-                    );
-                    let Written::Done(k) = second else {
-                        return second;
-                    };
-                    operators::binary(table, r, area, m, k)
+                    )?;
+                    Ok(operators::binary(table, r, area, m, k))
                 }
             }
         }
@@ -94,7 +88,7 @@ pub fn build_expression<'t, 'a>(
     count: u32,
     area: &mut [u32],
     n: u32,
-) -> Written
+) -> Result<u32, Refusal>
     requires { Room n (3 * size (tree_at catalog.now statement.now table.now r)) area.old }
     ensures { Builds catalog.now statement.now table.now
         (take width labels.now) (take width matches.now) (take count tables.now)
@@ -119,7 +113,7 @@ pub fn build_item<'t, 'a>(
     count: u32,
     area: &mut [u32],
     n: u32,
-) -> Written
+) -> Result<u32, Refusal>
     requires { Room n (3 * size (tree_at catalog.now statement.now table.now r)) area.old }
     ensures { Builds catalog.now statement.now table.now
         (take width labels.now) (take width matches.now) (take count tables.now)

@@ -1,5 +1,5 @@
 // The cells of operators behind those of their operands. The last cell of an operand is its root.
-ghost use Rattle.std.specs.Prelude.{◌≡◌, ◌<◌};
+ghost use Rattle.std.specs.Prelude.{◌≡◌, ◌<◌, Ok};
 ghost use Rattle.rules.specs.Lists.{Bytes};
 ghost use Rattle.rules.specs.Codes.{unary_code};
 ghost use Rattle.rules.specs.Ast as ast;
@@ -11,23 +11,22 @@ ghost use Rattle.build_expression.specs.Rows.{unary_step, is_step, binary_step};
 
 use ast::row;
 use numbers::literals::is_null_or_nan;
-use numbers::refusals::INVALID_IS;
+use numbers::refusals::{Reason, Refusal};
 use plan::cells;
-use plan::cells::Written;
 
 // A unary operator by its code, where m is the next cell.
-pub fn unary(area: &mut [u32], m: u32, code: u32) -> Written
+pub fn unary(area: &mut [u32], m: u32, code: u32) -> u32
     requires room { Room m 1 area.old }
     requires m_nonzero { 0 < m }
     ensures { (o : ast.Unary) → code ≡ unary_code o
-        → Emits (unary_step o m) m area.old area.new result }
+        → Emits (unary_step o m) m area.old area.new (Ok result) }
 {
     cells::unary(area, m, code, m - 1);
-    Written::Done(m + 1)
+    m + 1
 }
 
 // The record of `is` at row r.
-pub fn is(table: &[u32], r: usize, area: &mut [u32], m: u32) -> Written
+pub fn is(table: &[u32], r: usize, area: &mut [u32], m: u32) -> Result<u32, Refusal>
     requires room { Room m 1 area.old }
     requires m_nonzero { 0 < m }
     ensures { (c q : Bytes) → Emits
@@ -38,21 +37,23 @@ pub fn is(table: &[u32], r: usize, area: &mut [u32], m: u32) -> Written
     let a = row::literal_first(table, r);
     let b = row::literal_second(table, r);
     if !is_null_or_nan(kind, a, b) {
-        let line = row::line(table, r);
-        return Written::Refused(INVALID_IS, line);
+        return Err(Refusal {
+            reason: Reason::InvalidIs,
+            line: row::line(table, r),
+        });
     }
     cells::is(area, m, m - 1, kind, a, b);
-    Written::Done(m + 1)
+    Ok(m + 1)
 }
 
 // The binary operator at row r: m is the cell behind its left operand, k that behind its right one.
-pub fn binary(table: &[u32], r: usize, area: &mut [u32], m: u32, k: u32) -> Written
+pub fn binary(table: &[u32], r: usize, area: &mut [u32], m: u32, k: u32) -> u32
     requires room { Room k 3 area.old }
     requires m_nonzero { 0 < m }
     requires k_nonzero { 0 < k }
     ensures { Emits (binary_step (binary_at (operator_at table.now r)) m k)
-        k area.old area.new result }
+        k area.old area.new (Ok result) }
 {
     let code = row::binary_code(table, r);
-    Written::Done(cells::operator(area, k, code, m - 1, k - 1))
+    cells::operator(area, k, code, m - 1, k - 1)
 }

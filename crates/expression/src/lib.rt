@@ -7,7 +7,7 @@ pub mod planned;
 
 ghost use Rattle.std.specs.Prelude.{◌≡◌, ℕ, suc, ◌+◌};
 ghost use Rattle.rules.specs.Lists.{Bytes};
-ghost use Rattle.rules.specs.Refusals as refusals;
+ghost use Rattle.numbers.specs.Reasons.{named};
 ghost use Rattle.rules.specs.Ast as ast;
 ghost use Rattle.rules.specs.Evaluate.{evaluate};
 ghost use Rattle.value.specs.Values.{held};
@@ -17,10 +17,6 @@ ghost use Rattle.expression.specs.Answers.{map_answer, reason_of, answer_of, Eva
 ghost use Rattle.expression.specs.declared.Evaluated.TheVariants as Ev;
 
 use ast::rows;
-use numbers::refusals::{
-    CONSTANT_ONLY, DIVISION_BY_ZERO, INTEGER_OVERFLOW, INVALID_IS, NOT_WORKED_OUT,
-    UNKNOWN_FUNCTION, UNSUPPORTED_STAR, WRONG_OPERAND,
-};
 use value::{Value, arithmetic, literals};
 
 // Why an expression has no value.
@@ -51,19 +47,19 @@ pub enum Constant {
     Refused(Reason, u32),
 }
 
-// Document 01's number of a reason.
-pub fn number(n: Reason) -> u32
-    ensures { result ≡ refusals.refusal_number (reason_of n) }
+// The same among document 01's refusals.
+pub fn to_reason(n: Reason) -> numbers::refusals::Reason
+    ensures { result ≡ named (reason_of n) }
 {
     match n {
-        Reason::ConstantOnly => CONSTANT_ONLY,
-        Reason::UnsupportedStar => UNSUPPORTED_STAR,
-        Reason::UnknownFunction => UNKNOWN_FUNCTION,
-        Reason::Overflow => INTEGER_OVERFLOW,
-        Reason::DividedByZero => DIVISION_BY_ZERO,
-        Reason::WrongOperand => WRONG_OPERAND,
-        Reason::NotWorkedOut => NOT_WORKED_OUT,
-        Reason::InvalidIs => INVALID_IS,
+        Reason::ConstantOnly => numbers::refusals::Reason::ConstantOnly,
+        Reason::UnsupportedStar => numbers::refusals::Reason::UnsupportedStar,
+        Reason::UnknownFunction => numbers::refusals::Reason::UnknownFunction,
+        Reason::Overflow => numbers::refusals::Reason::IntegerOverflow,
+        Reason::DividedByZero => numbers::refusals::Reason::DivisionByZero,
+        Reason::WrongOperand => numbers::refusals::Reason::WrongOperand,
+        Reason::NotWorkedOut => numbers::refusals::Reason::NotWorkedOut,
+        Reason::InvalidIs => numbers::refusals::Reason::InvalidIs,
     }
 }
 

@@ -1,22 +1,34 @@
 -- What a step that may refuse appends: its answer and the cells, which compose step by step.
-use Rattle.std.specs.Prelude.{ℕ, ◌+◌, ◌≡◌, refl, List, ◌++◌, length, take}
+use Rattle.std.specs.Prelude.{ℕ, ◌+◌, ◌≡◌, refl, List, ◌++◌, length, take, Result, Ok, Err}
 use Rattle.std.proofs.Common.{arith, sym, ap, ◌∙◌, append_assoc}
-use Rattle.rules.specs.Refusals.{Reason, refusal_number, Answer, ok, refused, refuse}
+use Rattle.std.specs.Result.{IsErrAnd}
+use Rattle.std.proofs.lemmas.Result.{err_from_is_err_and}
+use Rattle.rules.specs.Refusals as R
+use Rattle.rules.specs.Refusals.{Answer, ok, refused, refuse}
 use Rattle.rules.specs.Cells.{Cell}
 use Rattle.appends.specs.Answers.{ok-not-refused}
 use Rattle.appends.specs.Area.{cells_numbers, cells-numbers-append}
 use Rattle.plan.specs.Layout.{cells_end}
 use Rattle.plan.specs.Cells.{Puts}
-use Rattle.plan.specs.declared.cells.Written.{Written}
-use Rattle.plan.specs.declared.cells.Written.TheVariants.{Done, Refused}
+use Rattle.numbers.specs.Reasons.{named, noted}
+use Rattle.numbers.specs.declared.refusals.Reason.{Reason}
+use Rattle.numbers.specs.declared.refusals.Refusal.{Refusal}
+
+-- what the exit of a `?` returns
+pub exit : {T E : Type 0} (r : Result T E) {w : E} → IsErrAnd r (λ y. y ≡ w) → r ≡ Err w
+exit r h = let p = err_from_is_err_and r h in p.1 ∙ ap Err p.2
 
 -- cells and the next cell, or a refusal
 abbrev pub Emitting : Type 0
 Emitting = Answer (List Cell × ℕ)
 
+-- the next cell, or the refusal
+abbrev pub Written : Type 0
+Written = Result ℕ Refusal
+
 unfoldable pub written_of : Emitting → Written
-written_of (ok p) = Done p.1
-written_of (refused w) = Refused (refusal_number w.reason) w.line
+written_of (ok p) = Ok p.1
+written_of (refused w) = Err (noted w)
 
 -- r is the answer a, whose cells stand from the n-th on where it is accepted; else the area's numbers are not determined
 pub record Emits (a : Emitting) (n : ℕ) (area area' : List ℕ) (r : Written) : Type 0 where
@@ -28,7 +40,7 @@ pub record Emits (a : Emitting) (n : ℕ) (area area' : List ℕ) (r : Written) 
 -- ONE STEP
 -- accepted: its cells are appended
 pub accepts : {a : Emitting} {n : ℕ} {cs : List Cell} {area area' : List ℕ} (m : ℕ) → Puts n cs area area'
-    → n + length cs ≡ m → a ≡ ok (cs, m) → Emits a n area area' (Done m)
+    → n + length cs ≡ m → a ≡ ok (cs, m) → Emits a n area area' (Ok m)
 unfolding written_of
 accepts {a} {n} {cs} {area} {area'} m p e h = record {
   answer = sym (ap written_of h);
@@ -41,11 +53,12 @@ accepts {a} {n} {cs} {area} {area'} m p e h = record {
 }
 
 -- refused
-pub refuses : {a : Emitting} {n : ℕ} {area area' : List ℕ} (k : Reason) (l x y : ℕ) → length area' ≡ length area
-    → x ≡ refusal_number k → y ≡ l → a ≡ refuse k l → Emits a n area area' (Refused x y)
+pub refuses : {a : Emitting} {n : ℕ} {area area' : List ℕ} (k : R.Reason) (l : ℕ) (x : Reason) (y : ℕ)
+    → length area' ≡ length area → x ≡ named k → y ≡ l → a ≡ refuse k l
+    → Emits a n area area' (Err (record { reason = x; line = y }))
 unfolding written_of refuse
 refuses {a} k l x y e f g h = record {
-  answer = (λ i. Refused (f i) (g i)) ∙ sym (ap written_of h);
+  answer = rw (f, g, h);
   kept = e;
   cells = λ ds m g. ok-not-refused _ _ (sym g ∙ h);
 }
@@ -76,31 +89,31 @@ pub record Accepted (a : Emitting) (m : ℕ) : Type 0 where
   pub is : a ≡ ok (cells, m)
 
 pub accepted : {a : Emitting} {n : ℕ} {area area' : List ℕ} {r : Written} (m : ℕ) → Emits a n area area' r
-    → r ≡ Done m → Accepted a m
+    → r ≡ Ok m → Accepted a m
 unfolding written_of
 accepted {a} {n} {area} {area'} {r} m h e = go a (sym e ∙ h.answer)
   where
-    go : (a : Emitting) → Done m ≡ written_of a → Accepted a m
+    go : (a : Emitting) → ◌≡◌ {A = Written} (Ok m) (written_of a) → Accepted a m
     go (ok p) g =
         let k : p.1 ≡ m = cc in
         record { cells = p.0; is = ap (λ (j : ℕ). ok (p.0, j)) k }
     go (refused w) g = absurd (let z : ◌≡◌ {A = ℕ} 0 1 = cc in omega arith)
 
 -- a refusal ends the whole
-pub stop : {a : Emitting} {n : ℕ} {area area' : List ℕ} {r : Written} (f : ℕ → Emitting) (k l : ℕ)
-    → Emits a n area area' r → r ≡ Refused k l → Emits (joined a f) n area area' r
+pub stop : {a : Emitting} {n : ℕ} {area area' : List ℕ} {r : Written} (f : ℕ → Emitting) (w : Refusal)
+    → Emits a n area area' r → r ≡ Err w → Emits (joined a f) n area area' (Err w)
 unfolding written_of joined
-stop {a} {n} {area} {area'} {r} f k l h e = go a h
+stop {a} {n} {area} {area'} {r} f w h e = go a (rw e at h)
   where
-    go : (a : Emitting) → Emits a n area area' r → Emits (joined a f) n area area' r
+    go : (a : Emitting) → Emits a n area area' (Err w) → Emits (joined a f) n area area' (Err w)
     go (ok p) g =
-        let y : Refused k l ≡ Done p.1 = sym e ∙ g.answer in
+        let y : ◌≡◌ {A = Written} (Err w) (Ok p.1) = g.answer in
         absurd (let z : ◌≡◌ {A = ℕ} 0 1 = cc in omega arith)
-    go (refused w) g = g
+    go (refused v) g = g
 
 -- and an accepted step goes on
 pub next : {a : Emitting} {n : ℕ} {area area' area'' : List ℕ} {r r' : Written} (f : ℕ → Emitting) (m : ℕ)
-    → Emits a n area area' r → r ≡ Done m → Emits (f m) m area' area'' r' → Emits (joined a f) n area area'' r'
+    → Emits a n area area' r → r ≡ Ok m → Emits (f m) m area' area'' r' → Emits (joined a f) n area area'' r'
 unfolding written_of joined after
 next {a} {n} {area} {area'} {area''} {r} {r'} f m h e g =
     let d = accepted m h e in

@@ -1,6 +1,6 @@
 -- A step of a SELECT: the cells and the node records that it appends behind the node before it, or its refusal; and
 -- steps one after the other.
-use Rattle.std.specs.Prelude.{ℕ, ◌≤◌, ◌≡◌, refl, List, [], ◌∷◌, ◌++◌, length, take}
+use Rattle.std.specs.Prelude.{ℕ, ◌≤◌, ◌≡◌, refl, List, [], ◌∷◌, ◌++◌, length, take, Result, Ok, Err}
 use Rattle.std.proofs.Common.{arith, sym, ◌∙◌, append_assoc, append-nil}
 use Rattle.rules.specs.Refusals.{Reason, Refusal, refusal_number, Answer, ok, refused, refuse}
 use Rattle.rules.specs.Refusals as R
@@ -16,11 +16,11 @@ use Rattle.appends.specs.From.Laid.{stage_of, StageLaid, NodeLaid}
 use Rattle.plan.specs.Layout.{cells_end}
 use Rattle.plan.specs.Appended.{Appended, appended-none}
 use Rattle.plan.specs.Records.{records-append, records-first}
-use Rattle.plan.specs.Emits.{Emitting, written_of, Emits}
-use Rattle.plan.specs.declared.cells.Written.{Written}
-use Rattle.plan.specs.declared.cells.Written.TheVariants as W
+use Rattle.numbers.specs.Reasons.{reason_of, named, noted, reason-named}
+use Rattle.numbers.specs.declared.refusals.Reason as reasons
+use Rattle.numbers.specs.declared.refusals.Refusal as code
+use Rattle.plan.specs.Emits.{Emitting, Written, written_of, Emits}
 use Rattle.plan.specs.declared.steps.Step.{Step}
-use Rattle.plan.specs.declared.steps.Step.TheVariants as S
 
 -- REFUSALS
 -- no refusal has the number 0
@@ -73,15 +73,40 @@ pub refuses-on : {A B : Type 0} {a : Answer A} {b : Answer B} {x l : ℕ} → Re
     → ((w : Refusal) → a ≡ refused w → b ≡ refused w) → Refuses b x l
 refuses-on h f = record { why = h.why; is = f h.why h.is; number = h.number; line = h.line }
 
+-- a is refused, which the code has as w
+pub record RefusedWith {A : Type 0} (a : Answer A) (w : code.Refusal) : Type 0 where
+  pub why : Refusal
+  pub is : a ≡ refused why
+  pub noted' : w ≡ noted why
+
+pub refused-at : {A : Type 0} {a : Answer A} (k : Reason) (l : ℕ) (x : reasons.Reason) (y : ℕ) → a ≡ refuse k l → x ≡ named k
+    → y ≡ l → RefusedWith a (record { reason = x; line = y })
+unfolding refuse
+refused-at k l x y e f g = record { why = _; is = e; noted' = rw (f, g) }
+
+pub refused-on : {A B : Type 0} {a : Answer A} {b : Answer B} {w : code.Refusal} → RefusedWith a w
+    → ((v : Refusal) → a ≡ refused v → b ≡ refused v) → RefusedWith b w
+refused-on h f = record { why = h.why; is = f h.why h.is; noted' = h.noted' }
+
 -- that of an expression
-pub emits-refused : {a : Emitting} {n : ℕ} {area area' : List ℕ} {r : Written} (x l : ℕ) → Emits a n area area' r
-    → r ≡ W.Refused x l → Refuses a x l
+pub emits-refused : {a : Emitting} {n : ℕ} {area area' : List ℕ} {r : Written} (w : code.Refusal) → Emits a n area area' r
+    → r ≡ Err w → RefusedWith a w
 unfolding written_of
-emits-refused {a} {r = r} x l h e = go a (sym e ∙ h.answer)
+emits-refused {a} {r = r} w h e = go a (sym e ∙ h.answer)
   where
-    go : (b : Emitting) → W.Refused x l ≡ written_of b → Refuses b x l
+    go : (b : Emitting) → ◌≡◌ {A = Written} (Err w) (written_of b) → RefusedWith b w
     go (ok p) g = absurd (let z : ◌≡◌ {A = ℕ} 0 1 = cc in omega arith)
-    go (refused w) g = record { why = w; is = refl; number = cc; line = cc }
+    go (refused v) g = record { why = v; is = refl; noted' = cc }
+
+-- by its number
+pub refuses-number : {A : Type 0} {a : Answer A} {w : code.Refusal} → RefusedWith a w
+    → Refuses a (refusal_number (reason_of w.reason)) w.line
+refuses-number h = record {
+  why = h.why;
+  is = h.is;
+  number = rw (h.noted', reason-named h.why.reason);
+  line = rw h.noted';
+}
 
 -- WHAT STANDS in the area and among the nodes: cells from the i-th on, records behind u numbers
 pub record Stands (i u : ℕ) (area nodes : List ℕ) (cs : List Cell) (rs : List NodeRecord) (j v : ℕ)
@@ -141,14 +166,21 @@ pub record Taken {B : Type 0} (view : Node Built → B) (a : Node Built → Answ
 abbrev pub NotTaken : {B : Type 0} → (Node Built → Answer B) → ℕ → ℕ → ℕ → ℕ → Type 0
 NotTaken a n m x l = (d : Node Built) (cs : List Cell) (rs : List NodeRecord) → Lays 0 0 d cs rs n m → Refuses (a d) x l
 
+abbrev pub StoppedWith : {B : Type 0} → (Node Built → Answer B) → ℕ → ℕ → code.Refusal → Type 0
+StoppedWith a n m w = (d : Node Built) (cs : List Cell) (rs : List NodeRecord) → Lays 0 0 d cs rs n m → RefusedWith (a d) w
+
+-- how far the step came, or its refusal
+abbrev pub Stepped : Type 0
+Stepped = Result Step code.Refusal
+
 unfoldable pub StepAs : {B : Type 0} → (Node Built → B) → (Node Built → Answer B) → ℕ → ℕ → ℕ → List ℕ → List ℕ
-    → List ℕ → List ℕ → Step → Type 0
-StepAs view a n m k area nodes area' nodes' (S.Done n' m' k') = Taken view a n m k area nodes n' m' k' area' nodes'
-StepAs view a n m k area nodes area' nodes' (S.Refused x l) = NotTaken a n m x l
+    → List ℕ → List ℕ → Stepped → Type 0
+StepAs view a n m k area nodes area' nodes' (Ok s) = Taken view a n m k area nodes s.cell s.node s.used area' nodes'
+StepAs view a n m k area nodes area' nodes' (Err w) = StoppedWith a n m w
 
 -- the step a behind n cells, m nodes and k numbers of the nodes; what it makes of its node is view
 pub record Steps {B : Type 0} (view : Node Built → B) (a : Node Built → Answer B) (n m k : ℕ) (area nodes : List ℕ)
-    (area' nodes' : List ℕ) (r : Step) : Type 0 where
+    (area' nodes' : List ℕ) (r : Stepped) : Type 0 where
   pub kept : length area' ≡ length area
   pub kept-nodes : length nodes' ≡ length nodes
   pub is : StepAs view a n m k area nodes area' nodes' r
@@ -157,28 +189,29 @@ module _ {B : Type 0} {view : Node Built → B} {a : Node Built → Answer B} {n
   where
     pub step-done : {n' m' k' : ℕ} → length area' ≡ length area → length nodes' ≡ length nodes
         → Taken view a n m k area nodes n' m' k' area' nodes'
-        → Steps view a n m k area nodes area' nodes' (S.Done n' m' k')
+        → Steps view a n m k area nodes area' nodes' (Ok (record { cell = n'; node = m'; used = k' }))
     unfolding StepAs
     step-done e f t = record { kept = e; kept-nodes = f; is = t }
 
-    pub step-refused : {x l : ℕ} → length area' ≡ length area → length nodes' ≡ length nodes → NotTaken a n m x l
-        → Steps view a n m k area nodes area' nodes' (S.Refused x l)
+    pub step-refused : {w : code.Refusal} → length area' ≡ length area → length nodes' ≡ length nodes → StoppedWith a n m w
+        → Steps view a n m k area nodes area' nodes' (Err w)
     unfolding StepAs
     step-refused e f t = record { kept = e; kept-nodes = f; is = t }
 
-    pub taken : {r : Step} (n' m' k' : ℕ) → Steps view a n m k area nodes area' nodes' r → r ≡ S.Done n' m' k'
-        → Taken view a n m k area nodes n' m' k' area' nodes'
+    pub taken : {r : Stepped} (s : Step) → Steps view a n m k area nodes area' nodes' r → r ≡ Ok s
+        → Taken view a n m k area nodes s.cell s.node s.used area' nodes'
     unfolding StepAs
-    taken n' m' k' h e = rw e at h.is
+    taken s h e = rw e at h.is
 
-    pub not_taken : {r : Step} (x l : ℕ) → Steps view a n m k area nodes area' nodes' r → r ≡ S.Refused x l
-        → NotTaken a n m x l
+    pub not_taken : {r : Stepped} (w : code.Refusal) → Steps view a n m k area nodes area' nodes' r → r ≡ Err w
+        → StoppedWith a n m w
     unfolding StepAs
-    not_taken x l h e = rw e at h.is
+    not_taken w h e = rw e at h.is
 
 -- nothing is appended
 pub step-none : {B : Type 0} {view : Node Built → B} {a : Node Built → Answer B} {n m k : ℕ} {area nodes : List ℕ}
-    → k ≤ length nodes → ((d : Node Built) → a d ≡ ok (view d)) → Steps view a n m k area nodes area nodes (S.Done n m k)
+    → k ≤ length nodes → ((d : Node Built) → a d ≡ ok (view d)) → Steps view a n m k area nodes area nodes
+    (Ok (record { cell = n; node = m; used = k }))
 step-none {n = n} {m} {k} {area} {nodes} h e = step-done refl refl (record {
   cells = [];
   records = [];
@@ -203,11 +236,11 @@ pub record Went {B : Type 0} (view : Node Built → B) (a : Answer B) (n m k : �
   pub standing : Standing node n m k area₀ nodes₀ area nodes
 
 pub standing_on : {B : Type 0} {view : Node Built → B} {a : Node Built → Answer B} {d : Node Built} {n m k : ℕ}
-    {area₀ nodes₀ area nodes area' nodes' : List ℕ} {r : Step} (n' m' k' : ℕ)
-    → Standing d n m k area₀ nodes₀ area nodes → Steps view a n m k area nodes area' nodes' r → r ≡ S.Done n' m' k'
-    → Went view (a d) n' m' k' area₀ nodes₀ area' nodes'
-standing_on {d = d} n' m' k' s h e =
-    let t = taken n' m' k' h e in
+    {area₀ nodes₀ area nodes area' nodes' : List ℕ} {r : Stepped} (p : Step)
+    → Standing d n m k area₀ nodes₀ area nodes → Steps view a n m k area nodes area' nodes' r → r ≡ Ok p
+    → Went view (a d) p.cell p.node p.used area₀ nodes₀ area' nodes'
+standing_on {d = d} p s h e =
+    let t = taken p h e in
     let l = t.lies d s.cells s.records s.lays in
     record {
       node = l.node;
@@ -223,7 +256,7 @@ standing_on {d = d} n' m' k' s h e =
     }
 
 pub standing-refused : {B : Type 0} {view : Node Built → B} {a : Node Built → Answer B} {d : Node Built} {n m k : ℕ}
-    {area₀ nodes₀ area nodes area' nodes' : List ℕ} {r : Step} (x l : ℕ)
-    → Standing d n m k area₀ nodes₀ area nodes → Steps view a n m k area nodes area' nodes' r → r ≡ S.Refused x l
-    → Refuses (a d) x l
-standing-refused {d = d} x l s h e = not_taken x l h e d s.cells s.records s.lays
+    {area₀ nodes₀ area nodes area' nodes' : List ℕ} {r : Stepped} (w : code.Refusal)
+    → Standing d n m k area₀ nodes₀ area nodes → Steps view a n m k area nodes area' nodes' r → r ≡ Err w
+    → RefusedWith (a d) w
+standing-refused {d = d} w s h e = not_taken w h e d s.cells s.records s.lays

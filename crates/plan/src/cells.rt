@@ -13,13 +13,6 @@ use ast::row::{LiteralKind, literal_kind};
 use numbers::put_four;
 use text::lengths::length_at;
 
-// What a step that appends cells gives: the next cell; or document 01's number of a refusal, and its line.
-#[derive(Clone, Copy)]
-pub enum Written {
-    Done(u32),
-    Refused(u32, u32),
-}
-
 // The kinds of cells that are made here: docs/PLAN.md.
 const NULL: u32 = 1;
 

@@ -1,7 +1,16 @@
-// A step of a SELECT behind the node before it: the next cell, the next node and how many numbers of the nodes are in use
-// then; or document 01's number of a refusal, and its line.
+// How far a step of building came.
+
+// A step of a SELECT behind the node before it: the next cell, the next node and how many numbers of the nodes are in use.
 #[derive(Clone, Copy)]
-pub enum Step {
-    Done(u32, u32, usize),
-    Refused(u32, u32),
+pub struct Step {
+    pub cell: u32,
+    pub node: u32,
+    pub used: usize,
+}
+
+// A part of one node, or of the statement's own numbers.
+#[derive(Clone, Copy)]
+pub struct Part {
+    pub cell: u32,
+    pub used: usize,
 }

@@ -1,6 +1,7 @@
 -- `build_tree` meets its contract: what is left of the table falls with each call.
 use native.Mathlib.Omega.{arith}
 use Rattle.ast.specs.Table.{tree_at}
+use Rattle.plan.specs.Emits.{exit}
 use Rattle.build_expression.specs.Operands.{leaf_room, whole-built, operands-inside, first-room, first-refused}
 use Rattle.build_expression.specs.Operands.{first_some, one-room, unary-built, is-built, second-room, second-refused}
 use Rattle.build_expression.specs.Operands.{second-some, both-room, binary-built}
@@ -16,37 +17,37 @@ overflow_add-left t c = omega (
   operands-inside c.begin-begun.ensures _ c.in-Operands.is,
 )
 
-pub build_tree-first-requires : goal.build_tree-first-requires
-build_tree-first-requires t c = (
+pub build_tree-requires : goal.build_tree-requires
+build_tree-requires t c = (
   omega (arith, operands-inside c.begin-begun.ensures _ c.in-Operands.is),
   first-room
       c.begin-begun.ensures _ c.in-Operands.is c.requires,
 )
 
-pub returns-in_default : goal.returns-in_default
-returns-in_default t c = first-refused c.begin-begun.ensures _ c.in-Operands.is
-    c.build_tree-first.ensures _ _ c.in_default.is
+pub returns-in_err-m-in-Operands : goal.returns-in_err-m-in-Operands
+returns-in_err-m-in-Operands t c = rw (exit c.from_residual.result c.from_residual.ensures.1)
+    (first-refused c.begin-begun.ensures _ c.in-Operands.is c.build_tree.ensures _ c.in_err-m-in-Operands.was)
 
 pub unary-requires : goal.unary-requires
 unary-requires t c = record {
   room = one-room c.begin-begun.ensures _ c.in-Operands.is
-      c.build_tree-first.ensures _ c.in-Done.is c.requires;
+      c.build_tree.ensures _ c.in_ok-m-in-Operands.was c.requires;
   m_nonzero = first_some
       c.begin-begun.ensures _ c.in-Operands.is
-      c.build_tree-first.ensures _ c.in-Done.is;
+      c.build_tree.ensures _ c.in_ok-m-in-Operands.was;
 }
 
 pub is-requires : goal.is-requires
 is-requires t c = record {
   room = one-room c.begin-begun.ensures _ c.in-Operands.is
-      c.build_tree-first.ensures _ c.in-Done.is c.requires;
+      c.build_tree.ensures _ c.in_ok-m-in-Operands.was c.requires;
   m_nonzero = first_some
       c.begin-begun.ensures _ c.in-Operands.is
-      c.build_tree-first.ensures _ c.in-Done.is;
+      c.build_tree.ensures _ c.in_ok-m-in-Operands.was;
 }
 
-pub build_tree-second-requires : goal.build_tree-second-requires
-build_tree-second-requires t c = (
+pub build_tree-requires-in-Binary : goal.build_tree-requires-in-Binary
+build_tree-requires-in-Binary t c = (
   omega (
     arith,
     c.next-right.ensures,
@@ -54,29 +55,29 @@ build_tree-second-requires t c = (
         c.in-Operands.is,
   ),
   second-room c.begin-begun.ensures _ c.in-Operands.is
-      c.build_tree-first.ensures _ c.in-Done.is
+      c.build_tree.ensures _ c.in_ok-m-in-Operands.was
       c.in-Binary.is _ c.next-right.ensures c.requires,
 )
 
-pub returns-in_default-second : goal.returns-in_default-second
-returns-in_default-second t c = second-refused c.begin-begun.ensures _ c.in-Operands.is
-    c.build_tree-first.ensures _ c.in-Done.is
+pub returns-in_err-k-in-Binary : goal.returns-in_err-k-in-Binary
+returns-in_err-k-in-Binary t c = rw (exit c.from_residual-in_err-k-in-Binary.result c.from_residual-in_err-k-in-Binary.ensures.1) (second-refused c.begin-begun.ensures _ c.in-Operands.is
+    c.build_tree.ensures _ c.in_ok-m-in-Operands.was
     c.in-Binary.is _ c.next-right.ensures
-    c.build_tree-second.ensures _ _ c.in_default-second.is
+    c.build_tree-in-Binary.ensures _ c.in_err-k-in-Binary.was)
 
 pub binary-requires : goal.binary-requires
 binary-requires t c = record {
   room = both-room c.begin-begun.ensures _ c.in-Operands.is
-      c.build_tree-first.ensures _ c.in-Done.is
+      c.build_tree.ensures _ c.in_ok-m-in-Operands.was
       c.in-Binary.is _ c.next-right.ensures
-      c.build_tree-second.ensures _ c.in-Done-second.is c.requires;
+      c.build_tree-in-Binary.ensures _ c.in_ok-k-in-Binary.was c.requires;
   m_nonzero = first_some c.begin-begun.ensures _ c.in-Operands.is
-      c.build_tree-first.ensures _ c.in-Done.is;
+      c.build_tree.ensures _ c.in_ok-m-in-Operands.was;
   k_nonzero = second-some
       c.begin-begun.ensures _ c.in-Operands.is
-      c.build_tree-first.ensures _ c.in-Done.is
+      c.build_tree.ensures _ c.in_ok-m-in-Operands.was
       c.in-Binary.is _ c.next-right.ensures
-      c.build_tree-second.ensures _ c.in-Done-second.is;
+      c.build_tree-in-Binary.ensures _ c.in_ok-k-in-Binary.was;
 }
 
 pub returns-in-Whole : goal.returns-in-Whole
@@ -84,17 +85,17 @@ returns-in-Whole t c = whole-built c.begin-begun.ensures _ c.in-Whole.is
 
 pub returns-in-Unary : goal.returns-in-Unary
 returns-in-Unary t c = unary-built c.begin-begun.ensures _ c.in-Operands.is
-    c.build_tree-first.ensures _ c.in-Done.is _
+    c.build_tree.ensures _ c.in_ok-m-in-Operands.was _
     c.in-Unary.is c.unary.ensures
 
 pub returns-in-Is : goal.returns-in-Is
 returns-in-Is t c = is-built c.begin-begun.ensures _ c.in-Operands.is
-    c.build_tree-first.ensures _ c.in-Done.is
+    c.build_tree.ensures _ c.in_ok-m-in-Operands.was
     c.in-Is.is (c.is.ensures _ _)
 
-pub returns-in-Done-second : goal.returns-in-Done-second
-returns-in-Done-second t c = binary-built c.begin-begun.ensures _ c.in-Operands.is
-    c.build_tree-first.ensures _ c.in-Done.is
+pub returns-in_ok-k-in-Binary : goal.returns-in_ok-k-in-Binary
+returns-in_ok-k-in-Binary t c = binary-built c.begin-begun.ensures _ c.in-Operands.is
+    c.build_tree.ensures _ c.in_ok-m-in-Operands.was
     c.in-Binary.is _ c.next-right.ensures
-    c.build_tree-second.ensures _ c.in-Done-second.is
+    c.build_tree-in-Binary.ensures _ c.in_ok-k-in-Binary.was
     c.binary.ensures

@@ -1,6 +1,7 @@
 -- `lists::build_functions`: row by row.
 use native.Mathlib.Omega.{arith}
 use mathlib.Core.Path.{◌∙◌}
+use Rattle.plan.specs.Emits.{exit}
 use Rattle.build_aggregate.specs.Entries.{rows-begin, rows-kept, rows_all, row_room, rows_more, rows-stop, rows-done}
 use Rattle.build_aggregate.proofs.lists.build_functions.Goals as goal
 
@@ -23,8 +24,8 @@ overflow_add-k c = omega (
   c.loop-i-test.true,
 )
 
-pub add_function-added-requires : goal.add_function-added-requires
-add_function-added-requires c = record {
+pub add_function-requires : goal.add_function-requires
+add_function-requires c = record {
   room = row_room c.loop-i.invariant.2 c.loop-i-test.true;
   function_size_in_bounds = omega (
     arith,
@@ -34,14 +35,9 @@ add_function-added-requires c = record {
   );
 }
 
-pub shape_of-area-in_default : goal.shape_of-area-in_default
-shape_of-area-in_default c = (c.add_function-added.ensures.is 0).emits.kept ∙ rows-kept c.loop-i.invariant.2
-
-pub shape_of-nodes-in_default : goal.shape_of-nodes-in_default
-shape_of-nodes-in_default c = (c.add_function-added.ensures.is 0).all ∙ rows_all c.loop-i.invariant.2
-
-pub returns-in_default : goal.returns-in_default
-returns-in_default c = rows-stop c.loop-i.invariant.2 c.loop-i-test.true c.add_function-added.ensures _ _ c.in_default.is
+pub returns-in_err-m : goal.returns-in_err-m
+returns-in_err-m c = rw (exit c.from_residual.result c.from_residual.ensures.1)
+    (rows-stop c.loop-i.invariant.2 c.loop-i-test.true c.add_function.ensures _ c.in_err-m.was)
 
 pub loop-i-preserved : goal.loop-i-preserved
 loop-i-preserved c = (
@@ -50,7 +46,7 @@ loop-i-preserved c = (
     c.loop-i-test.true,
   ),
   c.loop-i.invariant.1,
-  rows_more c.loop-i.invariant.2 c.loop-i-test.true c.add_function-added.ensures _ c.in-Done.is,
+  rows_more c.loop-i.invariant.2 c.loop-i-test.true c.add_function.ensures _ c.in_ok-m.was,
 )
 
 pub shape_of-area : goal.shape_of-area

@@ -1,6 +1,7 @@
 -- `lists::build_groups`: row by row.
 use native.Mathlib.Omega.{arith}
 use mathlib.Core.Path.{◌∙◌}
+use Rattle.plan.specs.Emits.{exit}
 use Rattle.build_aggregate.specs.Entries.{rows-begin, rows-kept, rows_all, row_room, rows_more, rows-stop, rows-done}
 use Rattle.build_aggregate.specs.Kinds.{group_at}
 use Rattle.build_aggregate.proofs.lists.build_groups.Goals as goal
@@ -24,8 +25,8 @@ overflow_add-k c = omega (
   c.loop-i-test.true,
 )
 
-pub add_group-added-requires : goal.add_group-added-requires
-add_group-added-requires c = record {
+pub add_group-requires : goal.add_group-requires
+add_group-requires c = record {
   room = row_room c.loop-i.invariant.2 c.loop-i-test.true;
   k_in_bounds = omega (
     arith,
@@ -35,15 +36,10 @@ add_group-added-requires c = record {
   );
 }
 
-pub shape_of-area-in_default : goal.shape_of-area-in_default
-shape_of-area-in_default c = (c.add_group-added.ensures.is 0).emits.kept ∙ rows-kept c.loop-i.invariant.2
-
-pub shape_of-nodes-in_default : goal.shape_of-nodes-in_default
-shape_of-nodes-in_default c = (c.add_group-added.ensures.is 0).all ∙ rows_all c.loop-i.invariant.2
-
-pub returns-in_default : goal.returns-in_default
-returns-in_default c = rows-stop c.loop-i.invariant.2 c.loop-i-test.true
-    (group_at _ _ c.add_group-added.ensures) _ _ c.in_default.is
+pub returns-in_err-m : goal.returns-in_err-m
+returns-in_err-m c = rw (exit c.from_residual.result c.from_residual.ensures.1)
+    (rows-stop c.loop-i.invariant.2 c.loop-i-test.true
+    (group_at _ _ c.add_group.ensures) _ c.in_err-m.was)
 
 pub loop-i-preserved : goal.loop-i-preserved
 loop-i-preserved c = (
@@ -52,7 +48,7 @@ loop-i-preserved c = (
     c.loop-i-test.true,
   ),
   c.loop-i.invariant.1,
-  rows_more c.loop-i.invariant.2 c.loop-i-test.true (group_at _ _ c.add_group-added.ensures) _ c.in-Done.is,
+  rows_more c.loop-i.invariant.2 c.loop-i-test.true (group_at _ _ c.add_group.ensures) _ c.in_ok-m.was,
 )
 
 pub shape_of-area : goal.shape_of-area

@@ -2,12 +2,13 @@
 use native.Mathlib.Omega.{arith}
 use mathlib.Core.Path.{◌∙◌}
 use Rattle.plan.specs.Cells.{room-less}
+use Rattle.plan.specs.Emits.{exit}
 use Rattle.plan.specs.Room.{aggregate-in-use}
 use Rattle.build_aggregate.specs.Nodes.{rest-room, node-groups, node-functions, node_wide, node-whole}
 use Rattle.build_aggregate.proofs.node.build_node.Goals as goal
 
-pub build_groups-first-requires : goal.build_groups-first-requires
-build_groups-first-requires c = record {
+pub build_groups-requires : goal.build_groups-requires
+build_groups-requires c = record {
   room = room-less _ (omega arith) c.requires.room;
   rows_in_bounds = omega (
     arith,
@@ -17,8 +18,8 @@ build_groups-first-requires c = record {
   );
 }
 
-pub returns-in_default : goal.returns-in_default
-returns-in_default c = node-groups _ _ _ _ _ _ _ _ _ _ _ _ c.begin_aggregate-start.ensures c.build_groups-first.ensures _ _ _ c.in_default.is
+pub returns-in_err-m : goal.returns-in_err-m
+returns-in_err-m c = rw (exit c.from_residual.result c.from_residual.ensures.1) (node-groups _ _ _ _ _ _ _ _ _ _ _ _ c.begin_aggregate-start.ensures c.build_groups.ensures _ _ c.in_err-m.was)
 
 pub end_groups-requires : goal.end_groups-requires
 end_groups-requires c = (
@@ -32,7 +33,7 @@ end_groups-requires c = (
     c.requires.functions_in_bounds,
     aggregate-in-use _ c.begin_aggregate-start.ensures,
     c.begin_aggregate-start.ensures.all,
-    (c.build_groups-first.ensures.is 0).all,
+    (c.build_groups.ensures.is 0).all,
   ),
   omega (
     arith,
@@ -52,21 +53,21 @@ overflow_add-start-2 c = omega (
   c.begin_aggregate-start.ensures.all,
 )
 
-pub build_functions-second-requires : goal.build_functions-second-requires
-build_functions-second-requires c = record {
-  room = rest-room _ _ c.build_groups-first.ensures c.in-Done.is c.requires.room;
+pub build_functions-requires : goal.build_functions-requires
+build_functions-requires c = record {
+  room = rest-room _ _ c.build_groups.ensures c.in_ok-m.was c.requires.room;
   rows_in_bounds = omega (
     arith,
     c.requires.functions_in_bounds,
     aggregate-in-use _ c.begin_aggregate-start.ensures,
     c.begin_aggregate-start.ensures.all,
-    (c.build_groups-first.ensures.is 0).all,
+    (c.build_groups.ensures.is 0).all,
     c.end_groups.auto.nodes,
   );
 }
 
-pub returns-in_default-second : goal.returns-in_default-second
-returns-in_default-second c = node-functions _ _ _ _ _ _ _ _ _ _ _ _ c.begin_aggregate-start.ensures c.build_groups-first.ensures _ c.in-Done.is c.end_groups.ensures c.build_functions-second.ensures _ _ _ c.in_default-second.is
+pub returns-in_err-p : goal.returns-in_err-p
+returns-in_err-p c = rw (exit c.from_residual-in_err-p.result c.from_residual-in_err-p.ensures.1) (node-functions _ _ _ _ _ _ _ _ _ _ _ _ c.begin_aggregate-start.ensures c.build_groups.ensures _ c.in_ok-m.was c.end_groups.ensures c.build_functions.ensures _ _ c.in_err-p.was)
 
 pub overflow_add-groups : goal.overflow_add-groups
 overflow_add-groups c = omega (
@@ -76,11 +77,11 @@ overflow_add-groups c = omega (
 )
 
 pub shape_of-nodes-then-groups-functions-gt-COLUMNS : goal.shape_of-nodes-then-groups-functions-gt-COLUMNS
-shape_of-nodes-then-groups-functions-gt-COLUMNS c = (c.build_functions-second.ensures.is
-    0).all ∙ c.end_groups.auto.nodes ∙ (c.build_groups-first.ensures.is 0).all ∙ c.begin_aggregate-start.ensures.all
+shape_of-nodes-then-groups-functions-gt-COLUMNS c = (c.build_functions.ensures.is
+    0).all ∙ c.end_groups.auto.nodes ∙ (c.build_groups.ensures.is 0).all ∙ c.begin_aggregate-start.ensures.all
 
 pub returns-then-groups-functions-gt-COLUMNS : goal.returns-then-groups-functions-gt-COLUMNS
-returns-then-groups-functions-gt-COLUMNS c = node_wide _ _ _ _ _ _ _ _ _ _ _ _ c.begin_aggregate-start.ensures c.build_groups-first.ensures _ c.in-Done.is c.end_groups.ensures c.build_functions-second.ensures _ c.in-Done-second.is _ _ _
+returns-then-groups-functions-gt-COLUMNS c = node_wide _ _ _ _ _ _ _ _ _ _ _ _ c.begin_aggregate-start.ensures c.build_groups.ensures _ c.in_ok-m.was c.end_groups.ensures c.build_functions.ensures _ c.in_ok-p.was _ _ _
     c.if-groups-functions-gt-COLUMNS.true c.row_at-r.ensures c.line-line.ensures
 
 pub overflow_add-start-3 : goal.overflow_add-start-3
@@ -113,8 +114,8 @@ end-requires c = (
     c.requires.functions_in_bounds,
     aggregate-in-use _ c.begin_aggregate-start.ensures,
     c.begin_aggregate-start.ensures.all,
-    (c.build_groups-first.ensures.is 0).all,
-    (c.build_functions-second.ensures.is 0).all,
+    (c.build_groups.ensures.is 0).all,
+    (c.build_functions.ensures.is 0).all,
     c.end_groups.auto.nodes,
   ),
   omega (
@@ -127,7 +128,7 @@ end-requires c = (
 )
 
 pub shape_of-nodes : goal.shape_of-nodes
-shape_of-nodes c = c.end.auto.nodes ∙ (c.build_functions-second.ensures.is 0).all ∙ c.end_groups.auto.nodes ∙ (c.build_groups-first.ensures.is 0).all ∙ c.begin_aggregate-start.ensures.all
+shape_of-nodes c = c.end.auto.nodes ∙ (c.build_functions.ensures.is 0).all ∙ c.end_groups.auto.nodes ∙ (c.build_groups.ensures.is 0).all ∙ c.begin_aggregate-start.ensures.all
 
 pub returns : goal.returns
-returns c = node-whole _ _ _ _ _ _ _ _ _ _ _ _ c.begin_aggregate-start.ensures c.build_groups-first.ensures _ c.in-Done.is c.end_groups.ensures c.build_functions-second.ensures _ c.in-Done-second.is c.if-groups-functions-gt-COLUMNS.false c.end.ensures
+returns c = node-whole _ _ _ _ _ _ _ _ _ _ _ _ c.begin_aggregate-start.ensures c.build_groups.ensures _ c.in_ok-m.was c.end_groups.ensures c.build_functions.ensures _ c.in_ok-p.was c.if-groups-functions-gt-COLUMNS.false c.end.ensures

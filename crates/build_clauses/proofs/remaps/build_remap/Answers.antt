@@ -6,11 +6,11 @@ use Rattle.build_clauses.proofs.remaps.build_remap.Goals as goal
 pub returns-then-hidden-eq0 : goal.returns-then-hidden-eq0
 returns-then-hidden-eq0 c = remap-nothing c.if-hidden-eq0.true (omega (arith, c.requires.follows.room))
 
-pub push_targets-j-requires : goal.push_targets-j-requires
-push_targets-j-requires c = record { hidden_le_width = c.requires.hidden_le_width; width_in_bounds = remap-space _ _ c.requires.follows c.begin_remap-start.ensures }
+pub push_targets-used-requires : goal.push_targets-used-requires
+push_targets-used-requires c = record { hidden_le_width = c.requires.hidden_le_width; width_in_bounds = remap-space _ _ c.requires.follows c.begin_remap-start.ensures }
 
 pub end-requires : goal.end-requires
-end-requires c = remap-end _ _ _ c.if-hidden-eq0.false c.begin_remap-start.ensures c.push_targets-j.ensures c.requires.follows.most
+end-requires c = remap-end _ _ _ c.if-hidden-eq0.false c.begin_remap-start.ensures c.push_targets-used.ensures c.requires.follows.most
 
 pub returns : goal.returns
-returns c = remap-done _ _ _ c.if-hidden-eq0.false c.begin_remap-start.ensures c.push_targets-j.ensures c.requires.hidden_le_width c.end.ensures
+returns c = remap-done _ _ _ c.if-hidden-eq0.false c.begin_remap-start.ensures c.push_targets-used.ensures c.requires.hidden_le_width c.end.ensures

@@ -1,11 +1,13 @@
 -- `leaves::found`: the column's cell, or the refusal.
 use mathlib.Core.Path.{refl}
+use Rattle.plan.specs.Emits.{exit}
 use Rattle.build_expression.specs.Steps.{column-emits, column-stops}
 use Rattle.build_expression.proofs.leaves.found.Goals as goal
 
-pub returns-in-At : goal.returns-in-At
-returns-in-At c = column-emits _ _ _ _ _ _ c.position_of-p.ensures _ c.in-At.is
+pub returns : goal.returns
+returns c = column-emits _ _ _ _ _ _ c.position_of.ensures _ c.in_ok-i.was
     c.column.ensures
 
-pub returns-in-Refused : goal.returns-in-Refused
-returns-in-Refused c = column-stops _ _ _ _ _ _ c.position_of-p.ensures _ _ c.in-Refused.is refl
+pub returns-in_err-i : goal.returns-in_err-i
+returns-in_err-i c = rw (exit c.from_residual.result c.from_residual.ensures.1)
+    (column-stops _ _ _ _ _ _ c.position_of.ensures _ c.in_err-i.was refl)

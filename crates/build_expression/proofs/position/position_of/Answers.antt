@@ -1,10 +1,9 @@
 -- `position::position_of`, by what was found.
-use mathlib.Core.Path.{ap, ◌∙◌}
 use Rattle.rules.specs.Refusals.{refuse}
+use Rattle.numbers.specs.Reasons.{named-reason}
 use Rattle.rules.specs.BuildExpression.{found}
 use Rattle.scope.specs.Lookup.{found_of}
 use Rattle.build_expression.specs.Positions.{position_of}
-use Rattle.build_expression.specs.declared.position.Position.TheVariants as P
 use Rattle.build_expression.proofs.position.position_of.Goals as goal
 
 pub returns-in-Ok : goal.returns-in-Ok
@@ -13,4 +12,4 @@ returns-in-Ok c = rw c.in-Ok.is
 
 pub returns-in-Err : goal.returns-in-Err
 unfolding position_of found found_of refuse
-returns-in-Err c = rw c.in-Err.is (ap (λ n. P.Refused n c.args.line) c.number.ensures)
+returns-in-Err c = rw (c.in-Err.is, named-reason)
