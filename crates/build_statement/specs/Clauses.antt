@@ -1,10 +1,11 @@
 -- A WHERE that may be missing: its cells are the plan's first ones, and the next cell is the number of its root.
-use Rattle.std.specs.Prelude.{ℕ, ◌*◌, ◌≤◌, pred, ◌≡◌, refl, take}
+use Rattle.std.specs.Prelude.{ℕ, ◌*◌, ◌≤◌, pred, ◌≡◌, refl, take, Ok, Err}
 use Rattle.std.proofs.Common.{arith, sym, ◌∙◌}
 use Rattle.std.proofs.Math.Path.{ap}
 use mathlib.Core.List.{List, [], append-nil}
 use Rattle.std.proofs.Math.Option.{Option, none, some}
-use Rattle.rules.specs.Refusals.{Refusal, refusal_number, ok, refused}
+use Rattle.rules.specs.Refusals.{Refusal, ok, refused}
+use Rattle.numbers.specs.Reasons.{noted}
 use Rattle.rules.specs.Lists.{Bytes, concat, map_option}
 use Rattle.rules.specs.Ast.{Expr, size}
 use Rattle.rules.specs.Cells.{Cell}
@@ -22,9 +23,8 @@ use Rattle.statement.specs.declared.access.Clause.{Clause}
 use Rattle.statement.specs.declared.access.Clause.TheVariants.{Missing, Stands}
 use Rattle.plan.specs.Layout.{cells_end}
 use Rattle.plan.specs.Cells.{Room}
-use Rattle.plan.specs.Emits.{Emitting, written_of, Emits}
-use Rattle.plan.specs.declared.cells.Written.{Written}
-use Rattle.plan.specs.declared.cells.Written.TheVariants.{Done, Refused}
+use Rattle.plan.specs.Emits.{Emitting, Written, written_of, Emits}
+use Rattle.numbers.specs.declared.refusals.Refusal as code
 use Rattle.build_expression.specs.Rows.{emit-within}
 use Rattle.build_expression.specs.Builds.{scope_at, Builds}
 
@@ -38,7 +38,7 @@ pub record Filters (c q : Bytes) (t xs ms ts : List ℕ) (w : Clause) (area area
   pub is : (h : ℕ) → Emits (emit_given (scope_at c q t xs ms ts h) (clause_expr (clause_of c q t w))) 0 area area' x
 
 module _ {c q : Bytes} {t xs ms ts : List ℕ} {w : Clause} {area : List ℕ} where
-  pub filters-none : w ≡ Missing → Filters c q t xs ms ts w area area (Done 0)
+  pub filters-none : w ≡ Missing → Filters c q t xs ms ts w area area (Ok 0)
   unfolding emit_given clause_of clause_expr map_option written_of cells_numbers concat
   filters-none e = rw e (record {
     is = λ h. record {
@@ -96,13 +96,13 @@ not_taken s (some e) w h = option-stop s 0 e w h
 pub record Stopped (a : Emitting) (x : Written) : Type 0 where
   pub refusal : Refusal
   pub is : a ≡ refused refusal
-  pub answer : x ≡ Refused (refusal_number refusal.reason) refusal.line
+  pub answer : x ≡ Err (noted refusal)
 
-pub stopped : {a : Emitting} {n : ℕ} {area area' : List ℕ} {x : Written} (k l : ℕ) → Emits a n area area' x
-    → x ≡ Refused k l → Stopped a x
+pub stopped : {a : Emitting} {n : ℕ} {area area' : List ℕ} {x : Written} (v : code.Refusal) → Emits a n area area' x
+    → x ≡ Err v → Stopped a x
 unfolding written_of
-stopped {a} {n} {area} {area'} {x} k l h e = go a h.answer
+stopped {a} {n} {area} {area'} {x} v h e = go a h.answer
   where
     go : (b : Emitting) → x ≡ written_of b → Stopped b x
-    go (ok p) g = absurd (let y : Refused k l ≡ Done p.1 = sym e ∙ g in let z : ◌≡◌ {A = ℕ} 0 1 = cc in omega arith)
+    go (ok p) g = absurd (let y : ◌≡◌ {A = Written} (Err v) (Ok p.1) = sym e ∙ g in let z : ◌≡◌ {A = ℕ} 0 1 = cc in omega arith)
     go (refused w) g = record { refusal = w; is = refl; answer = g }

@@ -1,11 +1,12 @@
 -- CREATE's columns appended one after the other, and the whole table.
-use Rattle.std.specs.Prelude.{ℕ, suc, ◌+◌, ◌*◌, ◌≤◌, ◌<◌, ◌≡◌, Bool, drop}
+use Rattle.std.specs.Prelude.{ℕ, suc, ◌+◌, ◌*◌, ◌≤◌, ◌<◌, ◌≡◌, Bool, drop, Result, Ok, Err, Some, None}
+use Rattle.std.specs.Prelude as std
 use Rattle.std.proofs.Common.{arith, add-one, ◌∙◌}
 use Rattle.std.proofs.Math.Path.{refl, sym, ap}
 use mathlib.Core.List.{List, [], ◌∷◌, ◌++◌, append_assoc, append-nil}
 use Rattle.std.proofs.Math.Option.{Option, none, some}
 use Rattle.std.proofs.Math.ListN.{length, length-append}
-use Rattle.rules.specs.Refusals.{refusal_number, Answer, ok, refused, ◌>>=◌, refuse}
+use Rattle.rules.specs.Refusals.{statement, Answer, ok, refused, ◌>>=◌, refuse}
 use Rattle.rules.specs.Refusals.{no_primary_key, multiple_primary_keys}
 use Rattle.rules.specs.Lists.{Bytes, concat}
 use Rattle.rules.specs.Lines.{Word}
@@ -22,13 +23,14 @@ use Rattle.claims.specs.Answers.{ensured, each-length}
 use Rattle.appends.specs.Answers.{bind_ok, bind-refused, ok_same, ok-not-refused}
 use Rattle.appends.specs.Area.{cells_numbers, records_numbers, create-area}
 use Rattle.appends.specs.Statements.Create.{create-key, columns-step, columns-refused}
+use Rattle.numbers.specs.Reasons.{named, told, noted, named-reason}
+use Rattle.numbers.specs.declared.refusals.Refusal.{Refusal}
 use Rattle.schema.specs.Layout.{catalog_at}
 use Rattle.sections.specs.Layout.{section_at}
 use Rattle.sections.specs.Access.{column_kind, numbers_at}
 use Rattle.sections.specs.declared.entry.Entry.{Entry}
-use Rattle.expression.specs.Answers.{map_answer, reason_of}
+use Rattle.expression.specs.Answers.{map_answer}
 use Rattle.expression.specs.Numbers.{numbers_of}
-use Rattle.expression.specs.declared.Reason as E
 use Rattle.expression.specs.declared.planned.Numbers.{Numbers}
 use Rattle.statement.specs.Layout.{to_column, create_of, statement_at}
 use Rattle.statement.specs.Access.{kind_number, kind_of, statement_of, statement-kind, line_at, name_word}
@@ -41,20 +43,14 @@ use Rattle.plan.specs.Own.{creating, column_numbers, column-whole, column-one, c
 use Rattle.plan.specs.Room.{columns-size}
 use Rattle.plan.specs.Finished.{finished}
 use Rattle.plan.specs.Exit.{pieces, create-exit}
-use Rattle.plan.specs.declared.cells.Written.{Written}
-use Rattle.plan.specs.declared.cells.Written.TheVariants as W
+use Rattle.plan.specs.Emits.{Written}
+use Rattle.plan.specs.Steps.{RefusedWith, refused-on}
 use Rattle.build_statement.specs.Plans.{Ready, Plans, planned_of}
 use Rattle.build_statement.specs.Ends.{plan-count, planned}
 use Rattle.build_statement.specs.Kinds.{Free, ready-free}
-use Rattle.build_statement.specs.Pushes.{refusing, Pushes, pushes-done, pushes-refused, was-done, was-refused}
+use Rattle.build_statement.specs.Pushes.{Pushed, Pushes, pushes-done, pushes-refused, was-done, was-refused}
 use Rattle.build_statement.specs.Create.{nullable_of, made_of, column_of, made-column, columns_at, column-here, column-end}
 use Rattle.build_statement.specs.Create.{create_at, keys_of, Keys, default_of, columns_numbers, table_numbers, CreateReady, with_key}
-use Rattle.build_statement.specs.declared.pushed.Pushed.{Pushed}
-use Rattle.build_statement.specs.declared.pushed.Pushed.TheVariants.{Done, Refused}
-use Rattle.build_statement.specs.declared.create.KeyPosition.{KeyPosition}
-use Rattle.build_statement.specs.declared.create.KeyPosition.TheVariants.{At, Missing}
-use Rattle.build_statement.specs.declared.create.Default.{Default}
-use Rattle.build_statement.specs.declared.create.Default.TheVariants as D
 
 -- ONE COLUMN
 column-eight : (m : Made) → length (column_numbers m) ≡ column_size
@@ -79,23 +75,24 @@ record Known (a : Answer (Option Value)) (n : Numbers) : Type 0 where
   ok-is : a ≡ ok value
   numbers : default_numbers value ≡ numbers_of n
 
-known : (a : Answer (Option Value)) (n : Numbers) → default_of (D.Given n) ≡ map_answer default_numbers a → Known a n
+known : (a : Answer (Option Value)) (n : Numbers) → default_of (Ok n) ≡ map_answer default_numbers a → Known a n
 unfolding default_of map_answer
 known (ok d) n h = record { value = d; ok-is = refl; numbers = sym (ok_same h) }
 known (refused w) n h = ok-not-refused _ _ h
 
-failed : (a : Answer (Option Value)) (k : E.Reason) (l : ℕ) → default_of (D.Refused k l) ≡ map_answer default_numbers a
-    → a ≡ refuse (reason_of k) l
-unfolding default_of map_answer refuse
-failed (ok d) k l h = ok-not-refused _ _ (sym h)
-failed (refused w) k l h = cc
+failed : (a : Answer (Option Value)) (w : Refusal) → default_of (Err w) ≡ map_answer default_numbers a → RefusedWith a w
+unfolding default_of map_answer
+failed (ok d) w h = ok-not-refused _ _ (sym h)
+failed (refused v) w h =
+    let z : told statement w ≡ v = cc in
+    record { why = v; is = refl; noted' = sym (ap noted (sym z) ∙ rw (named-reason w.reason)) }
 
-module _ (c q : Bytes) (cells : List ℕ) (e : Entry) (n : Bool) (z : n ≡ nullable_of e) (r : Default)
+module _ (c q : Bytes) (cells : List ℕ) (e : Entry) (n : Bool) (z : n ≡ nullable_of e) (r : Result Numbers Refusal)
     (h : default_of r ≡ map_answer default_numbers (default_value n (given_of c q cells e))) where
-  pub column-done : {k j i : ℕ} {s t u : List ℕ} (x : Numbers) → r ≡ D.Given x
+  pub column-done : {k j i : ℕ} {s t u : List ℕ} (x : Numbers) → r ≡ Ok x
       → ((d : Option Value) → Appended (column_numbers (made_of c q e n d)) k s j t)
       → ((d : Option Value) → default_numbers d ≡ x.kind ∷ x.first ∷ x.second ∷ 0 ∷ [] → Appended (default_numbers d) j t i u)
-      → Pushes made_numbers (made_column (column_of c q cells e)) k s u (Done i)
+      → Pushes made_numbers (made_column (column_of c q cells e)) k s u (Ok i)
   unfolding numbers_of map_answer made_of
   column-done x g a b =
       let y = known (default_value n (given_of c q cells e)) x (sym (ap default_of g) ∙ h) in
@@ -108,14 +105,12 @@ module _ (c q : Bytes) (cells : List ℕ) (e : Entry) (n : Bool) (z : n ≡ null
           → made_column (column_of c q cells e) ≡ ok (made_of c q e n d)
       made x d f y = made-column c q cells e ∙ rw (← z, y, f)
 
-  pub column-refused : {k : ℕ} {s u : List ℕ} (x : E.Reason) (l m : ℕ) → r ≡ D.Refused x l
-      → m ≡ refusal_number (reason_of x) → length u ≡ length s
-      → Pushes made_numbers (made_column (column_of c q cells e)) k s u (Refused m l)
-  unfolding map_answer refuse
-  column-refused x l m g f kept =
-      let y = failed (default_value n (given_of c q cells e)) x l (sym (ap default_of g) ∙ h) in
-      pushes-refused made_numbers (refusing (reason_of x) l m l
-      (made-column c q cells e ∙ rw (← z, y)) f refl) kept
+  pub column-refused : {k : ℕ} {s u : List ℕ} (w : Refusal) → r ≡ Err w → length u ≡ length s
+      → Pushes made_numbers (made_column (column_of c q cells e)) k s u (Err w)
+  unfolding map_answer
+  column-refused w g kept =
+      let y = failed (default_value n (given_of c q cells e)) w (sym (ap default_of g) ∙ h) in
+      pushes-refused made_numbers (refused-on y (λ v x. made-column c q cells e ∙ rw (← z, x))) kept
 
 -- ALL COLUMNS
 module _ (c q : Bytes) (cells parts : List ℕ) where
@@ -151,7 +146,7 @@ module _ (c q : Bytes) (cells parts : List ℕ) where
 
     module _ (e : Entry) (x : e ≡ numbers_at parts column_kind i) (l : i < length (section_at c q cells parts column_kind))
         {t' : List ℕ} {r : Pushed} (g : Pushes made_numbers (made_column (column_of c q cells e)) j t t' r) where
-      pub so-far-step : (j' : ℕ) → r ≡ Done j' → SoFar k s (i + 1) j' t'
+      pub so-far-step : (j' : ℕ) → r ≡ Ok j' → SoFar k s (i + 1) j' t'
       unfolding columns_numbers ◌>>=◌
       so-far-step j' f =
           let a = was-done made_numbers g j' f in
@@ -169,16 +164,13 @@ module _ (c q : Bytes) (cells parts : List ℕ) where
           go m (ok ms) = ap ok (sym (append_assoc p.columns (m ∷ []) ms))
           go m (refused w) = refl
 
-      pub so-far-stop : (m n : ℕ) → r ≡ Refused m n → Pushes columns_numbers made k s t' r
+      pub so-far-stop : (w : Refusal) → r ≡ Err w → Pushes columns_numbers made k s t' (Err w)
       unfolding ◌>>=◌
-      so-far-stop m n f =
-          let a = was-refused made_numbers g m n f in
-          let y : made ≡ refused a.why = p.left ∙ rw (column-here c q cells parts i e x l)
-          (bind-refused _ _ a.why (columns-refused (column_of c q cells e) rest a.why a.refused-is)) in
-          rw f (pushes-refused columns_numbers (record { why = a.why; refused-is = y; number = a.number; line = a.line })
-          (g.kept ∙ still))
+      so-far-stop w f = pushes-refused columns_numbers (refused-on (was-refused made_numbers g w f)
+          (λ v y. p.left ∙ rw (column-here c q cells parts i e x l)
+          (bind-refused _ _ v (columns-refused (column_of c q cells e) rest v y)))) (g.kept ∙ still)
 
-    pub so-far-all : length (section_at c q cells parts column_kind) ≤ i → Pushes columns_numbers made k s t (Done j)
+    pub so-far-all : length (section_at c q cells parts column_kind) ≤ i → Pushes columns_numbers made k s t (Ok j)
     unfolding each ◌>>=◌
     so-far-all h = pushes-done columns_numbers p.columns
         (p.left ∙ rw (column-end c q cells parts i h) (ap ok (append-nil p.columns))) p.numbers
@@ -199,7 +191,7 @@ module _ (c q : Bytes) (cells parts : List ℕ) where
     table-pushes {u} {r} p = go r refl
       where
         go : (x : Pushed) → r ≡ x → Pushes (table_numbers word key) made 0 s u r
-        go (Done j) e =
+        go (Ok j) e =
             let b = was-done columns_numbers p j e in
             let l : length b.value ≡ length (columns_at c q cells parts) =
             ensured made _ (each-length made_column (columns_at c q cells parts)) b.value b.ok-is in
@@ -207,14 +199,14 @@ module _ (c q : Bytes) (cells parts : List ℕ) where
             f ∙ sym (map-length to_column (section_at c q cells parts column_kind)) ∙ sym l in
             rw e (pushes-done (table_numbers word key) b.value b.ok-is
             (create-whole word key n b.value m (O.create-columns word key n [] b.value a b.numbers)))
-        go (Refused x y) e = rw e (pushes-refused (table_numbers word key) (was-refused columns_numbers p x y e) (p.kept ∙ a.all))
+        go (Err w) e = rw e (pushes-refused (table_numbers word key) (was-refused columns_numbers p w e) (p.kept ∙ a.all))
 
   module _ (key : ℕ) {nodes nodes' : List ℕ} {r : Pushed} (p : Pushes (table_numbers word key) made 0 nodes nodes' r) where
-    pub table-end : (e : ℕ) → r ≡ Done e → e ≤ length nodes
+    pub table-end : (e : ℕ) → r ≡ Ok e → e ≤ length nodes
     table-end e g = (was-done (table_numbers word key) p e g).numbers.fits
 
-    pub created : {area area' : List ℕ} (e : ℕ) → r ≡ Done e → Free area nodes → length area' ≡ length area
-        → area' ≡ finished create_code 0 0 0 e nodes' area → Plans (with_key c q cells parts key) area area' (W.Done 0)
+    pub created : {area area' : List ℕ} (e : ℕ) → r ≡ Ok e → Free area nodes → length area' ≡ length area
+        → area' ≡ finished create_code 0 0 0 e nodes' area → Plans (with_key c q cells parts key) area area' (Ok 0)
     unfolding table_numbers with_key records_numbers cells_numbers concat
     created {area} {area'} e g free l h =
         let b = was-done (table_numbers word key) p e g in
@@ -224,26 +216,26 @@ module _ (c q : Bytes) (cells parts : List ℕ) where
         (plan-count (P.create word key b.value) create_code [] [] _ 0 0 (create-area word key b.value)) l
         (h ∙ create-exit e nodes' area area refl word key b.value y)
 
-    pub not-created : {area area' : List ℕ} (x y : ℕ) → r ≡ Refused x y → length area' ≡ length area
-        → Plans (with_key c q cells parts key) area area' (W.Refused x y)
+    pub not-created : {area area' : List ℕ} (w : Refusal) → r ≡ Err w → length area' ≡ length area
+        → Plans (with_key c q cells parts key) area area' (Err w)
     unfolding with_key planned_of
-    not-created {area} {area'} x y g l =
-        let b = was-refused (table_numbers word key) p x y g in
-        let z : with_key c q cells parts key ≡ refused b.why = bind-refused _ _ b.why b.refused-is in
+    not-created {area} {area'} w g l =
+        let b = was-refused (table_numbers word key) p w g in
+        let z : with_key c q cells parts key ≡ refused b.why = bind-refused _ _ b.why b.is in
         record {
-          answer = (λ i. W.Refused (b.number i) (b.line i)) ∙ sym (ap planned_of z);
+          answer = ap Err b.noted' ∙ sym (ap planned_of z);
           kept = l;
           exit = λ d j. ok-not-refused d _ (sym j ∙ z);
         }
 
   -- KEYS
-  module _ {r : KeyPosition} (f : Keys c q cells parts 0 r) where
-    pub no_key : r ≡ Missing → build_create (create_at c q cells parts) ≡ refuse no_primary_key (line_at parts)
+  module _ {r : std.Option ℕ} (f : Keys c q cells parts 0 r) where
+    pub no_key : r ≡ None → build_create (create_at c q cells parts) ≡ refuse no_primary_key (line_at parts)
     unfolding keys_of primary_key refuse create_of
     no_key e =
         create-key (create_at c q cells parts) _ (ap (primary_key (line_at parts)) (f.keys ∙ ap (keys_of c q cells parts) e))
 
-    module _ (key : ℕ) (e : r ≡ At key) {p : KeyPosition} (g : Keys c q cells parts (key + 1) p) where
+    module _ (key : ℕ) (e : r ≡ Some key) {p : std.Option ℕ} (g : Keys c q cells parts (key + 1) p) where
       abbrev first : KeyColumn
       first = record { position = key; line = (numbers_at parts column_kind key).line }
 
@@ -251,13 +243,13 @@ module _ (c q : Bytes) (cells parts : List ℕ) where
       unfolding keys_of
       keys-are = f.keys ∙ ap (keys_of c q cells parts) e ∙ ap (λ ks. first ∷ ks) (rw (add-one key) at g.keys)
 
-      pub second_key : (j : ℕ) (x : Entry) → p ≡ At j → x ≡ numbers_at parts column_kind j
+      pub second_key : (j : ℕ) (x : Entry) → p ≡ Some j → x ≡ numbers_at parts column_kind j
           → build_create (create_at c q cells parts) ≡ refuse multiple_primary_keys x.line
       unfolding keys_of primary_key refuse create_of
       second_key j x h y = create-key (create_at c q cells parts) _
           (ap (primary_key (line_at parts)) (keys-are ∙ ap (λ ks. first ∷ ks) (ap (keys_of c q cells parts) h)) ∙ rw y)
 
-      pub one_key : p ≡ Missing → build_create (create_at c q cells parts) ≡ with_key c q cells parts key
+      pub one_key : p ≡ None → build_create (create_at c q cells parts) ≡ with_key c q cells parts key
       unfolding keys_of primary_key build_create with_key create_of
       one_key h = bind_ok _ _ key
           (ap (primary_key (line_at parts)) (keys-are ∙ ap (λ ks. first ∷ ks) (ap (keys_of c q cells parts) h)))

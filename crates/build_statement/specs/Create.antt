@@ -1,13 +1,14 @@
 -- CREATE as its parts were read: its columns by their numbers, the columns given as primary key, and each column's defaults
 -- and flags.
-use Rattle.std.specs.Prelude.{ℕ, suc, ◌≤◌, ◌<◌, ◌≡◌, Bool, ◌&&◌, ◌||◌, List, [], ◌∷◌, map, length, drop}
+use Rattle.std.specs.Prelude.{ℕ, suc, ◌≤◌, ◌<◌, ◌≡◌, Bool, ◌&&◌, ◌||◌, List, [], ◌∷◌, map, length, drop, Result, Ok, Err, Some, None}
+use Rattle.std.specs.Prelude as std
 use Rattle.std.proofs.Common.{arith, sym, ◌∙◌, drop_of_length-le}
 use Rattle.std.proofs.Math.Path.{refl, ap}
 use Rattle.std.proofs.Math.Bool.{true, false, not}
 use Rattle.std.proofs.Math.Option.{Option, some}
 use Rattle.std.proofs.Math.Dec.{eqb}
 use borrow.Author.Tests.{eqb-true, eqb-false, eq-eqb, ne_eqb}
-use Rattle.rules.specs.Refusals.{Answer, ok, refused, ◌>>=◌, refuse}
+use Rattle.rules.specs.Refusals.{statement, Answer, ok, refused, ◌>>=◌, refuse}
 use Rattle.rules.specs.Limits.{most_table_columns}
 use Rattle.rules.specs.Lists.{Bytes, concat, is_some, or_else}
 use Rattle.rules.specs.Lines.{Word}
@@ -19,6 +20,9 @@ use Rattle.rules.specs.Plan as P
 use Rattle.rules.specs.BuildExpression.{each, constant}
 use Rattle.rules.specs.BuildStatement.{KeyColumn, key_columns, null_default, default_value, made_column}
 use Rattle.rules.specs.Area.{span, option_span, value_numbers, default_numbers, made_numbers, own_numbers}
+use Rattle.numbers.specs.Reasons.{named, told, reason-named}
+use Rattle.numbers.specs.declared.refusals.Reason as code
+use Rattle.numbers.specs.declared.refusals.Refusal.{Refusal}
 use Rattle.ast.specs.Table.{tree_at}
 use Rattle.numbers.specs.Values.{is_one, value_at}
 use Rattle.ast.specs.Names.{name_at}
@@ -39,10 +43,6 @@ use Rattle.numbers.specs.Values.{type_at}
 use Rattle.statement.specs.Access.{line_at, name_address, name_length, name_word}
 use Rattle.statement.specs.EntryAccess.{name-none, name-some, name_start, word_of, null-rest, given_of, given-none, given-some, map-length, column-at}
 use Rattle.build_statement.specs.Kinds.{Free}
-use Rattle.build_statement.specs.declared.create.KeyPosition.{KeyPosition}
-use Rattle.build_statement.specs.declared.create.KeyPosition.TheVariants.{At, Missing}
-use Rattle.build_statement.specs.declared.create.Default.{Default}
-use Rattle.build_statement.specs.declared.create.Default.TheVariants as D
 
 -- COLUMNS
 -- whether a column may be null
@@ -123,18 +123,18 @@ module _ (c q : Bytes) where
 
       -- KEYS
       -- the columns given as primary key from position k on, by the first of them
-      unfoldable pub keys_of : KeyPosition → List KeyColumn
-      keys_of (At i) =
+      unfoldable pub keys_of : std.Option ℕ → List KeyColumn
+      keys_of (Some i) =
           record { position = i; line = (numbers_at parts column_kind i).line } ∷ key_columns (suc i) (drop (suc i) columns_at)
-      keys_of Missing = []
+      keys_of None = []
 
-      pub record Keys (k : ℕ) (r : KeyPosition) : Type 0 where
+      pub record Keys (k : ℕ) (r : std.Option ℕ) : Type 0 where
         pub keys : key_columns k (drop k columns_at) ≡ keys_of r
-        pub inside : (i : ℕ) → r ≡ At i → i < length (section_at c q cells parts column_kind)
+        pub inside : (i : ℕ) → r ≡ Some i → i < length (section_at c q cells parts column_kind)
 
       pub key-hit : (i : ℕ) (e : Entry) → e ≡ numbers_at parts column_kind i
           → i < length (section_at c q cells parts column_kind) → e.key ≡ 1
-          → key_columns i (drop i columns_at) ≡ keys_of (At i)
+          → key_columns i (drop i columns_at) ≡ keys_of (Some i)
       unfolding key_columns keys_of column_of is_one
       key-hit i e h l k =
           let z : e.line ≡ (numbers_at parts column_kind i).line = ap (λ (x : Entry). x.line) h in
@@ -147,14 +147,14 @@ module _ (c q : Bytes) where
       key-miss i e h l k = rw (column-here i e h l, key_columns, ne_eqb e.key 1 k)
 
       pub key-none : (i : ℕ) → length (section_at c q cells parts column_kind) ≤ i
-          → key_columns i (drop i columns_at) ≡ keys_of Missing
+          → key_columns i (drop i columns_at) ≡ keys_of None
       unfolding key_columns keys_of
       key-none i h = rw (column-end i h)
 
-pub at_same : {i j : ℕ} → At i ≡ At j → i ≡ j
+pub at_same : {i j : ℕ} → Some i ≡ Some j → i ≡ j
 at_same e = cc
 
-pub missing_at : {i : ℕ} {A : Type 0} → Missing ≡ At i → A
+pub missing_at : {i : ℕ} {A : Type 0} → None ≡ Some i → A
 missing_at e = absurd (let z : ◌≡◌ {A = ℕ} 0 1 = cc in omega arith)
 
 -- REFERENCES
@@ -219,21 +219,21 @@ module _ (c q : Bytes) (e : Entry) where
         go false y = rw (y, name-some c q e.reference e.extent (eqb-false e.extent 0 y))
 
 -- DEFAULTS
-unfoldable pub default_of : Default → Answer (List ℕ)
-default_of (D.Given n) = ok (numbers_of n)
-default_of (D.Refused k l) = refuse (reason_of k) l
+unfoldable pub default_of : Result Numbers Refusal → Answer (List ℕ)
+default_of (Ok n) = ok (numbers_of n)
+default_of (Err w) = refused (told statement w)
 
 module _ (c q : Bytes) (cells : List ℕ) (e : Entry) (n : Bool) where
   abbrev answer : Answer (List ℕ)
   answer = map_answer default_numbers (default_value n (given_of c q cells e))
 
   pub null-given : e.expressions ≡ 0 → n ≡ true → (x : Numbers) → numbers_of x ≡ value_numbers null
-      → default_of (D.Given x) ≡ answer
+      → default_of (Ok x) ≡ answer
   unfolding default_of map_answer default_value null_default default_numbers
   null-given z b x h = rw (given-none c q cells e z, b, h)
 
   pub none-given : e.expressions ≡ 0 → n ≡ false
-      → default_of (D.Given (record { kind = 0; first = 0; second = 0 })) ≡ answer
+      → default_of (Ok (record { kind = 0; first = 0; second = 0 })) ≡ answer
   unfolding default_of map_answer default_value null_default default_numbers numbers_of
   none-given z b = rw (given-none c q cells e z, b)
 
@@ -244,18 +244,19 @@ module _ (c q : Bytes) (cells : List ℕ) (e : Entry) (n : Bool) where
     constant-is = rw (given-some c q cells e z, h, f)
 
     pub literal-given : (k a b : ℕ) (y : Numbers) → x ≡ Co.Literal k a b → numbers_of y ≡ value_numbers (value_at c q k a b)
-        → default_of (D.Given y) ≡ answer
+        → default_of (Ok y) ≡ answer
     unfolding default_of map_answer default_numbers constant_of ◌>>=◌
     literal-given k a b y e g = rw (constant-is, e, g)
 
     pub value-given : (v : Va.Value) (y : Numbers) → x ≡ Co.Value v → numbers_of y ≡ value_numbers (value_of c q v)
-        → default_of (D.Given y) ≡ answer
+        → default_of (Ok y) ≡ answer
     unfolding default_of map_answer default_numbers constant_of ◌>>=◌
     value-given v y e g = rw (constant-is, e, g)
 
-    pub refused-given : (k : Re.Reason) (l : ℕ) → x ≡ Co.Refused k l → default_of (D.Refused k l) ≡ answer
+    pub refused-given : (k : Re.Reason) (l : ℕ) → x ≡ Co.Refused k l → (y : code.Reason) → y ≡ named (reason_of k)
+        → default_of (Err (record { reason = y; line = l })) ≡ answer
     unfolding default_of map_answer constant_of ◌>>=◌ refuse
-    refused-given k l e = rw (constant-is, e)
+    refused-given k l e y g = rw (constant-is, e, g, reason-named)
 
 -- NUMBERS
 unfoldable pub columns_numbers : List Made → List ℕ

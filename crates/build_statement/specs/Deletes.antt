@@ -1,5 +1,5 @@
 -- DELETE: the plan at the end, and its answer.
-use Rattle.std.specs.Prelude.{ℕ, ◌+◌, ◌*◌, ◌≤◌, ◌≡◌, List, [], ◌∷◌, ◌++◌, length, take}
+use Rattle.std.specs.Prelude.{ℕ, ◌+◌, ◌*◌, ◌≤◌, ◌≡◌, List, [], ◌∷◌, ◌++◌, length, take, Ok, Err}
 use Rattle.std.proofs.Common.{arith, sym, ◌∙◌}
 use Rattle.std.proofs.Math.Path.{refl}
 use Rattle.std.proofs.Math.Option.{Option, none}
@@ -39,15 +39,16 @@ use Rattle.statement.specs.declared.access.Clause.{Clause}
 use Rattle.plan.specs.Layout.{cells_end, own_size, delete_code, plan_size, most_plan_cells, nodes_size}
 use Rattle.plan.specs.Appended.{Appended}
 use Rattle.plan.specs.Cells.{Room}
-use Rattle.plan.specs.Emits.{Emits, accepted}
+use Rattle.plan.specs.Emits.{Written, Emits, accepted}
 use Rattle.plan.specs.Finished.{finished}
 use Rattle.plan.specs.Exit.{pieces, delete-exit}
-use Rattle.plan.specs.declared.cells.Written.{Written}
-use Rattle.plan.specs.declared.cells.Written.TheVariants.{Done, Refused}
+use Rattle.numbers.specs.Reasons.{named as named_reason}
+use Rattle.numbers.specs.declared.refusals.Reason.TheVariants as Re
+use Rattle.numbers.specs.declared.refusals.Refusal.{Refusal}
 use Rattle.build_statement.specs.Plans.{Plans}
 use Rattle.build_statement.specs.Kinds.{Free, ReadyFor, name_of, delete_at}
 use Rattle.build_statement.specs.Ends.{span-at, finish-room, plan-count, planned, not-planned, refused-at}
-use Rattle.build_statement.specs.Tables.{table_named, unknown_number, unknown-number}
+use Rattle.build_statement.specs.Tables.{table_named}
 use Rattle.build_statement.specs.Clauses.{emit_given, Filters, taken, not_taken, stopped}
 use Rattle.build_statement.specs.Scans.{Scanned, scan-record, scan-in-use, scan-all, where-room}
 use Rattle.build_statement.specs.Filtered.{not_there, there, filtered}
@@ -110,9 +111,10 @@ module _ (c q : Bytes) (tables cells parts : List ℕ) {area nodes : List ℕ}
   named = h.within.parts.0
 
   pub delete-unknown : {y : ℕ} → r ≡ Nothing → y ≡ line_at parts
-      → Plans (build_delete (catalog_at c q tables) (delete_at c q cells parts)) area area (Refused unknown_number y)
-  unfolding delete_of refuse
-  delete-unknown e ey = not-planned unknown_table (line_at parts) _ _ refl unknown-number ey
+      → Plans (build_delete (catalog_at c q tables) (delete_at c q cells parts)) area area
+      (Err (record { reason = Re.UnknownTable; line = y }))
+  unfolding delete_of refuse named_reason
+  delete-unknown e ey = not-planned unknown_table (line_at parts) _ _ refl refl ey
       (delete-table (catalog_at c q tables) (delete_at c q cells parts) _
       (not_there c q tables cells parts h.within named a n ha hn r f e))
 
@@ -139,16 +141,16 @@ module _ (c q : Bytes) (tables cells parts : List ℕ) {area nodes : List ℕ}
       has : must_get_table (catalog_at c q tables) (line_at parts) (name_of c q parts) ≡ ok t
       has = there c q tables cells parts h.within named a n ha hn r f i e
 
-      pub delete-refused : (k l : ℕ) → x ≡ Refused k l
-          → Plans (build_delete (catalog_at c q tables) (delete_at c q cells parts)) area area₁ x
+      pub delete-refused : (v : Refusal) → x ≡ Err v
+          → Plans (build_delete (catalog_at c q tables) (delete_at c q cells parts)) area area₁ (Err v)
       unfolding delete_of
-      delete-refused k l z =
-          let p = stopped k l built z in
-          refused-at p.refusal built.kept p.answer
+      delete-refused v z =
+          let p = stopped v built z in
+          refused-at p.refusal built.kept (sym z ∙ p.answer)
           (delete-where (catalog_at c q tables) (delete_at c q cells parts) t has p.refusal
           (not_taken (table_scope t) o p.refusal p.is))
 
-      module _ (m : ℕ) (z : x ≡ Done m) where
+      module _ (m : ℕ) (z : x ≡ Ok m) where
         pub delete-most : m ≤ most_plan_cells
         unfolding clause_size
         delete-most =
@@ -156,7 +158,7 @@ module _ (c q : Bytes) (tables cells parts : List ℕ) {area nodes : List ℕ}
             omega (arith, few, (taken (table_scope t) o p.cells m p.is).most)
 
         pub delete-planned : {area₂ : List ℕ} → length area₂ ≡ length area₁ → DeleteEnds c q tables i a n m area₁ area₂
-            → Plans (build_delete (catalog_at c q tables) (delete_at c q cells parts)) area area₂ (Done m)
+            → Plans (build_delete (catalog_at c q tables) (delete_at c q cells parts)) area area₂ (Ok m)
         unfolding delete_of
         delete-planned l d =
             let p = accepted m built z in

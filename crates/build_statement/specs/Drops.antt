@@ -1,5 +1,5 @@
 -- DROP TABLE: the area at exit, from the own numbers.
-use Rattle.std.specs.Prelude.{ℕ, ◌≤◌, ◌≡◌, refl, Bool, List, [], ◌∷◌, length}
+use Rattle.std.specs.Prelude.{ℕ, ◌≤◌, ◌≡◌, refl, Bool, List, [], ◌∷◌, length, Ok}
 use Rattle.std.proofs.Common.{arith, sym, ◌∙◌, append-nil}
 use Rattle.rules.specs.Lists.{Bytes, concat}
 use Rattle.rules.specs.Lines.{Word}
@@ -14,7 +14,6 @@ use Rattle.plan.specs.Layout.{drop_code, plan_size, most_plan_cells, nodes_size}
 use Rattle.plan.specs.Appended.{Appended, appended-none}
 use Rattle.plan.specs.Finished.{finished}
 use Rattle.plan.specs.Exit.{pieces, drop-exit}
-use Rattle.plan.specs.declared.cells.Written.TheVariants.{Done}
 use Rattle.build_statement.specs.Plans.{Plans}
 use Rattle.build_statement.specs.Ends.{span-at, finish-room, plan-count, planned}
 use Rattle.build_statement.specs.Kinds.{Free, name_of}
@@ -32,7 +31,7 @@ module _ (c q : Bytes) (parts : List ℕ) {nodes nodes' : List ℕ} {a n l e : �
 
 pub dropped : (w : Word) (y : Bool) (e : ℕ) (nodes nodes' area area' : List ℕ) → Free area nodes
     → Appended (own_numbers (P.drop w y)) 0 nodes e nodes' → length area' ≡ length area
-    → area' ≡ finished drop_code 0 0 0 e nodes' area → Plans (ok (P.drop w y)) area area' (Done 0)
+    → area' ≡ finished drop_code 0 0 0 e nodes' area → Plans (ok (P.drop w y)) area area' (Ok 0)
 unfolding records_numbers cells_numbers concat
 dropped w y e nodes nodes' area area' f a l h =
     let p = pieces {cs = []} {n = 0} {t = area} [] (own_numbers (P.drop w y)) area refl (omega (arith, f.area_room)) (sym (append-nil _))

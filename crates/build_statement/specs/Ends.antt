@@ -1,7 +1,7 @@
 -- A whole statement's answer from its plan, or from its refusal; its name, and the room at its end.
-use Rattle.std.specs.Prelude.{ℕ, ◌≤◌, ◌≡◌, List, [], ◌∷◌, length, get_or}
+use Rattle.std.specs.Prelude.{ℕ, ◌≤◌, ◌≡◌, List, [], ◌∷◌, length, get_or, Ok, Err}
 use Rattle.std.proofs.Common.{arith, sym, ap, ◌∙◌}
-use Rattle.rules.specs.Refusals.{Reason, Refusal, refusal_number, Answer, ok, refused, refuse}
+use Rattle.rules.specs.Refusals.{Reason, Refusal, Answer, ok, refused, refuse}
 use Rattle.rules.specs.Lists.{Bytes}
 use Rattle.rules.specs.Places.{bytes_at, word_at}
 use Rattle.rules.specs.Plan.{Built, Plan}
@@ -12,8 +12,9 @@ use Rattle.rules.specs.Entry.{outcome}
 use Rattle.appends.specs.Answers.{ok-not-refused}
 use Rattle.appends.specs.Area.{header_of, area_of}
 use Rattle.plan.specs.Layout.{plan_size, most_plan_cells, nodes_size}
-use Rattle.plan.specs.declared.cells.Written.{Written}
-use Rattle.plan.specs.declared.cells.Written.TheVariants.{Done, Refused}
+use Rattle.plan.specs.Emits.{Written}
+use Rattle.numbers.specs.Reasons.{named, noted}
+use Rattle.numbers.specs.declared.refusals.Reason as code
 use Rattle.build_statement.specs.Plans.{planned_of, Plans}
 use Rattle.build_statement.specs.Kinds.{Free}
 
@@ -42,27 +43,28 @@ plan-count p c cs rs ws n m e = ap (λ (xs : List ℕ). get_or xs 2 0) e
 
 pub planned : {a : Answer (Plan Built)} {n : ℕ} {area area' : List ℕ} (p : Plan Built) → a ≡ ok p
     → length (plan_cells p) ≡ n → length area' ≡ length area → area' ≡ (outcome area (ok p)).area
-    → Plans a area area' (Done n)
+    → Plans a area area' (Ok n)
 unfolding planned_of
 planned {a} {n} {area} {area'} p e f l x = record {
-  answer = ap Done (sym f) ∙ sym (ap planned_of e);
+  answer = ap Ok (sym f) ∙ sym (ap planned_of e);
   kept = l;
   exit = λ r g. x ∙ ap (λ (b : Answer (Plan Built)). (outcome area b).area) (sym e);
 }
 
 -- refused at a line
-pub not-planned : {a : Answer (Plan Built)} {area area' : List ℕ} (k : Reason) (l x y : ℕ) → length area' ≡ length area
-    → x ≡ refusal_number k → y ≡ l → a ≡ refuse k l → Plans a area area' (Refused x y)
+pub not-planned : {a : Answer (Plan Built)} {area area' : List ℕ} (k : Reason) (l : ℕ) (x : code.Reason) (y : ℕ)
+    → length area' ≡ length area → x ≡ named k → y ≡ l → a ≡ refuse k l
+    → Plans a area area' (Err (record { reason = x; line = y }))
 unfolding planned_of refuse
 not-planned k l x y e f g h = record {
-  answer = (λ i. Refused (f i) (g i)) ∙ sym (ap planned_of h);
+  answer = rw (f, g, h);
   kept = e;
   exit = λ p j. ok-not-refused p _ (sym j ∙ h);
 }
 
 -- refused as a step of it was
 pub refused-at : {a : Answer (Plan Built)} {area area' : List ℕ} {x : Written} (w : Refusal) → length area' ≡ length area
-    → x ≡ Refused (refusal_number w.reason) w.line → a ≡ refused w → Plans a area area' x
+    → x ≡ Err (noted w) → a ≡ refused w → Plans a area area' x
 unfolding planned_of
 refused-at w l e h = record {
   answer = e ∙ sym (ap planned_of h);

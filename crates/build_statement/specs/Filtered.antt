@@ -25,8 +25,7 @@ use Rattle.statement.specs.Layout.{to_clause}
 use Rattle.statement.specs.Access.{line_at, name_address, name_length}
 use Rattle.statement.specs.EntryAccess.{clause_at}
 use Rattle.statement.specs.declared.access.Clause.{Clause}
-use Rattle.plan.specs.Emits.{Emits}
-use Rattle.plan.specs.declared.cells.Written.{Written}
+use Rattle.plan.specs.Emits.{Written, Emits}
 use Rattle.build_statement.specs.Kinds.{name_of}
 use Rattle.build_statement.specs.Tables.{table_named, must-not, must-have, table-scope}
 use Rattle.build_statement.specs.Clauses.{emit_given, Filters}

@@ -1,17 +1,17 @@
 -- The contracts of building a statement: what is known of the slices, and what a whole statement's answer and area are.
-use Rattle.std.specs.Prelude.{ℕ, ◌≤◌, ◌≡◌, List, length}
-use Rattle.rules.specs.Refusals.{refusal_number, Answer, ok, refused}
+use Rattle.std.specs.Prelude.{ℕ, ◌≤◌, ◌≡◌, List, length, Ok, Err}
+use Rattle.rules.specs.Refusals.{Answer, ok, refused}
 use Rattle.rules.specs.Limits.{least_area}
 use Rattle.rules.specs.Lists.{Bytes}
 use Rattle.rules.specs.Plan.{Built, Plan}
 use Rattle.rules.specs.Cells.{plan_cells}
 use Rattle.rules.specs.Entry.{outcome}
 use Rattle.claims.specs.Within.{TextsWithin}
+use Rattle.numbers.specs.Reasons.{noted}
 use Rattle.schema.specs.Layout.{catalog_at}
 use Rattle.statement.specs.Layout.{statement_at}
 use Rattle.plan.specs.Layout.{nodes_size}
-use Rattle.plan.specs.declared.cells.Written.{Written}
-use Rattle.plan.specs.declared.cells.Written.TheVariants.{Done, Refused}
+use Rattle.plan.specs.Emits.{Written}
 
 -- the numbers stand for a catalog and a statement that were read from the texts c and q, and there is room for a plan
 pub record Ready (c q : Bytes) (tables cells froms parts area nodes : List ℕ) : Type 0 where
@@ -19,10 +19,10 @@ pub record Ready (c q : Bytes) (tables cells froms parts area nodes : List ℕ) 
   pub area_room : least_area ≤ length area
   pub nodes_room : length nodes ≡ nodes_size
 
--- the number of cells, or document 01's number and line
+-- the number of cells, or the refusal
 unfoldable pub planned_of : Answer (Plan Built) → Written
-planned_of (ok p) = Done (length (plan_cells p))
-planned_of (refused w) = Refused (refusal_number w.reason) w.line
+planned_of (ok p) = Ok (length (plan_cells p))
+planned_of (refused w) = Err (noted w)
 
 -- r is the answer a; where it is a plan the area is the rules' area at exit, else its numbers are not determined
 pub record Plans (a : Answer (Plan Built)) (area area' : List ℕ) (r : Written) : Type 0 where

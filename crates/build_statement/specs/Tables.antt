@@ -2,7 +2,7 @@
 use Rattle.std.specs.Prelude.{ℕ, ◌≡◌, List}
 use Rattle.std.proofs.Math.Path.{refl}
 use Rattle.std.proofs.Common.{sym, ap, ◌∙◌}
-use Rattle.rules.specs.Refusals.{ok, refuse, refusal_number, unknown_table}
+use Rattle.rules.specs.Refusals.{ok, refuse, unknown_table}
 use Rattle.rules.specs.Lists.{Bytes, map_option}
 use Rattle.rules.specs.Places.{bytes_at, word_at}
 use Rattle.rules.specs.Schema.{Table, get_table, named_by, must_get_table}
@@ -20,14 +20,6 @@ use Rattle.scope.specs.Scopes.{scope_of}
 use Rattle.scope.specs.FromTable.{FromTable}
 use Rattle.scope.specs.Read.{found_scope}
 use Rattle.scope.specs.declared.Scope.{Scope}
-
--- document 01's number of a table that is not there
-abbrev pub unknown_number : ℕ
-unknown_number = 5
-
-pub unknown-number : unknown_number ≡ refusal_number unknown_table
-unfolding refusal_number
-unknown-number = refl
 
 -- the i-th table under the name that is the n bytes at a
 abbrev pub table_named : Bytes → Bytes → List ℕ → ℕ → ℕ → ℕ → Table

@@ -6,7 +6,7 @@ ghost use Rattle.plan.specs.Cells.{Room};
 ghost use Rattle.build_statement.specs.Clauses.{Filters};
 
 use build_expression::build_expression;
-use plan::cells::Written;
+use numbers::refusals::Refusal;
 use statement::access::Clause;
 
 // Its cells are the plan's first ones. The next cell is also the number of its root: one more than it, or 0.
@@ -21,14 +21,14 @@ pub fn build_where<'t, 'a>(
     tables: &'a [u32],
     count: u32,
     area: &mut [u32],
-) -> Written
+) -> Result<u32, Refusal>
     requires { Room 0 (3 * clause_size (clause_of catalog.now statement.now cells.now clause)) area.old }
     ensures { Filters catalog.now statement.now cells.now
         (take width labels.now) (take width matches.now) (take count tables.now)
         clause area.old area.new result }
 {
     match clause {
-        Clause::Missing => Written::Done(0),
+        Clause::Missing => Ok(0),
         Clause::Stands(_, r) => build_expression(
             catalog, statement, cells, r, labels, matches, width, tables, count, area, 0,
         ),

@@ -19,12 +19,10 @@ ghost use Rattle.build_statement.specs.Plans.{Plans};
 ghost use Rattle.build_statement.specs.Pushes.{Pushes};
 ghost use Rattle.build_statement.specs.Create as create;
 
-use crate::pushed::Pushed;
 use expression::constants::build_constant_value;
 use expression::planned::{Numbers, literal_numbers, value_numbers};
-use expression::{Constant, Reason};
-use numbers::refusals::{MULTIPLE_PRIMARY_KEYS, NO_PRIMARY_KEY};
-use plan::cells::Written;
+use expression::{Constant, to_reason};
+use numbers::refusals::{Reason, Refusal};
 use plan::{finish, own};
 use sections::entry;
 use sections::entry::Entry;
@@ -32,22 +30,8 @@ use statement::access;
 use text::lengths::length_at;
 use value;
 
-// The position of a column that is a primary key, or there is none.
-#[derive(Clone, Copy)]
-pub enum KeyPosition {
-    At(u32),
-    Missing,
-}
-
-// A column's default by its numbers, or the refusal of its expression.
-#[derive(Clone, Copy)]
-pub enum Default {
-    Given(Numbers),
-    Refused(Reason, u32),
-}
-
-// The first column from position k on that is given as primary key.
-fn key_column(parts: &[u32], k: u32) -> KeyPosition
+// The position of the first column from position k on that is given as primary key.
+fn key_column(parts: &[u32], k: u32) -> Option<u32>
     ensures { (c q : Bytes) (cells : List ℕ) → create.Keys c q cells parts.now k result }
 {
     let count = entry::count(parts, entry::COLUMN);
@@ -55,11 +39,11 @@ fn key_column(parts: &[u32], k: u32) -> KeyPosition
     while i < count {
         let e = entry::entry_at(parts, entry::COLUMN, i);
         if e.key == 1 {
-            return KeyPosition::At(i);
+            return Some(i);
         }
         i += 1;
     }
-    KeyPosition::Missing
+    None
 }
 
 // Whether a column may be null: as it is given, or else where it is no key.
@@ -106,16 +90,22 @@ fn reference_start(e: Entry) -> u32
     e.reference
 }
 
-// A column's default: the value of its expression; where there is none, a null if it may be null.
-fn default_of(catalog: &[u8], statement: &[u8], cells: &[u32], e: Entry, nullable: bool) -> Default
+// A column's default by its numbers: the value of its expression; where there is none, a null if it may be null.
+fn default_of(
+    catalog: &[u8],
+    statement: &[u8],
+    cells: &[u32],
+    e: Entry,
+    nullable: bool,
+) -> Result<Numbers, Refusal>
     ensures { create.default_of result ≡ map_answer default_numbers
         (default_value nullable (given_of catalog.now statement.now cells.now e)) }
 {
     if e.expressions == 0 {
         if nullable {
-            return Default::Given(value_numbers(catalog, statement, value::Value::Null));
+            return Ok(value_numbers(catalog, statement, value::Value::Null));
         }
-        return Default::Given(Numbers {
+        return Ok(Numbers {
             kind: 0,
             first: 0,
             second: 0,
@@ -123,9 +113,12 @@ fn default_of(catalog: &[u8], statement: &[u8], cells: &[u32], e: Entry, nullabl
     }
     let constant = build_constant_value(catalog, statement, cells, entry::first_row(e));
     match constant {
-        Constant::Literal(k, a, b) => Default::Given(literal_numbers(catalog, statement, k, a, b)),
-        Constant::Value(v) => Default::Given(value_numbers(catalog, statement, v)),
-        Constant::Refused(reason, line) => Default::Refused(reason, line),
+        Constant::Literal(k, a, b) => Ok(literal_numbers(catalog, statement, k, a, b)),
+        Constant::Value(v) => Ok(value_numbers(catalog, statement, v)),
+        Constant::Refused(reason, line) => Err(Refusal {
+            reason: to_reason(reason),
+            line,
+        }),
     }
 }
 
@@ -161,21 +154,16 @@ fn column(
     e: Entry,
     nodes: &mut [u32],
     k: usize,
-) -> Pushed
+) -> Result<usize, Refusal>
     requires { k + column_size + cell_size ≤ length nodes.old }
     ensures { Pushes made_numbers
         (made_column (create.column_of catalog.now statement.now cells.now e))
         k nodes.old nodes.new result }
 {
     let nullable = is_nullable(e);
-    let default = default_of(catalog, statement, cells, e, nullable);
-    match default {
-        Default::Given(n) => {
-            let j = put_column(catalog, statement, e, nullable, nodes, k);
-            Pushed::Done(own::default_value(nodes, j, n.kind, n.first, n.second))
-        }
-        Default::Refused(reason, line) => Pushed::Refused(expression::number(reason), line),
-    }
+    let default = default_of(catalog, statement, cells, e, nullable)?;
+    let j = put_column(catalog, statement, e, nullable, nodes, k);
+    Ok(own::default_value(nodes, j, default.kind, default.first, default.second))
 }
 
 // All columns.
@@ -186,7 +174,7 @@ fn columns(
     parts: &[u32],
     nodes: &mut [u32],
     k: usize,
-) -> Pushed
+) -> Result<usize, Refusal>
     requires { k + (column_size + cell_size) * length
         (section_at catalog.now statement.now cells.now parts.now column_kind) ≤ length nodes.old }
     ensures { Pushes create.columns_numbers
@@ -198,14 +186,10 @@ fn columns(
     let mut j = k;
     while i < count {
         let e = entry::entry_at(parts, entry::COLUMN, i);
-        let pushed = column(catalog, statement, cells, e, nodes, j);
-        let Pushed::Done(next) = pushed else {
-            return pushed;
-        };
-        j = next;
+        j = column(catalog, statement, cells, e, nodes, j)?;
         i += 1;
     }
-    Pushed::Done(j)
+    Ok(j)
 }
 
 // The table's name, the key's position and how many columns there are, then the columns.
@@ -216,7 +200,7 @@ fn table(
     parts: &[u32],
     key: u32,
     nodes: &mut [u32],
-) -> Pushed
+) -> Result<usize, Refusal>
     requires { own_head + (column_size + cell_size) * length
         (section_at catalog.now statement.now cells.now parts.now column_kind) ≤ length nodes.old }
     ensures { Pushes (create.table_numbers (name_word catalog.now statement.now cells.now [] parts.now) key)
@@ -239,23 +223,18 @@ fn create_table(
     key: u32,
     area: &mut [u32],
     nodes: &mut [u32],
-) -> Written
+) -> Result<u32, Refusal>
     requires { create.CreateReady catalog.now statement.now cells.now parts.now area.old nodes.old }
     ensures { Plans
         (create.with_key catalog.now statement.now cells.now parts.now key)
         area.old area.new result }
 {
-    let made = table(catalog, statement, cells, parts, key, nodes);
-    match made {
-        Pushed::Done(end) => {
-            finish::finish(area, nodes, finish::CREATE, 0, 0, 0, end);
-            Written::Done(0)
-        }
-        Pushed::Refused(number, line) => Written::Refused(number, line),
-    }
+    let end = table(catalog, statement, cells, parts, key, nodes)?;
+    finish::finish(area, nodes, finish::CREATE, 0, 0, 0, end);
+    Ok(0)
 }
 
-// 20 at the statement's line without a primary key; 21 at the line of the second one.
+// Refused at the statement's line without a primary key, and at the line of a second one.
 pub fn build_create_table(
     catalog: &[u8],
     statement: &[u8],
@@ -263,21 +242,23 @@ pub fn build_create_table(
     parts: &[u32],
     area: &mut [u32],
     nodes: &mut [u32],
-) -> Written
+) -> Result<u32, Refusal>
     requires { create.CreateReady catalog.now statement.now cells.now parts.now area.old nodes.old }
     ensures { Plans
         (build_create (create.create_at catalog.now statement.now cells.now parts.now))
         area.old area.new result }
 {
-    let KeyPosition::At(key) = key_column(parts, 0) else {
-        return Written::Refused(NO_PRIMARY_KEY, access::line(parts));
+    let Some(key) = key_column(parts, 0) else {
+        return Err(Refusal {
+            reason: Reason::NoPrimaryKey,
+            line: access::line(parts),
+        });
     };
-    let second = key_column(parts, key + 1);
-    match second {
-        KeyPosition::At(j) => {
-            let e = entry::entry_at(parts, entry::COLUMN, j);
-            Written::Refused(MULTIPLE_PRIMARY_KEYS, e.line)
-        }
-        KeyPosition::Missing => create_table(catalog, statement, cells, parts, key, area, nodes),
+    if let Some(j) = key_column(parts, key + 1) {
+        return Err(Refusal {
+            reason: Reason::MultiplePrimaryKeys,
+            line: entry::entry_at(parts, entry::COLUMN, j).line,
+        });
     }
+    create_table(catalog, statement, cells, parts, key, area, nodes)
 }

@@ -9,8 +9,7 @@ ghost use Rattle.build_statement.specs.Kinds.{Free, ReadyFor, delete_at};
 ghost use Rattle.build_statement.specs.Deletes.{DeleteEnds};
 
 use crate::clause::build_where;
-use numbers::refusals::UNKNOWN_TABLE;
-use plan::cells::Written;
+use numbers::refusals::{Reason, Refusal};
 use plan::finish::{DELETE, finish};
 use plan::nodes::scan;
 use plan::own;
@@ -52,7 +51,7 @@ pub fn build_delete<'t>(
     parts: &[u32],
     area: &mut [u32],
     nodes: &mut [u32],
-) -> Written
+) -> Result<u32, Refusal>
     requires { ReadyFor catalog.now statement.now tables.now
         (ast.delete (delete_at catalog.now statement.now cells.now parts.now)) area.old nodes.old }
     ensures { Plans
@@ -64,11 +63,14 @@ pub fn build_delete<'t>(
     let n = access::name_length(parts);
     let found = get_table(catalog, statement, tables, a, n);
     let Found::At(i) = found else {
-        return Written::Refused(UNKNOWN_TABLE, access::line(parts));
+        return Err(Refusal {
+            reason: Reason::UnknownTable,
+            line: access::line(parts),
+        });
     };
     let scope = Scope::from_table(tables, i, a, n);
     let clause = access::clause_at(parts, WHERE);
-    let filtered = build_where(
+    let m = build_where(
         catalog,
         statement,
         cells,
@@ -79,10 +81,7 @@ pub fn build_delete<'t>(
         &scope.tables,
         scope.count,
         area,
-    );
-    let Written::Done(m) = filtered else {
-        return filtered;
-    };
+    )?;
     end_delete(catalog, statement, tables, i, a, n, area, nodes, m);
-    Written::Done(m)
+    Ok(m)
 }

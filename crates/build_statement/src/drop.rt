@@ -1,4 +1,5 @@
 // DROP TABLE: no cells, no nodes; the table need not exist.
+ghost use Rattle.std.specs.Prelude.{Ok};
 ghost use Rattle.rules.specs.Refusals.{ok};
 ghost use Rattle.rules.specs.Plan as plan;
 ghost use Rattle.numbers.specs.Values.{is_one};
@@ -6,7 +7,6 @@ ghost use Rattle.statement.specs.Access.{drop_flag};
 ghost use Rattle.build_statement.specs.Plans.{Plans};
 ghost use Rattle.build_statement.specs.Kinds.{Free, name_of};
 
-use plan::cells::Written;
 use plan::finish::{DROP, finish};
 use plan::own;
 use statement::access;
@@ -18,12 +18,12 @@ pub fn build_drop_table(
     parts: &[u32],
     area: &mut [u32],
     nodes: &mut [u32],
-) -> Written
+)
     requires { Free area.old nodes.old }
     ensures { Plans
         (ok (plan.drop (name_of catalog.now statement.now parts.now)
         (is_one (drop_flag parts.now))))
-        area.old area.new result }
+        area.old area.new (Ok 0) }
 {
     let a = access::name_address(parts);
     let n = access::name_length(parts);
@@ -31,5 +31,4 @@ pub fn build_drop_table(
     let exists = access::if_exists(parts);
     let e = own::drop(nodes, 0, a, length, exists);
     finish(area, nodes, DROP, 0, 0, 0, e);
-    Written::Done(0)
 }

@@ -5,4 +5,3 @@ pub mod clause; // clause.rt: WHERE
 pub mod create; // create.rt: CREATE TABLE
 pub mod delete; // delete.rt: DELETE
 pub mod drop; // drop.rt: DROP TABLE
-pub mod pushed; // pushed.rt: what a step that may refuse appends to the nodes' numbers

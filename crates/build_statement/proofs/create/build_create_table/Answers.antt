@@ -1,13 +1,14 @@
 -- `create::build_create_table`: no key, two, or one.
 use native.Mathlib.Omega.{arith}
 use mathlib.Core.Path.{refl}
-use Rattle.rules.specs.Refusals.{refusal_number, no_primary_key, multiple_primary_keys}
+use Rattle.rules.specs.Refusals.{no_primary_key, multiple_primary_keys}
+use Rattle.numbers.specs.Reasons.{named}
 use Rattle.build_statement.specs.Ends.{not-planned}
 use Rattle.build_statement.specs.Columns.{no_key, second_key, one_key, plans-same}
 use Rattle.build_statement.proofs.create.build_create_table.Goals as goal
 
 pub returns-in_default : goal.returns-in_default
-unfolding refusal_number
+unfolding named
 returns-in_default c = not-planned no_primary_key _ _ _ refl refl c.line.ensures
     (no_key c.args.catalog.now c.args.statement.now c.args.cells.now c.args.parts.now (c.key_column.ensures c.args.catalog.now c.args.statement.now c.args.cells.now) c.in_default.is)
 
@@ -15,19 +16,19 @@ pub overflow_add-key : goal.overflow_add-key
 overflow_add-key c = omega (
   arith,
   (c.key_column.ensures c.args.catalog.now c.args.statement.now c.args.cells.now).inside _
-      c.in-At.is,
+      c.in-Some.is,
   c.requires.few_columns,
 )
 
-pub returns-in-At-second : goal.returns-in-At-second
-unfolding refusal_number
-returns-in-At-second c = not-planned multiple_primary_keys _ _ _ refl refl refl
-    (second_key c.args.catalog.now c.args.statement.now c.args.cells.now c.args.parts.now (c.key_column.ensures c.args.catalog.now c.args.statement.now c.args.cells.now) _ c.in-At.is
-    (c.key_column-second.ensures c.args.catalog.now c.args.statement.now c.args.cells.now) _ _ c.in-At-second.is
-    c.entry_at-e.ensures)
+pub returns-in-Some-key_column : goal.returns-in-Some-key_column
+unfolding named
+returns-in-Some-key_column c = not-planned multiple_primary_keys _ _ _ refl refl refl
+    (second_key c.args.catalog.now c.args.statement.now c.args.cells.now c.args.parts.now (c.key_column.ensures c.args.catalog.now c.args.statement.now c.args.cells.now) _ c.in-Some.is
+    (c.key_column-2.ensures c.args.catalog.now c.args.statement.now c.args.cells.now) _ _ c.in-Some-key_column.is
+    c.entry_at.ensures)
 
-pub returns-in-Missing : goal.returns-in-Missing
-returns-in-Missing c = plans-same (one_key c.args.catalog.now c.args.statement.now c.args.cells.now c.args.parts.now
-    (c.key_column.ensures c.args.catalog.now c.args.statement.now c.args.cells.now) _ c.in-At.is
-    (c.key_column-second.ensures c.args.catalog.now c.args.statement.now c.args.cells.now) c.in-Missing.is)
+pub returns : goal.returns
+returns c = plans-same (one_key c.args.catalog.now c.args.statement.now c.args.cells.now c.args.parts.now
+    (c.key_column.ensures c.args.catalog.now c.args.statement.now c.args.cells.now) _ c.in-Some.is
+    (c.key_column-2.ensures c.args.catalog.now c.args.statement.now c.args.cells.now) c.in_default-key_column.is)
     c.create_table.ensures

@@ -1,5 +1,6 @@
 -- `create::create_table`: the table, and the area at exit.
 use native.Mathlib.Omega.{arith}
+use Rattle.plan.specs.Emits.{exit}
 use mathlib.Core.Path.{refl}
 use Rattle.build_statement.specs.Columns.{table-end, created, not-created}
 use Rattle.build_statement.proofs.create.create_table.Goals as goal
@@ -13,19 +14,19 @@ finish-requires c = (
     arith,
     c.requires.free.nodes_room,
     table-end
-        c.args.catalog.now c.args.statement.now c.args.cells.now c.args.parts.now _ c.table-made.ensures _ c.in-Done.is,
+        c.args.catalog.now c.args.statement.now c.args.cells.now c.args.parts.now _ c.table.ensures _ c.in_ok-end.was,
   ),
   omega (
     arith,
-    c.table-made.ensures.kept,
-    table-end c.args.catalog.now c.args.statement.now c.args.cells.now c.args.parts.now _ c.table-made.ensures _ c.in-Done.is,
+    c.table.ensures.kept,
+    table-end c.args.catalog.now c.args.statement.now c.args.cells.now c.args.parts.now _ c.table.ensures _ c.in_ok-end.was,
   ),
 )
 
-pub returns-in-Done : goal.returns-in-Done
-returns-in-Done c = created c.args.catalog.now c.args.statement.now c.args.cells.now c.args.parts.now c.args.key c.table-made.ensures _ c.in-Done.is c.requires.free
+pub returns : goal.returns
+returns c = created c.args.catalog.now c.args.statement.now c.args.cells.now c.args.parts.now c.args.key c.table.ensures _ c.in_ok-end.was c.requires.free
     c.finish.auto.area c.finish.ensures
 
-pub returns-in-Refused : goal.returns-in-Refused
-returns-in-Refused c = not-created c.args.catalog.now c.args.statement.now c.args.cells.now c.args.parts.now c.args.key
-    c.table-made.ensures _ _ c.in-Refused.is refl
+pub returns-in_err-end : goal.returns-in_err-end
+returns-in_err-end c = rw (exit c.from_residual.result c.from_residual.ensures.1) (not-created c.args.catalog.now c.args.statement.now c.args.cells.now c.args.parts.now c.args.key
+    c.table.ensures _ c.in_err-end.was refl)

@@ -25,4 +25,4 @@ returns-in-Value c = value-given c.args.catalog.now c.args.statement.now c.args.
 pub returns-in-Refused : goal.returns-in-Refused
 returns-in-Refused c = refused-given c.args.catalog.now c.args.statement.now c.args.cells.now c.args.e c.args.nullable
     c.if-e-eq0.false _ c.first_row.ensures _ c.build_constant_value-constant.ensures
-    _ _ c.in-Refused.is
+    _ _ c.in-Refused.is _ c.to_reason.ensures

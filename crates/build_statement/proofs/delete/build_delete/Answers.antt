@@ -1,5 +1,6 @@
 -- `delete::build_delete`: the table, its filter, and the end.
 use native.Mathlib.Omega.{arith}
+use Rattle.plan.specs.Emits.{exit}
 use mathlib.Core.Path.{refl}
 use Rattle.build_statement.specs.Kinds.{free-kept}
 use Rattle.build_statement.specs.Deletes.{delete-unknown, delete-where-room, delete-refused, delete-most}
@@ -11,27 +12,27 @@ returns-in_default c = delete-unknown c.args.catalog.now c.args.statement.now c.
     c.requires _ _ c.name_address-a.ensures c.name_length-n.ensures _
     c.get_table-found.ensures c.in_default.is c.line.ensures
 
-pub build_where-filtered-requires : goal.build_where-filtered-requires
-build_where-filtered-requires c = delete-where-room c.args.catalog.now c.args.statement.now c.args.tables.now c.args.cells.now c.args.parts.now
+pub build_where-requires : goal.build_where-requires
+build_where-requires c = delete-where-room c.args.catalog.now c.args.statement.now c.args.tables.now c.args.cells.now c.args.parts.now
     c.requires _ _ c.name_address-a.ensures c.name_length-n.ensures _
     c.get_table-found.ensures c.clause_at-clause.ensures
     (omega (arith, c.well_formed.1.1.1.0.1))
 
-pub returns-in_default-filtered : goal.returns-in_default-filtered
-returns-in_default-filtered c = delete-refused c.args.catalog.now c.args.statement.now c.args.tables.now c.args.cells.now c.args.parts.now
+pub returns-in_err-m : goal.returns-in_err-m
+returns-in_err-m c = rw (exit c.from_residual.result c.from_residual.ensures.1) (delete-refused c.args.catalog.now c.args.statement.now c.args.tables.now c.args.cells.now c.args.parts.now
     c.requires _ _ c.name_address-a.ensures c.name_length-n.ensures _
     c.get_table-found.ensures c.clause_at-clause.ensures
     (omega (arith, c.well_formed.1.1.1.0.1)) _ c.in-At.is
-    c.from_table-scope.ensures c.build_where-filtered.ensures _ _ c.in_default-filtered.is
+    c.from_table-scope.ensures c.build_where.ensures _ c.in_err-m.was)
 
 pub end_delete-requires : goal.end_delete-requires
 end_delete-requires c = record {
-  free = free-kept c.requires.free c.build_where-filtered.auto.area refl;
+  free = free-kept c.requires.free c.build_where.auto.area refl;
   m_le_most_plan_cells = delete-most c.args.catalog.now c.args.statement.now c.args.tables.now c.args.cells.now c.args.parts.now
       c.requires _ _ c.name_address-a.ensures c.name_length-n.ensures _
       c.get_table-found.ensures c.clause_at-clause.ensures
       (omega (arith, c.well_formed.1.1.1.0.1)) _ c.in-At.is
-      c.from_table-scope.ensures c.build_where-filtered.ensures _ c.in-Done.is;
+      c.from_table-scope.ensures c.build_where.ensures _ c.in_ok-m.was;
 }
 
 pub returns : goal.returns
@@ -39,5 +40,5 @@ returns c = delete-planned c.args.catalog.now c.args.statement.now c.args.tables
     c.requires _ _ c.name_address-a.ensures c.name_length-n.ensures _
     c.get_table-found.ensures c.clause_at-clause.ensures
     (omega (arith, c.well_formed.1.1.1.0.1)) _ c.in-At.is
-    c.from_table-scope.ensures c.build_where-filtered.ensures _ c.in-Done.is
+    c.from_table-scope.ensures c.build_where.ensures _ c.in_ok-m.was
     c.end_delete.auto.area c.end_delete.ensures
