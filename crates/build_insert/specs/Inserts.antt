@@ -1,5 +1,6 @@
 -- INSERT: the plan at the end, and its answer.
-use Rattle.std.specs.Prelude.{ℕ, ◌+◌, ◌*◌, ◌≤◌, ◌≡◌}
+use Rattle.std.specs.Prelude.{ℕ, ◌+◌, ◌*◌, ◌≤◌, ◌≡◌, Result, Ok, Err}
+use Rattle.std.specs.Prelude as std
 use native.Mathlib.Omega.{arith}
 use Rattle.std.proofs.Math.Path.{refl}
 use Rattle.std.proofs.Common.{sym, ap, ◌∙◌}
@@ -36,22 +37,20 @@ use Rattle.plan.specs.Appended.{Appended}
 use Rattle.plan.specs.Cells.{Room}
 use Rattle.plan.specs.Finished.{finished}
 use Rattle.plan.specs.Exit.{pieces, insert-exit}
-use Rattle.plan.specs.declared.cells.Written.{Written}
-use Rattle.plan.specs.declared.cells.Written.TheVariants as W
+use Rattle.plan.specs.declared.steps.Part.{Part}
+use Rattle.plan.specs.Steps.{RefusedWith}
+use Rattle.plan.specs.Emits.{Written}
+use Rattle.numbers.specs.declared.refusals.Refusal.{Refusal}
+use Rattle.numbers.specs.Reasons.{named}
+use Rattle.numbers.specs.declared.refusals.Reason.TheVariants as Re
 use Rattle.build_statement.specs.Plans.{Plans}
 use Rattle.build_statement.specs.Kinds.{Free, ReadyFor, name_of, insert_at}
 use Rattle.build_statement.specs.Ends.{span-at, finish-room, plan-count, planned, not-planned, refused-at}
-use Rattle.build_statement.specs.Tables.{table_named, unknown_number, unknown-number, must-not, must-have}
-use Rattle.build_statement.specs.Pushes.{Refusing}
+use Rattle.build_statement.specs.Tables.{table_named, must-not, must-have}
 use Rattle.build_insert.specs.Map.{map_of, MapsAs, Maps, given_names}
-use Rattle.build_insert.specs.Lists.{values_node, Lists, was-done, was-refused}
+use Rattle.build_insert.specs.Lists.{values_node, Listed, Lists, was-done, was-refused}
 use Rattle.build_insert.specs.Rows.{rows_at, RowsFit, rows_take}
 use Rattle.build_insert.specs.Own.{own_count, own-count, MapFits, own-in-use}
-use Rattle.build_insert.specs.declared.map.ColumnMap.{ColumnMap}
-use Rattle.build_insert.specs.declared.map.Mapped.{Mapped}
-use Rattle.build_insert.specs.declared.map.Mapped.TheVariants as M
-use Rattle.build_insert.specs.declared.rows.Listed.{Listed}
-use Rattle.build_insert.specs.declared.rows.Listed.TheVariants.{Done, Refused}
 
 -- THE END: m cells stand in the area, and the node is the first k numbers; area' is the plan's, of a table under the name
 -- that is the n bytes at a, by the map o
@@ -99,31 +98,30 @@ module _ {rs : List (List Expr)} {o : Option (List Mapping)} {area nodes : List 
   rows_fit = record { numbers = omega (arith, i.numbers, f.nodes_room); all = f.nodes_room }
 
   module _ {area₁ nodes₁ : List ℕ} {x : Listed} (h : Lists values_node (emit_rows empty 0 rs) 0 area area₁ 0 nodes nodes₁ x) where
-    pub rows-refused : (c q : Bytes) (a n y z : ℕ) → x ≡ Refused y z
-        → RowsPlanned c q a n o rs area area₁ (W.Refused y z)
-    rows-refused c q a n y z e =
-        let v = was-refused values_node h y z e in
+    pub rows-refused : (c q : Bytes) (a n : ℕ) (b : Refusal) → x ≡ Err b → RowsPlanned c q a n o rs area area₁ (Err b)
+    rows-refused c q a n b e =
+        let v = was-refused values_node h b e in
         record {
-          is = λ ts d t g w u s. refused-at v.why h.kept (λ j. W.Refused (v.number j) (v.line j))
-              (insert-rows ts d t g o u v.why (ap (emit_rows empty 0) s ∙ v.refused-is));
+          is = λ ts d t g w u s. refused-at v.why h.kept (ap Err v.noted')
+              (insert-rows ts d t g o u v.why (ap (emit_rows empty 0) s ∙ v.is));
         }
 
-    module _ (m k : ℕ) (e : x ≡ Done m k) where
+    module _ (b : Part) (e : x ≡ Ok b) where
       pub rows-free : Free area₁ nodes₁
       rows-free = record {
         area_room = omega (arith, h.kept, f.area_room);
         nodes_room = h.all ∙ f.nodes_room;
       }
 
-      pub rows-most : m ≤ most_plan_cells
+      pub rows-most : b.cell ≤ most_plan_cells
       rows-most =
-          let v = was-done values_node h m k e in
-          omega (arith, i.few, (rows_take rs v.cells v.entry m v.is).cells)
+          let v = was-done values_node h b e in
+          omega (arith, i.few, (rows_take rs v.cells v.entry b.cell v.is).cells)
 
-      pub rows-map : {ps : List ℕ} {y : ColumnMap} → o ≡ map_of ps y → MapFits ps y k nodes₁
+      pub rows-map : {ps : List ℕ} {y : std.Option ℕ} → o ≡ map_of ps y → MapFits ps y b.used nodes₁
       rows-map {ps} {y} g =
-          let v = was-done values_node h m k e in
-          let u = rows_take rs v.cells v.entry m v.is in
+          let v = was-done values_node h b e in
+          let u = rows_take rs v.cells v.entry b.cell v.is in
           let s : own_count o ≡ own_count (map_of ps y) = ap own_count g in
           record {
             numbers = omega (arith, i.numbers, s, v.numbers.next, u.numbers, h.all, f.nodes_room);
@@ -131,17 +129,17 @@ module _ {rs : List (List Expr)} {o : Option (List Mapping)} {area nodes : List 
           }
 
       pub rows-planned : (c q : Bytes) (a n : ℕ) {area₂ : List ℕ} → length area₂ ≡ length area₁
-          → InsertEnds c q a n o m k nodes₁ area₁ area₂ → RowsPlanned c q a n o rs area area₂ (W.Done m)
-      rows-planned c q a n l b =
-          let v = was-done values_node h m k e in
+          → InsertEnds c q a n o b.cell b.used nodes₁ area₁ area₂ → RowsPlanned c q a n o rs area area₂ (Ok b.cell)
+      rows-planned c q a n l z =
+          let v = was-done values_node h b e in
           record {
             is = λ ts d t g w u s.
                 let p : Node ℕ = P.values [] in
-                let y = insert-step ts d t g o u v.cells v.entry m (ap (emit_rows empty 0) s ∙ v.is) in
-                let ps = pieces {cs = v.cells} {n = m} {t = area₁} (values v.entry ∷ []) (own_numbers (P.insert t o p)) area
-                h.kept (omega (arith, rows-most, rows-free.area_room)) v.stand v.numbers (b.own t p w) in
-                planned (P.insert t o y.node) y.answer (plan-count _ _ _ _ _ m 1 y.area) (l ∙ h.kept)
-                (b.is ∙ insert-exit v.cells (values v.entry ∷ []) m 1 k b.end b.numbers area₁ area
+                let y = insert-step ts d t g o u v.cells v.entry b.cell (ap (emit_rows empty 0) s ∙ v.is) in
+                let ps = pieces {cs = v.cells} {n = b.cell} {t = area₁} (values v.entry ∷ []) (own_numbers (P.insert t o p)) area
+                h.kept (omega (arith, rows-most, rows-free.area_room)) v.stand v.numbers (z.own t p w) in
+                planned (P.insert t o y.node) y.answer (plan-count _ _ _ _ _ b.cell 1 y.area) (l ∙ h.kept)
+                (z.is ∙ insert-exit v.cells (values v.entry ∷ []) b.cell 1 b.used z.end z.numbers area₁ area
                 (sym h.kept) t o y.node p y.area ps);
           }
 
@@ -161,13 +159,14 @@ module _ (c q : Bytes) (tables cells parts : List ℕ) {area nodes : List ℕ}
     name-is = λ j. word_at c q (ha j) (hn j)
 
     pub insert-unknown : {y : ℕ} → r ≡ Nothing → y ≡ line_at parts
-        → Plans (build_insert (catalog_at c q tables) (insert_at c q cells parts)) area area (W.Refused unknown_number y)
-    unfolding insert_of refuse
-    insert-unknown e ey = not-planned unknown_table (line_at parts) _ _ refl unknown-number ey
+        → Plans (build_insert (catalog_at c q tables) (insert_at c q cells parts)) area area
+        (Err (record { reason = Re.UnknownTable; line = y }))
+    unfolding insert_of refuse named
+    insert-unknown e ey = not-planned unknown_table (line_at parts) _ _ refl refl ey
         (insert-table (catalog_at c q tables) (insert_at c q cells parts) _
         (rw name-is at (must-not c q tables a n r f (line_at parts) e)))
 
-    module _ (i : ℕ) (e : r ≡ At i) {ps ps' : List ℕ} {x : Mapped}
+    module _ (i : ℕ) (e : r ≡ At i) {ps ps' : List ℕ} {x : Result (std.Option ℕ) Refusal}
         (p : Maps (column_map (table_at c q tables i).columns (given_names c q cells parts)) ps ps' x) where
       abbrev t : Table
       t = table_named c q tables i a n
@@ -176,15 +175,15 @@ module _ (c q : Bytes) (tables cells parts : List ℕ) {area nodes : List ℕ}
       has = ap (must_get_table (catalog_at c q tables) (line_at parts)) (sym name-is)
           ∙ must-have c q tables a n r f i e (line_at parts)
 
-      pub insert-map-refused : (y z : ℕ) → x ≡ M.Refused y z
-          → Plans (build_insert (catalog_at c q tables) (insert_at c q cells parts)) area area (W.Refused y z)
+      pub insert-map-refused : (y : Refusal) → x ≡ Err y
+          → Plans (build_insert (catalog_at c q tables) (insert_at c q cells parts)) area area (Err y)
       unfolding insert_of MapsAs named_by
-      insert-map-refused y z g =
-          let w : Refusing (column_map t.columns (given_names c q cells parts)) y z = rw g at p.is in
-          refused-at w.why refl (λ j. W.Refused (w.number j) (w.line j))
-          (insert-map (catalog_at c q tables) (insert_at c q cells parts) t has w.why w.refused-is)
+      insert-map-refused y g =
+          let w : RefusedWith (column_map t.columns (given_names c q cells parts)) y = rw g at p.is in
+          refused-at w.why refl (ap Err w.noted')
+          (insert-map (catalog_at c q tables) (insert_at c q cells parts) t has w.why w.is)
 
-      module _ (m : ColumnMap) (g : x ≡ M.Done m) where
+      module _ (m : std.Option ℕ) (g : x ≡ Ok m) where
         map_is : column_map t.columns (insert_at c q cells parts).columns ≡ ok (map_of ps' m)
         unfolding insert_of MapsAs named_by
         map_is = rw g at p.is

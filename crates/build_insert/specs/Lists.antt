@@ -1,6 +1,6 @@
 -- What is appended for values, rows and their node: cells to the area, numbers to those of the nodes; and a loop that
 -- appends one entry after the other.
-use Rattle.std.specs.Prelude.{ℕ, ◌≤◌, ◌≡◌, refl, List, [], ◌∷◌, ◌++◌, length, take}
+use Rattle.std.specs.Prelude.{ℕ, ◌≤◌, ◌≡◌, refl, List, [], ◌∷◌, ◌++◌, length, take, Result, Ok, Err}
 use Rattle.std.proofs.Math.Path.{sym}
 use Rattle.std.proofs.Common.{ap, ◌∙◌, append_assoc, append-nil}
 use Rattle.rules.specs.Refusals.{Refusal, Answer, ok, refused}
@@ -10,11 +10,15 @@ use Rattle.rules.specs.Nodes.{values}
 use Rattle.rules.specs.Area.{row_numbers}
 use Rattle.appends.specs.Area.{cells_numbers, records_numbers, cells-numbers-append}
 use Rattle.appends.specs.Lists.Each.{Entries, after, after_none, after-end}
+use Rattle.numbers.specs.declared.refusals.Refusal as code
 use Rattle.plan.specs.Layout.{cells_end}
 use Rattle.plan.specs.Appended.{Appended, appended-none}
-use Rattle.build_statement.specs.Pushes.{Refusing}
-use Rattle.build_insert.specs.declared.rows.Listed.{Listed}
-use Rattle.build_insert.specs.declared.rows.Listed.TheVariants.{Done, Refused}
+use Rattle.plan.specs.Steps.{RefusedWith, refused-on}
+use Rattle.plan.specs.declared.steps.Part.{Part}
+
+-- the next cell and how many numbers are in use, or the refusal
+abbrev pub Listed : Type 0
+Listed = Result Part code.Refusal
 
 -- the numbers of a root, of several, of a row, and of the values node
 abbrev pub one_root : ℕ → List ℕ
@@ -40,8 +44,8 @@ module _ {D : Type 0} (num : D → List ℕ) where
     pub numbers : Appended (num entry) k nodes j nodes'
 
   unfoldable pub ListsAs : Answer (List Cell × D × ℕ) → ℕ → List ℕ → List ℕ → ℕ → List ℕ → List ℕ → Listed → Type 0
-  ListsAs a n area area' k nodes nodes' (Done m j) = Stands a n area area' k nodes nodes' m j
-  ListsAs a n area area' k nodes nodes' (Refused x y) = Refusing a x y
+  ListsAs a n area area' k nodes nodes' (Ok b) = Stands a n area area' k nodes nodes' b.cell b.used
+  ListsAs a n area area' k nodes nodes' (Err w) = RefusedWith a w
 
   -- r is the answer a; where it is refused, the numbers of the area and the nodes are not determined
   pub record Lists (a : Answer (List Cell × D × ℕ)) (n : ℕ) (area area' : List ℕ) (k : ℕ) (nodes nodes' : List ℕ)
@@ -52,23 +56,23 @@ module _ {D : Type 0} (num : D → List ℕ) where
 
   module _ {a : Answer (List Cell × D × ℕ)} {n : ℕ} {area area' : List ℕ} {k : ℕ} {nodes nodes' : List ℕ} where
     pub lists-done : {m j : ℕ} → length area' ≡ length area → Stands a n area area' k nodes nodes' m j
-        → Lists a n area area' k nodes nodes' (Done m j)
+        → Lists a n area area' k nodes nodes' (Ok (record { cell = m; used = j }))
     unfolding ListsAs
     lists-done l s = record { kept = l; all = s.numbers.all; is = s }
 
-    pub lists-refused : {x y : ℕ} → length area' ≡ length area → length nodes' ≡ length nodes → Refusing a x y
-        → Lists a n area area' k nodes nodes' (Refused x y)
+    pub lists-refused : {w : code.Refusal} → length area' ≡ length area → length nodes' ≡ length nodes → RefusedWith a w
+        → Lists a n area area' k nodes nodes' (Err w)
     unfolding ListsAs
     lists-refused l o w = record { kept = l; all = o; is = w }
 
     module _ {r : Listed} (h : Lists a n area area' k nodes nodes' r) where
-      pub was-done : (m j : ℕ) → r ≡ Done m j → Stands a n area area' k nodes nodes' m j
+      pub was-done : (b : Part) → r ≡ Ok b → Stands a n area area' k nodes nodes' b.cell b.used
       unfolding ListsAs
-      was-done m j e = rw e at h.is
+      was-done b e = rw e at h.is
 
-      pub was-refused : (x y : ℕ) → r ≡ Refused x y → Refusing a x y
+      pub was-refused : (w : code.Refusal) → r ≡ Err w → RefusedWith a w
       unfolding ListsAs
-      was-refused x y e = rw e at h.is
+      was-refused w e = rw e at h.is
 
 -- A LOOP: the entries so far, and the rest by the next cell
 module _ {C : Type 0} (num : List C → List ℕ) where
@@ -114,17 +118,12 @@ module _ {C : Type 0} (num : List C → List ℕ) where
     }
 
     -- a refused one
-    pub so-far-stop : {B : Type 0} {b : Answer B} {x y : ℕ} → Refusing b x y
-        → ((w : Refusal) → b ≡ refused w → after (p.cells, p.entries, m) (rest m) ≡ refused w) → Refusing a x y
-    so-far-stop r e = record {
-      why = r.why;
-      refused-is = p.whole ∙ e r.why r.refused-is;
-      number = r.number;
-      line = r.line;
-    }
+    pub so-far-stop : {B : Type 0} {b : Answer B} {w : code.Refusal} → RefusedWith b w
+        → ((v : Refusal) → b ≡ refused v → after (p.cells, p.entries, m) (rest m) ≡ refused v) → RefusedWith a w
+    so-far-stop r e = refused-on r (λ v f. p.whole ∙ e v f)
 
     -- no more
-    pub so-far-all : rest m ≡ ok ([], [], m) → Lists num a n area₀ area k nodes₀ nodes (Done m j)
+    pub so-far-all : rest m ≡ ok ([], [], m) → Lists num a n area₀ area k nodes₀ nodes (Ok (record { cell = m; used = j }))
     so-far-all e = lists-done num p.kept (record {
       cells = p.cells;
       entry = p.entries;

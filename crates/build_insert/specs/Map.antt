@@ -2,13 +2,14 @@
 use Prim.Native.Nat.{ℕ, zero, suc, ◌+◌, ◌-◌, ◌≤◌, ◌<◌}
 use native.Mathlib.Omega.{arith}
 use Rattle.std.proofs.Common.{add-one, sym, ◌∙◌, length-set, get_or-set_same, get_or-set_other}
-use Rattle.std.specs.Prelude.{◌≡◌, Bool, true, false, set, get_or}
+use Rattle.std.specs.Prelude as std
+use Rattle.std.specs.Prelude.{◌≡◌, Bool, true, false, set, get_or, Result, Ok, Err, Some, None}
 use Rattle.std.proofs.Math.Path.{refl, ap}
 use mathlib.Core.List.{List, [], ◌∷◌, ◌++◌}
 use Rattle.std.proofs.Math.Option.{Option, none, some}
 use Rattle.std.proofs.Math.ListN.{length, drop, drop_of_length-le}
 use borrow.Author.Tests.{eq-eqb, ne_eqb}
-use Rattle.rules.specs.Refusals.{Reason, Answer, ok, refusal_number, refuse, unknown_insert_column, repeated_insert_column}
+use Rattle.rules.specs.Refusals.{Reason, Answer, ok, refuse, unknown_insert_column, repeated_insert_column}
 use Rattle.rules.specs.Lists.{Bytes, any}
 use Rattle.rules.specs.Places.{bytes_at, word_at}
 use Rattle.rules.specs.Schema.{Column, column_at}
@@ -27,11 +28,10 @@ use Rattle.sections.specs.Access.{columns_kind, name_kind, numbers_at, after-dro
 use Rattle.sections.specs.declared.entry.Entry.{Entry}
 use Rattle.statement.specs.Layout.{map_entries, to_named, to_names}
 use Rattle.statement.specs.EntryAccess.{name_start, word_of, map-length, named-at, names-none, names-some}
-use Rattle.build_statement.specs.Pushes.{Refusing, refusing}
-use Rattle.build_insert.specs.declared.map.ColumnMap.{ColumnMap}
-use Rattle.build_insert.specs.declared.map.ColumnMap.TheVariants.{Missing, Of}
-use Rattle.build_insert.specs.declared.map.Mapped.{Mapped}
-use Rattle.build_insert.specs.declared.map.Mapped.TheVariants.{Done, Refused}
+use Rattle.numbers.specs.Reasons.{named}
+use Rattle.numbers.specs.declared.refusals.Reason.TheVariants as Re
+use Rattle.numbers.specs.declared.refusals.Refusal.{Refusal}
+use Rattle.plan.specs.Steps.{RefusedWith, refused-at}
 
 -- n mappings from the i-th value on, by their columns' positions
 unfoldable pub mappings : List ℕ → ℕ → ℕ → List Mapping
@@ -76,16 +76,16 @@ abbrev pub columns_of : Bytes → Bytes → List ℕ → ℕ → List Column
 columns_of c q tables i = (table_at c q tables i).columns
 
 -- no map, or that of the first n values
-unfoldable pub map_of : List ℕ → ColumnMap → Option (List Mapping)
-map_of ps Missing = none
-map_of ps (Of n) = some (mappings ps 0 n)
+unfoldable pub map_of : List ℕ → std.Option ℕ → Option (List Mapping)
+map_of ps None = none
+map_of ps (Some n) = some (mappings ps 0 n)
 
--- the map, or a refusal by its number and line
-unfoldable pub MapsAs : Answer (Option (List Mapping)) → List ℕ → Mapped → Type 0
-MapsAs a ps (Done m) = a ≡ ok (map_of ps m)
-MapsAs a ps (Refused m l) = Refusing a m l
+-- the map, or a refusal
+unfoldable pub MapsAs : Answer (Option (List Mapping)) → List ℕ → Result (std.Option ℕ) Refusal → Type 0
+MapsAs a ps (Ok m) = a ≡ ok (map_of ps m)
+MapsAs a ps (Err w) = RefusedWith a w
 
-pub record Maps (a : Answer (Option (List Mapping))) (ps ps' : List ℕ) (r : Mapped) : Type 0 where
+pub record Maps (a : Answer (Option (List Mapping))) (ps ps' : List ℕ) (r : Result (std.Option ℕ) Refusal) : Type 0 where
   pub kept : length ps' ≡ length ps
   pub is : MapsAs a ps' r
 
@@ -133,7 +133,7 @@ module _ (c q : Bytes) (cells parts : List ℕ) (cs : List Column) where
 
   module _ {ps₀ ps : List ℕ} {v : ℕ} (p : MapSoFar ps₀ ps v) where
     pub map-all : (n : ℕ) → n ≡ length (section_at c q cells parts name_kind) → n ≤ v → v ≤ length (section_at c q cells parts name_kind)
-        → Maps whole ps₀ ps (Done (Of n))
+        → Maps whole ps₀ ps (Ok (Some n))
     unfolding MapsAs map_of
     map-all n e h l =
         let z : drop v names ≡ [] = drop_of_length-le names {i = v}
@@ -151,16 +151,16 @@ module _ (c q : Bytes) (cells parts : List ℕ) (cs : List Column) where
       here = p.left ∙ ap (λ ns. map_from cs ns v (mappings ps 0 v))
           (after-drop v names (named_of e) (named-at c q cells parts name_kind v e x l))
 
-      pub name-unknown : (m : ℕ) → r ≡ F.Nothing → m ≡ refusal_number unknown_insert_column
-          → Maps whole ps₀ ps (Refused m e.line)
-      unfolding MapsAs table_position found_of word_at
-      name-unknown m g n =
+      pub name-unknown : r ≡ F.Nothing
+          → Maps whole ps₀ ps (Err (record { reason = Re.UnknownInsertColumn; line = e.line }))
+      unfolding MapsAs table_position found_of word_at named
+      name-unknown g =
           let z : table_position cs (word_of c q e) ≡ none = rw (table_position, ← s, ← f, g) in
           record {
             kept = p.same;
-            is = refusing unknown_insert_column e.line m e.line
+            is = refused-at unknown_insert_column e.line Re.UnknownInsertColumn e.line
                 (whole-refused unknown_insert_column e.line
-                (here ∙ map-unknown cs (named_of e) (drop (suc v) names) v (mappings ps 0 v) z)) n refl;
+                (here ∙ map-unknown cs (named_of e) (drop (suc v) names) v (mappings ps 0 v) z)) refl refl;
           }
 
       module _ (j : ℕ) (g : r ≡ F.At j) where
@@ -168,16 +168,16 @@ module _ (c q : Bytes) (cells parts : List ℕ) (cs : List Column) where
         unfolding table_position found_of word_at
         position = rw (table_position, ← s, ← f, g)
 
-        pub name-repeated : (m : ℕ) (b : Bool) → b ≡ mapped (cindex j) (mappings ps 0 v) → b ≡ true
-            → m ≡ refusal_number repeated_insert_column → Maps whole ps₀ ps (Refused m e.line)
-        unfolding MapsAs
-        name-repeated m b y t n =
+        pub name-repeated : (b : Bool) → b ≡ mapped (cindex j) (mappings ps 0 v) → b ≡ true
+            → Maps whole ps₀ ps (Err (record { reason = Re.RepeatedInsertColumn; line = e.line }))
+        unfolding MapsAs named
+        name-repeated b y t =
             record {
               kept = p.same;
-              is = refusing repeated_insert_column e.line m e.line
+              is = refused-at repeated_insert_column e.line Re.RepeatedInsertColumn e.line
                   (whole-refused repeated_insert_column e.line
                   (here ∙ map-repeated cs (named_of e) (drop (suc v) names) v (mappings ps 0 v) (cindex j) position
-                  (sym y ∙ t))) n refl;
+                  (sym y ∙ t))) refl refl;
             }
 
         pub name-mapped : (b : Bool) → b ≡ mapped (cindex j) (mappings ps 0 v) → b ≡ false → v < length ps
@@ -199,7 +199,7 @@ module _ (c q : Bytes) (cells parts : List ℕ) (cs : List Column) where
 -- THE STATEMENT'S MAP
 module _ (c q : Bytes) (cells parts : List ℕ) (cs : List Column) (n : ℕ)
     (e : n ≡ length (section_at c q cells parts columns_kind)) where
-  pub map-missing : n ≡ 0 → (ps : List ℕ) → Maps (column_map cs (given_names c q cells parts)) ps ps (Done Missing)
+  pub map-missing : n ≡ 0 → (ps : List ℕ) → Maps (column_map cs (given_names c q cells parts)) ps ps (Ok None)
   unfolding MapsAs map_of column_map
   map-missing z ps =
       let y = names-none (section_at c q cells parts columns_kind) (section_at c q cells parts name_kind) (sym e ∙ z) in
@@ -216,6 +216,6 @@ module _ (c q : Bytes) (cells parts : List ℕ) (cs : List Column) (n : ℕ)
         let l : length (names_at c q cells parts) ≤ length ps = rw given at h in
         omega (arith, l, map-length to_named (section_at c q cells parts name_kind))
 
-    pub map-given : {ps ps' : List ℕ} {r : Mapped} → Maps (column_map cs (some (names_at c q cells parts))) ps ps' r
+    pub map-given : {ps ps' : List ℕ} {r : Result (std.Option ℕ) Refusal} → Maps (column_map cs (some (names_at c q cells parts))) ps ps' r
         → Maps (column_map cs (given_names c q cells parts)) ps ps' r
     map-given h = rw given h

@@ -16,8 +16,8 @@ use Rattle.plan.specs.Appended.{Appended, appended-none}
 use Rattle.plan.specs.Own.{inserting, mappings-on, mapping-one, insert-mappings, insert-plain, insert-mapped}
 use Rattle.plan.specs.Room.{mappings-size}
 use Rattle.build_insert.specs.Map.{mappings, mappings-last, map_of}
-use Rattle.build_insert.specs.declared.map.ColumnMap.{ColumnMap}
-use Rattle.build_insert.specs.declared.map.ColumnMap.TheVariants.{Missing, Of}
+use Rattle.std.specs.Prelude as std
+use Rattle.std.specs.Prelude.{Some, None}
 
 -- the numbers of a map's mappings
 abbrev pub map_numbers_of : List Mapping → List ℕ
@@ -34,7 +34,7 @@ own-count none = refl
 own-count (some ms) = omega arith
 
 -- there is room for them behind k numbers
-pub record MapFits (ps : List ℕ) (m : ColumnMap) (k : ℕ) (nodes : List ℕ) : Type 0 where
+pub record MapFits (ps : List ℕ) (m : std.Option ℕ) (k : ℕ) (nodes : List ℕ) : Type 0 where
   pub numbers : k + own_count (map_of ps m) ≤ length nodes
   pub all : length nodes ≡ nodes_size
 
@@ -100,18 +100,18 @@ head-size : (t : Table) (x : ℕ) → length (inserting t x []) ≡ own_size
 unfolding inserting span concat
 head-size t x = refl
 
-module _ {ps : List ℕ} {m : ColumnMap} {k : ℕ} {nodes : List ℕ} (f : MapFits ps m k nodes) (a n : ℕ) where
-  pub own-missing-room : m ≡ Missing → k + own_size ≤ length nodes
+module _ {ps : List ℕ} {m : std.Option ℕ} {k : ℕ} {nodes : List ℕ} (f : MapFits ps m k nodes) (a n : ℕ) where
+  pub own-missing-room : m ≡ None → k + own_size ≤ length nodes
   unfolding map_of own_count
   own-missing-room e = let z : k + own_count (map_of ps m) ≤ length nodes = f.numbers in rw e at z
 
-  pub own-missing : {j : ℕ} {nodes' : List ℕ} → m ≡ Missing → Inserting a n 0 k nodes j nodes'
+  pub own-missing : {j : ℕ} {nodes' : List ℕ} → m ≡ None → Inserting a n 0 k nodes j nodes'
       → (t : Table) (p : Node ℕ) → span t.name ≡ a ∷ n ∷ []
       → Appended (own_numbers (P.insert t (map_of ps m) p)) k nodes j nodes'
   unfolding map_of
   own-missing e h t p s = rw e (insert-plain t p (h t s))
 
-  module _ (c : ℕ) (e : m ≡ Of c) where
+  module _ (c : ℕ) (e : m ≡ Some c) where
     own-mapped-all : k + (own_size + mapping_size * c) ≤ length nodes
     unfolding map_of own_count
     own-mapped-all =

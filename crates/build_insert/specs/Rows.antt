@@ -1,7 +1,7 @@
 -- The rows of INSERT, one behind the other, and their values node.
 use Prim.Native.Nat.{ℕ, suc, ◌+◌, ◌-◌, ◌*◌, ◌≤◌, ◌<◌}
 use Rattle.std.proofs.Common.{arith, add-one, sym, ◌∙◌, drop_of_length-le}
-use Rattle.std.specs.Prelude.{◌≡◌, refl, drop, set}
+use Rattle.std.specs.Prelude.{◌≡◌, refl, drop, set, Ok, Err}
 use Rattle.std.proofs.Math.Path.{ap}
 use mathlib.Core.List.{List, [], ◌∷◌, append-nil}
 use Rattle.std.proofs.Math.ListN.{length}
@@ -40,11 +40,11 @@ use Rattle.plan.specs.Appended.{Appended}
 use Rattle.plan.specs.Records.{opened, ended, opened-room, records-first}
 use Rattle.plan.specs.Parts.{rows_on, values-rows}
 use Rattle.plan.specs.Room.{values-in-use, rows-size}
-use Rattle.build_insert.specs.Lists.{one_row, values_node, Stands, Lists, lists-done, lists-refused}
+use Rattle.build_insert.specs.Lists.{one_row, values_node, Stands, Listed, Lists, lists-done, lists-refused}
 use Rattle.build_insert.specs.Lists.{was-done, was-refused, SoFar, so-far-none, so_far_more, so-far-stop, so-far-all}
 use Rattle.build_insert.specs.Values.{values_at, all-length}
-use Rattle.build_insert.specs.declared.rows.Listed.{Listed}
-use Rattle.build_insert.specs.declared.rows.Listed.TheVariants.{Done, Refused}
+use Rattle.plan.specs.declared.steps.Part.{Part}
+use Rattle.numbers.specs.declared.refusals.Refusal.{Refusal}
 
 -- the statement's rows
 abbrev pub rows_at : Bytes → Bytes → List ℕ → List ℕ → List (List Expr)
@@ -82,7 +82,8 @@ module _ {c q : Bytes} {cells parts area₀ : List ℕ} {k : ℕ} {nodes₀ : Li
   rows_all = s.so_far.numbers.all
 
   pub rows-done : (n : ℕ) → n ≡ length (section_at c q cells parts row_kind) → n ≤ i
-      → Lists row_numbers (emit_rows empty 0 (rows_at c q cells parts)) 0 area₀ area k nodes₀ nodes (Done m j)
+      → Lists row_numbers (emit_rows empty 0 (rows_at c q cells parts)) 0 area₀ area k nodes₀ nodes
+      (Ok (record { cell = m; used = j }))
   rows-done n e l =
       let z : drop i (rows_at c q cells parts) ≡ [] = drop_of_length-le (rows_at c q cells parts) {i = i}
       (omega (arith, map-length to_row (section_at c q cells parts row_kind), e, l)) in
@@ -117,24 +118,24 @@ module _ {c q : Bytes} {cells parts area₀ : List ℕ} {k : ℕ} {nodes₀ : Li
 
     module _ {area' nodes' : List ℕ} {x : Listed}
         (h : Lists one_row (emit_all empty m row) m area area' j nodes nodes' x) where
-      pub rows-stop : (y z : ℕ) → x ≡ Refused y z
-          → Lists row_numbers (emit_rows empty 0 (rows_at c q cells parts)) 0 area₀ area' k nodes₀ nodes' x
-      rows-stop y z f = rw f (lists-refused row_numbers (h.kept ∙ rows-kept) (h.all ∙ rows_all)
-          (so-far-stop row_numbers following s.so_far (was-refused one_row h y z f) (λ w o.
+      pub rows-stop : (b : Refusal) → x ≡ Err b
+          → Lists row_numbers (emit_rows empty 0 (rows_at c q cells parts)) 0 area₀ area' k nodes₀ nodes' (Err b)
+      rows-stop b f = (lists-refused row_numbers (h.kept ∙ rows-kept) (h.all ∙ rows_all)
+          (so-far-stop row_numbers following s.so_far (was-refused one_row h b f) (λ w o.
           ap (λ rs. after (s.so_far.cells, s.so_far.entries, m) (emit_rows empty m rs)) row_here_lem
           ∙ ap (after (s.so_far.cells, s.so_far.entries, m))
           (rows-refused empty m row (drop (suc i) (rows_at c q cells parts)) w o)
           ∙ after-refused (s.so_far.cells, s.so_far.entries, m) w)))
 
-      pub rows_more : (m' j' : ℕ) → x ≡ Done m' j'
-          → RowsSoFar c q cells parts area₀ k nodes₀ (i + 1) m' j' area' nodes'
+      pub rows_more : (b : Part) → x ≡ Ok b
+          → RowsSoFar c q cells parts area₀ k nodes₀ (i + 1) b.cell b.used area' nodes'
       unfolding joined
-      rows_more m' j' f =
-          let d = was-done one_row h m' j' f in
-          let o = row_next empty m row d.cells d.entry m' d.is in
+      rows_more b f =
+          let d = was-done one_row h b f in
+          let o = row_next empty m row d.cells d.entry b.cell d.is in
           let t = exprs-three empty row in
           let y : length d.entry ≡ e.expressions =
-          all-length empty m row d.cells d.entry m' d.is
+          all-length empty m row d.cells d.entry b.cell d.is
           ∙ list_length (tree_at c q cells) cells e.expressions e.row in
           let u : length (one_row d.entry) ≡ suc (length d.entry) = one-row d.entry in
           rw (add-one i) (record {
@@ -148,8 +149,8 @@ module _ {c q : Bytes} {cells parts area₀ : List ℕ} {k : ℕ} {nodes₀ : Li
                 (λ x. emit_rows empty x (drop (suc i) (rows_at c q cells parts))) h.kept d
                 (ap (λ rs. after (s.so_far.cells, s.so_far.entries, m) (emit_rows empty m rs)) row_here_lem
                 ∙ ap (after (s.so_far.cells, s.so_far.entries, m))
-                (rows_step empty m row (drop (suc i) (rows_at c q cells parts)) d.cells d.entry m' d.is)
-                ∙ after-after (s.so_far.cells, s.so_far.entries, m) (d.cells, d.entry ∷ [], m') _)
+                (rows_step empty m row (drop (suc i) (rows_at c q cells parts)) d.cells d.entry b.cell d.is)
+                ∙ after-after (s.so_far.cells, s.so_far.entries, m) (d.cells, d.entry ∷ [], b.cell) _)
                 (rows_on s.so_far.entries (d.entry ∷ []) s.so_far.numbers d.numbers);
           })
         where
@@ -216,23 +217,23 @@ module _ {rs : List (List Expr)} {nodes nodes₁ : List ℕ} {k : ℕ} (f : Rows
 
   module _ {a : Answer (Entries (List ℕ))} {area area' nodes₂ : List ℕ} {x : Listed}
       (h : Lists row_numbers a 0 area area' k nodes₁ nodes₂ x) where
-    pub node-refused : (y z : ℕ) → x ≡ Refused y z → Lists values_node a 0 area area' 0 nodes nodes₂ x
-    node-refused y z e = rw e (lists-refused values_node h.kept (h.all ∙ b.all) (was-refused row_numbers h y z e))
+    pub node-refused : (v : Refusal) → x ≡ Err v → Lists values_node a 0 area area' 0 nodes nodes₂ (Err v)
+    node-refused v e = lists-refused values_node h.kept (h.all ∙ b.all) (was-refused row_numbers h v e)
 
-    module _ (m i : ℕ) (e : x ≡ Done m i) where
-      open-rows : (d : Stands row_numbers a 0 area area' k nodes₁ nodes₂ m i)
-          → Appended (opened (values d.entry)) 0 nodes i nodes₂
+    module _ (p : Part) (e : x ≡ Ok p) where
+      open-rows : (d : Stands row_numbers a 0 area area' k nodes₁ nodes₂ p.cell p.used)
+          → Appended (opened (values d.entry)) 0 nodes p.used nodes₂
       open-rows d = values-rows [] d.entry b d.numbers
 
-      pub node_end : (record_head ≤ i) × (i ≤ length nodes₂) × (i ≤ nodes_size)
+      pub node_end : (record_head ≤ p.used) × (p.used ≤ length nodes₂) × (p.used ≤ nodes_size)
       node_end =
-          let o = opened-room (values (was-done row_numbers h m i e).entry) (open-rows (was-done row_numbers h m i e)) in
+          let o = opened-room (values (was-done row_numbers h p e).entry) (open-rows (was-done row_numbers h p e)) in
           (omega (arith, o.0), o.1, omega (arith, o.1, h.all, b.all, f.all))
 
-      pub node_lists : {nodes₃ : List ℕ} → nodes₃ ≡ set nodes₂ length_place (i - record_head)
-          → Lists values_node a 0 area area' 0 nodes nodes₃ (Done m i)
+      pub node_lists : {nodes₃ : List ℕ} → nodes₃ ≡ set nodes₂ length_place (p.used - record_head)
+          → Lists values_node a 0 area area' 0 nodes nodes₃ (Ok p)
       node_lists g =
-          let d = was-done row_numbers h m i e in
+          let d = was-done row_numbers h p e in
           lists-done values_node h.kept (record {
             cells = d.cells;
             entry = d.entry;

@@ -1,5 +1,5 @@
 -- The values of a row: one value over the scope of no columns, several one behind the other, and a row of them.
-use Rattle.std.specs.Prelude.{ℕ, pred, ◌+◌, ◌-◌, ◌*◌, ◌≤◌, ◌<◌, ◌≡◌, refl, length}
+use Rattle.std.specs.Prelude.{ℕ, pred, ◌+◌, ◌-◌, ◌*◌, ◌≤◌, ◌<◌, ◌≡◌, refl, length, Ok, Err}
 use Rattle.std.proofs.Common.{arith, sub-one, sym, ◌∙◌}
 use Rattle.std.proofs.Math.Path.{ap}
 use mathlib.Core.List.{List, [], ◌∷◌}
@@ -27,18 +27,16 @@ use Rattle.scope.specs.Labels.{columns_of, tables_of}
 use Rattle.scope.specs.Scopes.{matches_of, up_to, scope_from}
 use Rattle.sections.specs.Expressions.{list-none, list-more, list_length}
 use Rattle.plan.specs.Cells.{Room}
-use Rattle.plan.specs.Emits.{Emits, accepted}
+use Rattle.plan.specs.Emits.{Written, Emits, accepted}
 use Rattle.plan.specs.Appended.{Appended, appended-on, appended-as}
 use Rattle.plan.specs.Parts.{row-whole}
-use Rattle.plan.specs.declared.cells.Written.{Written}
-use Rattle.plan.specs.declared.cells.Written.TheVariants as W
+use Rattle.plan.specs.declared.steps.Part.{Part}
+use Rattle.plan.specs.Steps.{refused-on, emits-refused}
+use Rattle.numbers.specs.declared.refusals.Refusal.{Refusal}
 use Rattle.build_expression.specs.Rows.{emit-within}
 use Rattle.build_expression.specs.Builds.{Builds}
-use Rattle.build_statement.specs.Clauses.{stopped}
-use Rattle.build_insert.specs.Lists.{one_root, all_roots, one_row, Lists, lists-done, lists-refused}
+use Rattle.build_insert.specs.Lists.{one_root, all_roots, one_row, Listed, Lists, lists-done, lists-refused}
 use Rattle.build_insert.specs.Lists.{was-done, was-refused, SoFar, so-far-none, so_far_more, so-far-stop, so-far-all}
-use Rattle.build_insert.specs.declared.rows.Listed.{Listed}
-use Rattle.build_insert.specs.declared.rows.Listed.TheVariants.{Done, Refused}
 
 -- n values, the first at row r
 abbrev pub values_at : Bytes → Bytes → List ℕ → ℕ → ℕ → List Expr
@@ -51,31 +49,20 @@ module _ {c q : Bytes} {t : List ℕ} {r n : ℕ} {area area' : List ℕ} {w : W
   unfolding scope_from matches_of columns_of tables_of up_to empty
   emits = b.is 0
 
-  pub value-refused : {k : ℕ} {nodes : List ℕ} (x l : ℕ) → w ≡ W.Refused x l
-      → Lists one_root (emit_one empty n (tree_at c q t r)) n area area' k nodes nodes (Refused x l)
-  value-refused x l e =
-      let s = stopped x l emits e in
-      lists-refused one_root emits.kept refl (record {
-        why = s.refusal;
-        refused-is = one-refused empty n (tree_at c q t r) s.refusal s.is;
-        number = first (sym e ∙ s.answer);
-        line = second (sym e ∙ s.answer);
-      })
-    where
-      first : {i j x y : ℕ} → W.Refused i j ≡ W.Refused x y → i ≡ x
-      first g = cc
+  pub value-refused : {k : ℕ} {nodes : List ℕ} (v : Refusal) → w ≡ Err v
+      → Lists one_root (emit_one empty n (tree_at c q t r)) n area area' k nodes nodes (Err v)
+  value-refused v e = lists-refused one_root emits.kept refl
+      (refused-on (emits-refused v emits e) (one-refused empty n (tree_at c q t r)))
 
-      second : {i j x y : ℕ} → W.Refused i j ≡ W.Refused x y → j ≡ y
-      second g = cc
-
-  pub value-some : (m : ℕ) → w ≡ W.Done m → n < m
+  pub value-some : (m : ℕ) → w ≡ Ok m → n < m
   value-some m e =
       let o = accepted m emits e in
       (emit-within empty n (tree_at c q t r) o.cells m o.is).some'
 
-  pub value-done : {k j : ℕ} {nodes nodes' : List ℕ} (m : ℕ) → w ≡ W.Done m
+  pub value-done : {k j : ℕ} {nodes nodes' : List ℕ} (m : ℕ) → w ≡ Ok m
       → Appended ((m - 1) ∷ []) k nodes j nodes'
-      → Lists one_root (emit_one empty n (tree_at c q t r)) n area area' k nodes nodes' (Done m j)
+      → Lists one_root (emit_one empty n (tree_at c q t r)) n area area' k nodes nodes'
+      (Ok (record { cell = m; used = j }))
   value-done m e a =
       let o = accepted m emits e in
       lists-done one_root emits.kept (record {
@@ -127,7 +114,8 @@ module _ {c q : Bytes} {cells : List ℕ} {v r n : ℕ} {area₀ : List ℕ} {k 
   values-all = s.so_far.numbers.all
 
   pub values-done : left ≤ 0
-      → Lists all_roots (emit_all empty n (values_at c q cells v r)) n area₀ area k nodes₀ nodes (Done m j)
+      → Lists all_roots (emit_all empty n (values_at c q cells v r)) n area₀ area k nodes₀ nodes
+      (Ok (record { cell = m; used = j }))
   unfolding emit_all
   values-done l =
       let z : values_at c q cells left p ≡ [] = list-none (tree_at c q cells) cells left p l in
@@ -153,20 +141,20 @@ module _ {c q : Bytes} {cells : List ℕ} {v r n : ℕ} {area₀ : List ℕ} {k 
 
     module _ {area' nodes' : List ℕ} {x : Listed}
         (h : Lists one_root (emit_one empty m (tree_at c q cells p)) m area area' j nodes nodes' x) where
-      pub values-stop : (y z : ℕ) → x ≡ Refused y z
-          → Lists all_roots (emit_all empty n (values_at c q cells v r)) n area₀ area' k nodes₀ nodes' x
+      pub values-stop : (b : Refusal) → x ≡ Err b
+          → Lists all_roots (emit_all empty n (values_at c q cells v r)) n area₀ area' k nodes₀ nodes' (Err b)
       unfolding emit_all emit_one
-      values-stop y z e = rw e (lists-refused all_roots (h.kept ∙ values-kept) (h.all ∙ values-all)
-          (so-far-stop all_roots rest s.so_far (was-refused one_root h y z e) (λ w f.
+      values-stop b e = (lists-refused all_roots (h.kept ∙ values-kept) (h.all ∙ values-all)
+          (so-far-stop all_roots rest s.so_far (was-refused one_root h b e) (λ w f.
           ap (λ es. after (s.so_far.cells, s.so_far.entries, m) (emit_all empty m es)) here
           ∙ each-stop (λ b. b) (λ b r. r) (build empty) (s.so_far.cells, s.so_far.entries, m) (tree_at c q cells p) _ w f)))
 
-      pub values-more : (m' j' p' : ℕ) → x ≡ Done m' j' → p' ≡ p + table.rows_at cells p
-          → ValuesSoFar c q cells v r n area₀ k nodes₀ (left - 1) p' m' j' area' nodes'
+      pub values-more : (b : Part) (p' : ℕ) → x ≡ Ok b → p' ≡ p + table.rows_at cells p
+          → ValuesSoFar c q cells v r n area₀ k nodes₀ (left - 1) p' b.cell b.used area' nodes'
       unfolding emit_all emit_one
-      values-more m' j' p' e f =
-          let d = was-done one_root h m' j' e in
-          let o = one-within empty m (tree_at c q cells p) d.cells d.entry m' d.is in
+      values-more b p' e f =
+          let d = was-done one_root h b e in
+          let o = one-within empty m (tree_at c q cells p) d.cells d.entry b.cell d.is in
           rw f (record {
             room = record {
               counted = omega (arith, size-here, o, s.room.counted);
@@ -177,7 +165,7 @@ module _ {c q : Bytes} {cells : List ℕ} {v r n : ℕ} {area₀ : List ℕ} {k 
                 (λ i. emit_all empty i (values_at c q cells (left - 1) (p + table.rows_at cells p))) h.kept d
                 (ap (λ es. after (s.so_far.cells, s.so_far.entries, m) (emit_all empty m es)) here
                 ∙ each_step (λ b. b) (λ b r. r) (build empty) (s.so_far.cells, s.so_far.entries, m)
-                (tree_at c q cells p) _ d.cells d.entry m' d.is)
+                (tree_at c q cells p) _ d.cells d.entry b.cell d.is)
                 (appended-on s.so_far.numbers d.numbers);
           })
 
@@ -201,9 +189,9 @@ row-lists c q cells v r {n} {area} {area'} {k} {j} {nodes} {nodes₁} {nodes'} {
   where
     go : (x : Listed) → Lists all_roots (emit_all empty n (values_at c q cells v r)) n area area' j nodes₁ nodes' x
         → Lists one_row (emit_all empty n (values_at c q cells v r)) n area area' k nodes nodes' x
-    go (Done m i) h =
-        let d = was-done all_roots h m i refl in
-        let e : v ≡ length d.entry = sym (all-length empty n (values_at c q cells v r) d.cells d.entry m d.is
+    go (Ok b) h =
+        let d = was-done all_roots h b refl in
+        let e : v ≡ length d.entry = sym (all-length empty n (values_at c q cells v r) d.cells d.entry b.cell d.is
         ∙ list_length (tree_at c q cells) cells v r) in
         lists-done one_row h.kept (record {
           cells = d.cells;
@@ -212,7 +200,7 @@ row-lists c q cells v r {n} {area} {area'} {k} {j} {nodes} {nodes₁} {nodes'} {
           stand = d.stand;
           numbers = row-whole d.entry (appended-as (ap (λ y. y ∷ []) e) a) d.numbers;
         })
-    go (Refused y z) h = lists-refused one_row h.kept (h.all ∙ a.all) (was-refused all_roots h y z refl)
+    go (Err b) h = lists-refused one_row h.kept (h.all ∙ a.all) (was-refused all_roots h b refl)
 
 pub row_room : {v k j : ℕ} {nodes nodes₁ : List ℕ} → Appended (v ∷ []) k nodes j nodes₁ → k + 1 + v ≤ length nodes
     → j + v ≤ length nodes₁

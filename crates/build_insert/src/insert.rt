@@ -11,11 +11,10 @@ ghost use Rattle.build_insert.specs.Rows.{rows_at};
 ghost use Rattle.build_insert.specs.Own.{MapFits};
 ghost use Rattle.build_insert.specs.Inserts.{InsertEnds, InsertFits, RowsPlanned};
 
-use crate::map::{ColumnMap, Mapped, column_map};
+use crate::map::column_map;
 use crate::own::put_own;
-use crate::rows::{Listed, build_node};
-use numbers::refusals::UNKNOWN_TABLE;
-use plan::cells::Written;
+use crate::rows::build_node;
+use numbers::refusals::{Reason, Refusal};
 use plan::finish::{INSERT, finish};
 use schema::{Found, get_table};
 use statement::access;
@@ -31,7 +30,7 @@ fn end_insert(
     a: u32,
     n: u32,
     columns: &[u32],
-    map: ColumnMap,
+    map: Option<u32>,
     area: &mut [u32],
     nodes: &mut [u32],
     m: u32,
@@ -57,27 +56,24 @@ fn build_mapped<'t>(
     a: u32,
     n: u32,
     columns: &[u32],
-    map: ColumnMap,
+    map: Option<u32>,
     area: &mut [u32],
     nodes: &mut [u32],
-) -> Written
+) -> Result<u32, Refusal>
     requires free { Free area.old nodes.old }
     requires insert_fits { InsertFits (rows_at catalog.now statement.now cells.now parts.now) (map_of columns.now map) }
     ensures { RowsPlanned catalog.now statement.now a n (map_of columns.now map)
         (rows_at catalog.now statement.now cells.now parts.now)
         area.old area.new result }
 {
-    let node = build_node(catalog, statement, cells, parts, area, nodes);
-    match node {
-        Listed::Refused(number, line) => Written::Refused(number, line),
-        Listed::Done(m, k) => {
-            end_insert(catalog, statement, a, n, columns, map, area, nodes, m, k);
-            Written::Done(m)
-        }
-    }
+    let node = build_node(catalog, statement, cells, parts, area, nodes)?;
+    end_insert(
+        catalog, statement, a, n, columns, map, area, nodes, node.cell, node.used,
+    );
+    Ok(node.cell)
 }
 
-// 5 at the statement's line where there is no such table.
+// Refused at the statement's line where there is no such table.
 pub fn build_insert<'t>(
     catalog: &'t [u8],
     statement: &'t [u8],
@@ -86,7 +82,7 @@ pub fn build_insert<'t>(
     parts: &[u32],
     area: &mut [u32],
     nodes: &mut [u32],
-) -> Written
+) -> Result<u32, Refusal>
     requires { ReadyFor catalog.now statement.now tables.now
         (ast.insert (insert_at catalog.now statement.now cells.now parts.now)) area.old nodes.old }
     ensures { Plans
@@ -98,14 +94,14 @@ pub fn build_insert<'t>(
     let n = access::name_length(parts);
     let found = get_table(catalog, statement, tables, a, n);
     let Found::At(i) = found else {
-        return Written::Refused(UNKNOWN_TABLE, access::line(parts));
+        return Err(Refusal {
+            reason: Reason::UnknownTable,
+            line: access::line(parts),
+        });
     };
     let mut columns = [0u32; MOST_NAMES];
-    let mapped = column_map(catalog, statement, tables, i, cells, parts, &mut columns);
-    match mapped {
-        Mapped::Refused(number, line) => Written::Refused(number, line),
-        Mapped::Done(map) => build_mapped(
-            catalog, statement, cells, parts, a, n, &columns, map, area, nodes,
-        ),
-    }
+    let map = column_map(catalog, statement, tables, i, cells, parts, &mut columns)?;
+    build_mapped(
+        catalog, statement, cells, parts, a, n, &columns, map, area, nodes,
+    )
 }

@@ -9,7 +9,7 @@ ghost use Rattle.sections.specs.Access.{name_kind};
 ghost use Rattle.build_insert.specs.Map as map;
 
 use numbers::number;
-use numbers::refusals::{REPEATED_INSERT_COLUMN, UNKNOWN_INSERT_COLUMN};
+use numbers::refusals::{Reason, Refusal};
 use schema::{Found, column_at};
 use sections::entry;
 use statement::access::name_start;
@@ -21,20 +21,6 @@ pub struct TablePosition(pub u32);
 // A value's position in its row (the Rust's vindex).
 #[derive(Clone, Copy)]
 pub struct ValuePosition(pub u32);
-
-// No map, or that of so many values.
-#[derive(Clone, Copy)]
-pub enum ColumnMap {
-    Missing,
-    Of(u32),
-}
-
-// The map; or document 01's number of a refusal, and its line.
-#[derive(Clone, Copy)]
-pub enum Mapped {
-    Done(ColumnMap),
-    Refused(u32, u32),
-}
 
 // The column that a value is for.
 pub fn column_of(columns: &[u32], value: ValuePosition) -> TablePosition
@@ -67,7 +53,7 @@ fn is_mapped(columns: &[u32], n: u32, column: TablePosition) -> bool
     false
 }
 
-// The column of each name in the i-th table, in order: 22 at the name of no column, 23 at one that was given before.
+// The column of each name in the i-th table, in order. Refused at the name of no column, and at one that was given before.
 fn map_names(
     catalog: &[u8],
     statement: &[u8],
@@ -76,7 +62,7 @@ fn map_names(
     cells: &[u32],
     parts: &[u32],
     columns: &mut [u32],
-) -> Mapped
+) -> Result<Option<u32>, Refusal>
     requires { length (section_at catalog.now statement.now cells.now parts.now name_kind) ≤ length columns.old }
     ensures { map.Maps
         (column_map (table_at catalog.now statement.now tables.now i).columns
@@ -90,19 +76,25 @@ fn map_names(
         let a = name_start(e);
         let found = column_at(catalog, statement, tables, i, a, e.length);
         let Found::At(j) = found else {
-            return Mapped::Refused(UNKNOWN_INSERT_COLUMN, e.line);
+            return Err(Refusal {
+                reason: Reason::UnknownInsertColumn,
+                line: e.line,
+            });
         };
         let column = TablePosition(j);
         if is_mapped(columns, v, column) {
-            return Mapped::Refused(REPEATED_INSERT_COLUMN, e.line);
+            return Err(Refusal {
+                reason: Reason::RepeatedInsertColumn,
+                line: e.line,
+            });
         }
         map_value(columns, ValuePosition(v), column);
         v += 1;
     }
-    Mapped::Done(ColumnMap::Of(count))
+    Ok(Some(count))
 }
 
-// The statement's map into the i-th table. A `columns` of no names is not no `columns`.
+// The statement's map into the i-th table: of how many values, or none. A `columns` of no names is not no `columns`.
 pub fn column_map(
     catalog: &[u8],
     statement: &[u8],
@@ -111,7 +103,7 @@ pub fn column_map(
     cells: &[u32],
     parts: &[u32],
     columns: &mut [u32],
-) -> Mapped
+) -> Result<Option<u32>, Refusal>
     requires { map.NamesFit (map.given_names catalog.now statement.now cells.now parts.now) columns.old }
     ensures { map.Maps
         (column_map (table_at catalog.now statement.now tables.now i).columns
@@ -119,7 +111,7 @@ pub fn column_map(
         columns.old columns.new result }
 {
     if entry::count(parts, entry::COLUMNS) == 0 {
-        return Mapped::Done(ColumnMap::Missing);
+        return Ok(None);
     }
     map_names(catalog, statement, tables, i, cells, parts, columns)
 }

@@ -9,7 +9,7 @@ ghost use Rattle.plan.specs.Appended.{Appended};
 ghost use Rattle.build_insert.specs.Map.{mappings, map_of};
 ghost use Rattle.build_insert.specs.Own.{map_numbers_of, MapFits};
 
-use crate::map::{ColumnMap, ValuePosition, column_of};
+use crate::map::{ValuePosition, column_of};
 use plan::own::{insert, mapping};
 
 // The column and the position of each of the first n values, behind k numbers.
@@ -32,7 +32,7 @@ fn put_mappings(columns: &[u32], n: u32, nodes: &mut [u32], k: usize) -> usize
 // The own numbers behind k others, of a table whose name is the n bytes at a.
 pub fn put_own(
     columns: &[u32],
-    map: ColumnMap,
+    map: Option<u32>,
     nodes: &mut [u32],
     k: usize,
     a: u32,
@@ -44,8 +44,8 @@ pub fn put_own(
         k nodes.old result nodes.new }
 {
     match map {
-        ColumnMap::Missing => insert(nodes, k, a, n, 0),
-        ColumnMap::Of(count) => {
+        None => insert(nodes, k, a, n, 0),
+        Some(count) => {
             let j = insert(nodes, k, a, n, count + 1);
             put_mappings(columns, count, nodes, j)
         }

@@ -16,17 +16,11 @@ ghost use Rattle.build_insert.specs.Rows.{rows_at, RowsFit};
 
 use ast::rows::next;
 use build_expression::build_expression;
-use plan::cells::Written;
+use numbers::refusals::Refusal;
 use plan::parts::{begin_values, end};
 use plan::pushes::push;
+use plan::steps::Part;
 use sections::entry::{Entry, ROW, count, entry_at};
-
-// The next cell and how many numbers of the nodes are in use; or document 01's number of a refusal, and its line.
-#[derive(Clone, Copy)]
-pub enum Listed {
-    Done(u32, usize),
-    Refused(u32, u32),
-}
 
 // The value at row r: its cells from the n-th on, its root behind k numbers.
 fn build_value<'t>(
@@ -38,7 +32,7 @@ fn build_value<'t>(
     n: u32,
     nodes: &mut [u32],
     k: usize,
-) -> Listed
+) -> Result<Part, Refusal>
     requires room { Room n (3 * size (tree_at catalog.now statement.now cells.now r)) area.old }
     requires k_in_bounds { k + 1 ≤ length nodes.old }
     ensures { Lists one_root
@@ -48,16 +42,11 @@ fn build_value<'t>(
     let labels = [0u32; 0];
     let matches = [0u16; 0];
     let tables = [0u32; 0];
-    let built = build_expression(
+    let cell = build_expression(
         catalog, statement, cells, r, &labels, &matches, 0, &tables, 0, area, n,
-    );
-    match built {
-        Written::Refused(number, line) => Listed::Refused(number, line),
-        Written::Done(m) => {
-            let j = push(nodes, k, m - 1);
-            Listed::Done(m, j)
-        }
-    }
+    )?;
+    let used = push(nodes, k, cell - 1);
+    Ok(Part { cell, used })
 }
 
 // Several values one behind the other, the first at row r.
@@ -71,7 +60,7 @@ fn build_values<'t>(
     n: u32,
     nodes: &mut [u32],
     k: usize,
-) -> Listed
+) -> Result<Part, Refusal>
     requires room { Room n (3 * total size (values_at catalog.now statement.now cells.now values r)) area.old }
     requires values_in_bounds { k + values ≤ length nodes.old }
     ensures { Lists all_roots
@@ -80,19 +69,15 @@ fn build_values<'t>(
 {
     let mut left = values;
     let mut p = r;
-    let mut m = n;
-    let mut j = k;
+    let mut built = Part { cell: n, used: k };
     while 0 < left {
-        let value = build_value(catalog, statement, cells, p, area, m, nodes, j);
-        let Listed::Done(m2, j2) = value else {
-            return value;
-        };
-        m = m2;
-        j = j2;
+        built = build_value(
+            catalog, statement, cells, p, area, built.cell, nodes, built.used,
+        )?;
         p = next(cells, p);
         left -= 1;
     }
-    Listed::Done(m, j)
+    Ok(built)
 }
 
 // A row: how many values it has, then their roots.
@@ -105,7 +90,7 @@ fn build_row<'t>(
     n: u32,
     nodes: &mut [u32],
     k: usize,
-) -> Listed
+) -> Result<Part, Refusal>
     requires room { Room n (3 * total size (values_at catalog.now statement.now cells.now e.expressions e.row)) area.old }
     requires expressions_in_bounds { k + 1 + e.expressions ≤ length nodes.old }
     ensures { Lists one_row
@@ -136,7 +121,7 @@ fn build_rows<'t>(
     area: &mut [u32],
     nodes: &mut [u32],
     k: usize,
-) -> Listed
+) -> Result<Part, Refusal>
     requires room { Room 0 (3 * rows_size (rows_at catalog.now statement.now cells.now parts.now)) area.old }
     requires parts_in_bounds { k + rows_room (rows_at catalog.now statement.now cells.now parts.now) ≤ length nodes.old }
     ensures { Lists row_numbers
@@ -145,19 +130,15 @@ fn build_rows<'t>(
 {
     let rows = count(parts, ROW);
     let mut i: u32 = 0;
-    let mut m: u32 = 0;
-    let mut j = k;
+    let mut built = Part { cell: 0, used: k };
     while i < rows {
         let e = entry_at(parts, ROW, i);
-        let row = build_row(catalog, statement, cells, e, area, m, nodes, j);
-        let Listed::Done(m2, j2) = row else {
-            return row;
-        };
-        m = m2;
-        j = j2;
+        built = build_row(
+            catalog, statement, cells, e, area, built.cell, nodes, built.used,
+        )?;
         i += 1;
     }
-    Listed::Done(m, j)
+    Ok(built)
 }
 
 // The values node of all rows, the plan's first.
@@ -168,7 +149,7 @@ pub fn build_node<'t>(
     parts: &[u32],
     area: &mut [u32],
     nodes: &mut [u32],
-) -> Listed
+) -> Result<Part, Refusal>
     requires room { Room 0 (3 * rows_size (rows_at catalog.now statement.now cells.now parts.now)) area.old }
     requires rows_fit { RowsFit (rows_at catalog.now statement.now cells.now parts.now) nodes.old }
     ensures { Lists values_node
@@ -176,10 +157,7 @@ pub fn build_node<'t>(
         0 area.old area.new 0 nodes.old nodes.new result }
 {
     let k = begin_values(nodes, 0);
-    let rows = build_rows(catalog, statement, cells, parts, area, nodes, k);
-    let Listed::Done(m, e) = rows else {
-        return rows;
-    };
-    end(nodes, 0, e);
-    Listed::Done(m, e)
+    let rows = build_rows(catalog, statement, cells, parts, area, nodes, k)?;
+    end(nodes, 0, rows.used);
+    Ok(rows)
 }

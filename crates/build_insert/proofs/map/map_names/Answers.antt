@@ -1,7 +1,6 @@
 -- `map::map_names`: the names so far.
 use native.Mathlib.Omega.{arith}
 use mathlib.Core.Path.{refl}
-use Rattle.rules.specs.Refusals.{refusal_number}
 use Rattle.build_insert.specs.Map.{columns_of, map-none, map-all, name-unknown, name-repeated, name-mapped}
 use Rattle.build_insert.proofs.map.map_names.Goals as goal
 
@@ -9,18 +8,16 @@ pub loop-v-init : goal.loop-v-init
 loop-v-init c = map-none c.args.catalog.now c.args.statement.now c.args.cells.now c.args.parts.now (columns_of c.args.catalog.now c.args.statement.now c.args.tables.now c.args.i) _
 
 pub returns-in_default : goal.returns-in_default
-unfolding refusal_number
 returns-in_default c = name-unknown c.args.catalog.now c.args.statement.now c.args.cells.now c.args.parts.now (columns_of c.args.catalog.now c.args.statement.now c.args.tables.now c.args.i) c.loop-v.invariant _ c.entry_at-e.ensures (omega (
   arith,
   c.loop-v-test.true,
   c.count-count.ensures c.args.catalog.now c.args.statement.now c.args.cells.now,
-)) _ c.name_start-a.ensures _ c.column_at-found.ensures _ c.in_default.is refl
+)) _ c.name_start-a.ensures _ c.column_at-found.ensures c.in_default.is
 
 pub returns-then-is_mapped : goal.returns-then-is_mapped
-unfolding refusal_number
 returns-then-is_mapped c = name-repeated c.args.catalog.now c.args.statement.now c.args.cells.now c.args.parts.now (columns_of c.args.catalog.now c.args.statement.now c.args.tables.now c.args.i) c.loop-v.invariant _ c.entry_at-e.ensures (omega
     (arith, c.loop-v-test.true, c.count-count.ensures c.args.catalog.now c.args.statement.now c.args.cells.now)) _
-    c.name_start-a.ensures _ c.column_at-found.ensures _ c.in-At.is _ _ c.is_mapped.ensures c.if-is_mapped.true refl
+    c.name_start-a.ensures _ c.column_at-found.ensures _ c.in-At.is _ c.is_mapped.ensures c.if-is_mapped.true
 
 pub map_value-requires : goal.map_value-requires
 map_value-requires c = omega (

@@ -1,4 +1,5 @@
 -- `rows::build_node`: the rows, between the beginning and the end of their record.
+use Rattle.plan.specs.Emits.{exit}
 use native.Mathlib.Omega.{arith}
 use Rattle.build_insert.specs.Rows.{node-room, node-refused, node_end, node_lists}
 use Rattle.build_insert.proofs.rows.build_node.Goals as goal
@@ -6,14 +7,14 @@ use Rattle.build_insert.proofs.rows.build_node.Goals as goal
 pub begin_values-k-requires : goal.begin_values-k-requires
 begin_values-k-requires c = omega (arith, c.requires.rows_fit.numbers)
 
-pub build_rows-rows-requires : goal.build_rows-rows-requires
-build_rows-rows-requires c = record { room = c.requires.room; parts_in_bounds = node-room c.requires.rows_fit c.begin_values-k.ensures }
+pub build_rows-requires : goal.build_rows-requires
+build_rows-requires c = record { room = c.requires.room; parts_in_bounds = node-room c.requires.rows_fit c.begin_values-k.ensures }
 
-pub returns-in_default : goal.returns-in_default
-returns-in_default c = node-refused c.requires.rows_fit c.begin_values-k.ensures c.build_rows-rows.ensures _ _ c.in_default.is
+pub returns-in_err-rows : goal.returns-in_err-rows
+returns-in_err-rows c = rw (exit c.from_residual.result c.from_residual.ensures.1) (node-refused c.requires.rows_fit c.begin_values-k.ensures c.build_rows.ensures _ c.in_err-rows.was)
 
 pub end-requires : goal.end-requires
-end-requires c = node_end c.requires.rows_fit c.begin_values-k.ensures c.build_rows-rows.ensures _ _ c.in-Done.is
+end-requires c = node_end c.requires.rows_fit c.begin_values-k.ensures c.build_rows.ensures _ c.in_ok-rows.was
 
 pub returns : goal.returns
-returns c = node_lists c.requires.rows_fit c.begin_values-k.ensures c.build_rows-rows.ensures _ _ c.in-Done.is c.end.ensures
+returns c = node_lists c.requires.rows_fit c.begin_values-k.ensures c.build_rows.ensures _ c.in_ok-rows.was c.end.ensures

@@ -1,4 +1,5 @@
 -- `rows::build_rows`: row by row.
+use Rattle.plan.specs.Emits.{exit}
 use native.Mathlib.Omega.{arith}
 use mathlib.Core.Path.{◌∙◌}
 use Rattle.build_insert.specs.Rows.{rows_none, rows-kept, rows_all, rows-room, rows-space, rows-stop, rows_more, rows-done}
@@ -7,8 +8,8 @@ use Rattle.build_insert.proofs.rows.build_rows.Goals as goal
 pub loop-i-init : goal.loop-i-init
 loop-i-init c = rows_none _ _ _ _ _ _ _ c.requires.room c.requires.parts_in_bounds
 
-pub build_row-row-requires : goal.build_row-row-requires
-build_row-row-requires c = record {
+pub build_row-requires : goal.build_row-requires
+build_row-requires c = record {
   room = rows-room c.loop-i.invariant _ c.entry_at-e.ensures (omega (
     arith,
     c.loop-i-test.true,
@@ -22,19 +23,13 @@ build_row-row-requires c = record {
   ));
 }
 
-pub shape_of-area-in_default : goal.shape_of-area-in_default
-shape_of-area-in_default c = c.build_row-row.ensures.kept ∙ rows-kept c.loop-i.invariant
-
-pub shape_of-nodes-in_default : goal.shape_of-nodes-in_default
-shape_of-nodes-in_default c = c.build_row-row.ensures.all ∙ rows_all c.loop-i.invariant
-
-pub returns-in_default : goal.returns-in_default
-returns-in_default c = rows-stop c.loop-i.invariant _ c.entry_at-e.ensures (omega (
+pub returns-in_err-built : goal.returns-in_err-built
+returns-in_err-built c = rw (exit c.from_residual.result c.from_residual.ensures.1) (rows-stop c.loop-i.invariant _ c.entry_at-e.ensures (omega (
   arith,
   c.loop-i-test.true,
   c.count-rows.ensures c.args.catalog.now
       c.args.statement.now c.args.cells.now,
-)) c.build_row-row.ensures _ _ c.in_default.is
+)) c.build_row.ensures _ c.in_err-built.was)
 
 pub loop-i-preserved : goal.loop-i-preserved
 loop-i-preserved c = rows_more c.loop-i.invariant _ c.entry_at-e.ensures (omega (
@@ -42,7 +37,7 @@ loop-i-preserved c = rows_more c.loop-i.invariant _ c.entry_at-e.ensures (omega 
   c.loop-i-test.true,
   c.count-rows.ensures c.args.catalog.now
       c.args.statement.now c.args.cells.now,
-)) c.build_row-row.ensures _ _ c.in-Done.is
+)) c.build_row.ensures _ c.in_ok-built.was
 
 pub shape_of-area : goal.shape_of-area
 shape_of-area c = rows-kept c.loop-i.invariant

@@ -1,4 +1,5 @@
 -- `rows::build_values`: value by value.
+use Rattle.plan.specs.Emits.{exit}
 use native.Mathlib.Omega.{arith}
 use mathlib.Core.Path.{◌∙◌}
 use Rattle.build_insert.specs.Values.{values-none, values-kept, values-all, value_room, value-space, values-stop, values-more, values-done}
@@ -7,20 +8,14 @@ use Rattle.build_insert.proofs.rows.build_values.Goals as goal
 pub loop-left-init : goal.loop-left-init
 loop-left-init c = values-none _ _ _ _ _ _ _ _ _ c.requires.room c.requires.values_in_bounds
 
-pub build_value-value-requires : goal.build_value-value-requires
-build_value-value-requires c = record { room = value_room c.loop-left.invariant c.loop-left-test.true; k_in_bounds = value-space c.loop-left.invariant c.loop-left-test.true }
+pub build_value-requires : goal.build_value-requires
+build_value-requires c = record { room = value_room c.loop-left.invariant c.loop-left-test.true; k_in_bounds = value-space c.loop-left.invariant c.loop-left-test.true }
 
-pub shape_of-area-in_default : goal.shape_of-area-in_default
-shape_of-area-in_default c = c.build_value-value.ensures.kept ∙ values-kept c.loop-left.invariant
-
-pub shape_of-nodes-in_default : goal.shape_of-nodes-in_default
-shape_of-nodes-in_default c = c.build_value-value.ensures.all ∙ values-all c.loop-left.invariant
-
-pub returns-in_default : goal.returns-in_default
-returns-in_default c = values-stop c.loop-left.invariant c.loop-left-test.true c.build_value-value.ensures _ _ c.in_default.is
+pub returns-in_err-built : goal.returns-in_err-built
+returns-in_err-built c = rw (exit c.from_residual.result c.from_residual.ensures.1) (values-stop c.loop-left.invariant c.loop-left-test.true c.build_value.ensures _ c.in_err-built.was)
 
 pub loop-left-preserved : goal.loop-left-preserved
-loop-left-preserved c = values-more c.loop-left.invariant c.loop-left-test.true c.build_value-value.ensures _ _ _ c.in-Done.is c.next-p.ensures
+loop-left-preserved c = values-more c.loop-left.invariant c.loop-left-test.true c.build_value.ensures _ _ c.in_ok-built.was c.next-p.ensures
 
 pub shape_of-area : goal.shape_of-area
 shape_of-area c = values-kept c.loop-left.invariant
