@@ -5,7 +5,7 @@ use Rattle.std.proofs.Math.Path.{◌≡◌, refl, ap}
 use Rattle.std.proofs.Common.{sym, ◌∙◌}
 use mathlib.Core.List.{List, [], ◌∷◌}
 use Rattle.std.proofs.Math.Option.{Option, none, some}
-use Rattle.rules.specs.Refusals.{Refusal, refusal_number, ok, refused, refuse, no_default}
+use Rattle.rules.specs.Refusals.{Refusal, ok, refused, refuse, no_default}
 use Rattle.rules.specs.Lists.{Bytes}
 use Rattle.rules.specs.Schema.{Value, Column, default_at}
 use Rattle.rules.specs.Ast.{Expr, size}
@@ -25,31 +25,28 @@ use Rattle.sections.specs.Expressions.{first_row}
 use Rattle.sections.specs.declared.entry.Entry.{Entry}
 use Rattle.statement.specs.EntryAccess.{given_of, given-none, given-some}
 use Rattle.plan.specs.Cells.{Room, Puts}
-use Rattle.plan.specs.Emits.{Emitting, Emits, accepts, refuses, emits-same}
-use Rattle.plan.specs.declared.cells.Written.{Written}
-use Rattle.plan.specs.declared.cells.Written.TheVariants.{Done, Refused}
+use Rattle.plan.specs.Emits.{Emitting, Written, Emits, accepts, refuses, emits-same}
+use Rattle.numbers.specs.Reasons.{named as named_reason}
+use Rattle.numbers.specs.declared.refusals.Reason.TheVariants as Re
+use Rattle.std.specs.Prelude.{Ok, Err}
 use Rattle.build_expression.specs.Rows.{emit-within}
 use Rattle.build_expression.specs.Builds.{scope_at, Builds}
 
 -- DEFAULTS
--- document 01's number of a default that is not there
-abbrev pub no_default_number : ℕ
-no_default_number = 24
-
--- its constant from the n-th cell on, or 24 at line l
+-- its constant from the n-th cell on, or a refusal at line l
 unfoldable pub default_step : ℕ → ℕ → Option Value → Emitting
 default_step n l none = refuse no_default l
 default_step n l (some v) = ok (C.constant v ∷ [], n + 1)
 
 module _ (c q : Bytes) (k a b : ℕ) {d : Option Value} (h : default_of c q k a b ≡ d) {area : List ℕ} {n : ℕ} (l : ℕ) where
-  pub no-default : k ≡ 0 → Emits (default_step n l d) n area area (Refused no_default_number l)
-  unfolding default_step refusal_number default_of
+  pub no-default : k ≡ 0 → Emits (default_step n l d) n area area (Err (record { reason = Re.NoDefault; line = l }))
+  unfolding default_step named_reason default_of
   no-default e =
       let y : default_of c q k a b ≡ none = rw e in
-      refuses no_default l no_default_number l refl refl refl (ap (default_step n l) (sym h ∙ y))
+      refuses no_default l Re.NoDefault l refl refl refl (ap (default_step n l) (sym h ∙ y))
 
   pub a-default : {area' : List ℕ} → (k ≡ 0 → ⊥)
-      → Puts n (C.constant (value_at c q k a b) ∷ []) area area' → Emits (default_step n l d) n area area' (Done (n + 1))
+      → Puts n (C.constant (value_at c q k a b) ∷ []) area area' → Emits (default_step n l d) n area area' (Ok (n + 1))
   unfolding default_step
   a-default e p = accepts (n + 1) p refl (ap (default_step n l) (sym h ∙ default-some c q k a b e))
 

@@ -1,5 +1,5 @@
 -- The sets appended one after the other.
-use Rattle.std.specs.Prelude.{ℕ, suc, ◌+◌, ◌*◌, ◌≤◌, ◌<◌, ◌≡◌, refl, take}
+use Rattle.std.specs.Prelude.{ℕ, suc, ◌+◌, ◌*◌, ◌≤◌, ◌<◌, ◌≡◌, refl, take, Ok, Err}
 use native.Mathlib.Omega.{arith}
 use Rattle.std.proofs.Common.{add-one, ◌∙◌, drop_of_length-le}
 use Rattle.std.proofs.Math.Path.{sym, ap}
@@ -31,9 +31,10 @@ use Rattle.plan.specs.Appended.{Appended, appended-none}
 use Rattle.plan.specs.Cells.{Room}
 use Rattle.plan.specs.Own.{sets-on}
 use Rattle.plan.specs.Room.{sets-size}
-use Rattle.build_update.specs.Writes.{Setting, Writes, writes-done, writes-refused, was-done, was-refused, set_of}
-use Rattle.build_update.specs.declared.sets.SetsWritten.{SetsWritten}
-use Rattle.build_update.specs.declared.sets.SetsWritten.TheVariants.{Done, Refused}
+use Rattle.build_update.specs.Writes.{Setting, SetsWritten, Writes, writes-done, writes-refused, was-done, was-refused, set_of}
+use Rattle.numbers.specs.declared.refusals.Refusal as code
+use Rattle.plan.specs.declared.steps.Part.{Part}
+use Rattle.plan.specs.Steps.{refused-on}
 
 -- THE SETS as they were read
 module _ (c q : Bytes) (cells parts : List ℕ) where
@@ -127,10 +128,10 @@ module _ (s : Scope) (cs : List Column) where
 
         module _ {area'' nodes'' : List ℕ} {r : SetsWritten}
             (w : Writes (emit_seconds (set_built s cs) m (x ∷ [])) m j area' area'' nodes' nodes'' r) where
-          pub so-far-step : (m' j' : ℕ) → r ≡ Done m' j' → SoFar n k area nodes (i + 1) m' j' area'' nodes''
+          pub so-far-step : (b : Part) → r ≡ Ok b → SoFar n k area nodes (i + 1) b.cell b.used area'' nodes''
           unfolding sets_size total joined
-          so-far-step m' j' e =
-              let a = was-done w m' j' e in
+          so-far-step b e =
+              let a = was-done w b e in
               let one : length a.entries.1 ≡ 1 = sets-count m (x ∷ []) a.entries a.ok-is in
               let rest : Setting = emit_seconds (set_built s cs) a.entries.2 (drop (suc i) xs) in
               let on : after p.entries (emit_seconds (set_built s cs) m (x ∷ drop (suc i) xs))
@@ -155,19 +156,14 @@ module _ (s : Scope) (cs : List Column) where
                 numbers = sets-on p.entries.1 a.entries.1 p.numbers a.numbers;
               }
 
-          pub so-far-stop : (y l : ℕ) → r ≡ Refused y l
-              → Writes (emit_seconds (set_built s cs) n xs) n k area area'' nodes nodes'' r
-          so-far-stop y l e =
-              let a = was-refused w y l e in
-              rw e (writes-refused (record {
-                why = a.why;
-                refused-is = p.left ∙ rw (d, more-refused m x (drop (suc i) xs) a.why a.refused-is)
-                    (after-refused p.entries a.why);
-                number = a.number;
-                line = a.line;
-              }) (w.area_kept ∙ p.kept) (w.nodes_kept ∙ p.numbers.all))
+          pub so-far-stop : (y : code.Refusal) → r ≡ Err y
+              → Writes (emit_seconds (set_built s cs) n xs) n k area area'' nodes nodes'' (Err y)
+          so-far-stop y e = writes-refused (refused-on (was-refused w y e) (λ v f.
+              p.left ∙ rw (d, more-refused m x (drop (suc i) xs) v f) (after-refused p.entries v)))
+              (w.area_kept ∙ p.kept) (w.nodes_kept ∙ p.numbers.all)
 
-      pub so-far-all : length xs ≤ i → Writes (emit_seconds (set_built s cs) n xs) n k area area' nodes nodes' (Done m j)
+      pub so-far-all : length xs ≤ i → Writes (emit_seconds (set_built s cs) n xs) n k area area' nodes nodes'
+          (Ok (record { cell = m; used = j }))
       so-far-all h = writes-done (record {
         entries = p.entries;
         ok-is = p.left ∙ rw (drop_of_length-le xs {i = i} h, ← p.next) (seconds-done (set_built s cs) p.entries);

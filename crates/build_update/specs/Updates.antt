@@ -1,12 +1,12 @@
 -- UPDATE: the plan behind its filter, and its answer.
 use Prim.Native.Nat.{ℕ, ◌+◌, ◌*◌, ◌≤◌}
 use Rattle.std.proofs.Common.{arith, ◌∙◌}
-use Rattle.std.specs.Prelude.{◌≡◌, length}
+use Rattle.std.specs.Prelude.{◌≡◌, length, Ok, Err}
 use Rattle.std.proofs.Math.Path.{refl, sym, ap}
 use mathlib.Core.List.{List, [], ◌∷◌, ◌++◌, append_assoc}
 use Rattle.std.proofs.Math.Option.{Option, none}
 use Rattle.std.proofs.Math.ListN.{take}
-use Rattle.rules.specs.Refusals.{refusal_number, ok, refused, refuse, unknown_table}
+use Rattle.rules.specs.Refusals.{ok, refused, refuse, unknown_table}
 use Rattle.rules.specs.Lists.{Bytes}
 use Rattle.rules.specs.Places.{bytes_at}
 use Rattle.rules.specs.Schema.{Column, Table, named_by, must_get_table}
@@ -46,35 +46,35 @@ use Rattle.statement.specs.declared.access.Clause.{Clause}
 use Rattle.plan.specs.Layout.{cells_end, own_head, set_size, update_code, plan_size, most_plan_cells, nodes_size}
 use Rattle.plan.specs.Appended.{Appended}
 use Rattle.plan.specs.Cells.{Room}
-use Rattle.plan.specs.Emits.{Emits, accepted}
+use Rattle.plan.specs.Emits.{Written, Emits, accepted}
 use Rattle.plan.specs.Own as O
 use Rattle.plan.specs.Own.{updating, update-whole}
 use Rattle.plan.specs.Finished.{finished}
 use Rattle.plan.specs.Exit.{pieces, update-exit}
-use Rattle.plan.specs.declared.cells.Written.{Written}
-use Rattle.plan.specs.declared.cells.Written.TheVariants as W
+use Rattle.plan.specs.declared.steps.Part.{Part}
+use Rattle.numbers.specs.Reasons.{named as named_reason, noted}
+use Rattle.numbers.specs.declared.refusals.Reason.TheVariants as Re
+use Rattle.numbers.specs.declared.refusals.Refusal.{Refusal}
 use Rattle.build_expression.specs.Builds.{scope_at}
 use Rattle.build_statement.specs.Plans.{Plans}
 use Rattle.build_statement.specs.Kinds.{Free, free-kept, ReadyFor, name_of, update_at}
 use Rattle.build_statement.specs.Ends.{span-at, finish-room, plan-count, planned, not-planned, refused-at}
-use Rattle.build_statement.specs.Tables.{table_named, unknown_number, unknown-number}
+use Rattle.build_statement.specs.Tables.{table_named}
 use Rattle.build_statement.specs.Clauses.{emit_given, Filters, taken, not_taken, stopped}
 use Rattle.build_statement.specs.Scans.{Scanned, scan-record, scan-in-use, scan-all, where-room}
 use Rattle.build_statement.specs.Filtered.{not_there, there, scope-is, filtered}
-use Rattle.build_update.specs.Writes.{Setting, Writes, was-done, was-refused}
+use Rattle.build_update.specs.Writes.{Setting, SetsWritten, Writes, was-done, was-refused}
 use Rattle.build_update.specs.SoFar.{sets_at, sets-count, sets-most}
-use Rattle.build_update.specs.declared.sets.SetsWritten.{SetsWritten}
-use Rattle.build_update.specs.declared.sets.SetsWritten.TheVariants.{Done, Refused}
 
 -- behind m cells there is room for the sets xs
 pub record FewSets (m : ℕ) (xs : List Ast.Set) : Type 0 where
   pub counted : length xs ≤ most_entries
   pub cells : m + (3 * sets_size xs + length xs) ≤ most_plan_cells
 
--- the next cell behind the sets, or document 01's number and line
+-- the next cell behind the sets, or the refusal
 unfoldable pub end_of : Setting → Written
-end_of (ok p) = W.Done p.2
-end_of (refused w) = W.Refused (refusal_number w.reason) w.line
+end_of (ok p) = Ok p.2
+end_of (refused w) = Err (noted w)
 
 -- BEHIND THE FILTER: m cells stand in the area, and area' is the plan's, of the table t, where the sets' answer a is accepted
 pub record UpdateEnds (a : Setting) (t : Table) (m : ℕ) (area area' : List ℕ) (x : Written) : Type 0 where
@@ -133,54 +133,55 @@ module _ (c q : Bytes) (tables : List ℕ) (i a n l m : ℕ) {area nodes nodes�
 
       module _ (s : rules.Scope) (cs : List Column) (hv : v ≡ length xs) {area₂ nodes₃ : List ℕ} {r : SetsWritten}
           (w : Writes (emit_seconds (set_built s cs) m xs) m j area area₂ nodes₂ nodes₃ r) where
-        pub update-stops : (x y : ℕ) → r ≡ Refused x y
-            → UpdateEnds (emit_seconds (set_built s cs) m xs) (table_named c q tables i a n) m area area₂ (W.Refused x y)
+        pub update-stops : (x : Refusal) → r ≡ Err x
+            → UpdateEnds (emit_seconds (set_built s cs) m xs) (table_named c q tables i a n) m area area₂ (Err x)
         unfolding end_of
-        update-stops x y e =
-            let b = was-refused w x y e in
+        update-stops x e =
+            let b = was-refused w x e in
             record {
-              answer = (λ i. W.Refused (b.number i) (b.line i)) ∙ sym (ap end_of b.refused-is);
+              answer = ap Err b.noted' ∙ sym (ap end_of b.is);
               kept = w.area_kept;
-              exit = λ p d. ok-not-refused _ _ (sym d ∙ b.refused-is);
+              exit = λ p d. ok-not-refused _ _ (sym d ∙ b.is);
             }
 
-        module _ (z e : ℕ) (d : r ≡ Done z e) where
-          few-cells : z ≤ most_plan_cells
+        module _ (z : Part) (d : r ≡ Ok z) where
+          few-cells : z.cell ≤ most_plan_cells
           few-cells =
-              let b = was-done w z e d in
+              let b = was-done w z d in
               omega (arith, few.cells, b.next, sets-most s cs m xs b.entries b.ok-is)
 
           pub update-room
-              : (plan_size ≤ length area₂) × (z ≤ most_plan_cells) × (k ≤ e) × (e ≤ nodes_size) × (e ≤ length nodes₃)
+              : (plan_size ≤ length area₂) × (z.cell ≤ most_plan_cells) × (k ≤ z.used) × (z.used ≤ nodes_size)
+              × (z.used ≤ length nodes₃)
           update-room =
-              let b = was-done w z e d in
+              let b = was-done w z d in
               let free : Free area₂ nodes₂ = free-kept f w.area_kept (all-nodes ∙ sym f.nodes_room) in
               finish-room nodes₃ free w.nodes_kept few-cells (omega (arith, head-in-use, b.numbers.next)) b.numbers.fits
 
           pub update-ends : {area' : List ℕ} → length area' ≡ length area₂
-              → area' ≡ finished update_code z 1 k e nodes₃ area₂
-              → UpdateEnds (emit_seconds (set_built s cs) m xs) (table_named c q tables i a n) m area area' (W.Done z)
+              → area' ≡ finished update_code z.cell 1 k z.used nodes₃ area₂
+              → UpdateEnds (emit_seconds (set_built s cs) m xs) (table_named c q tables i a n) m area area' (Ok z.cell)
           unfolding end_of
           update-ends l' u =
               let t : Table = table_named c q tables i a n in
-              let b = was-done w z e d in
+              let b = was-done w z d in
               record {
-                answer = ap W.Done (sym b.next) ∙ sym (ap end_of b.ok-is);
+                answer = ap Ok (sym b.next) ∙ sym (ap end_of b.ok-is);
                 kept = l' ∙ w.area_kept;
                 exit = λ p x ys o before d us e₁ e₂ e₃ e₄.
                     let same : b.entries ≡ p = ok_same (sym b.ok-is ∙ x) in
                     let node : Node ℕ = P.values [] in
                     let bs = b.entries.1 in
-                    let own : Appended (own_numbers (P.update t node bs)) k nodes₁ e nodes₃ =
+                    let own : Appended (own_numbers (P.update t node bs)) k nodes₁ z.used nodes₃ =
                     update-whole t node v bs (hv ∙ sym (sets-count s cs m xs b.entries b.ok-is))
                     (O.update-sets t v [] bs head b.numbers) in
-                    let stand : take (cells_end z) area₂ ≡ take (cells_end 0) before ++ cells_numbers (ys ++ b.entries.0) =
+                    let stand : take (cells_end z.cell) area₂ ≡ take (cells_end 0) before ++ cells_numbers (ys ++ b.entries.0) =
                     b.cells ∙ rw (e₃, cells-numbers-append ys b.entries.0, append_assoc) in
-                    let ps = pieces {cs = ys ++ b.entries.0} {n = z} {t = area₂} (scan t none o ∷ [])
+                    let ps = pieces {cs = ys ++ b.entries.0} {n = z.cell} {t = area₂} (scan t none o ∷ [])
                     (own_numbers (P.update t node bs)) before (w.area_kept ∙ e₂)
                     (omega (arith, few-cells, f.area_room, w.area_kept)) stand
                     (scan-record c q tables i a n l m hl h o e₁) own in
-                    u ∙ update-exit (ys ++ b.entries.0) (scan t none o ∷ []) z 1 k e nodes₃ area₂ before
+                    u ∙ update-exit (ys ++ b.entries.0) (scan t none o ∷ []) z.cell 1 k z.used nodes₃ area₂ before
                     (sym (w.area_kept ∙ e₂)) t d us node bs (rw (← same, b.next) at e₄) ps;
               }
 
@@ -194,9 +195,10 @@ module _ (c q : Bytes) (tables cells parts : List ℕ) {area nodes : List ℕ}
   named = h.within.parts.0
 
   pub update-unknown : {y : ℕ} → r ≡ Nothing → y ≡ line_at parts
-      → Plans (build_update (catalog_at c q tables) (update_at c q cells parts)) area area (W.Refused unknown_number y)
-  unfolding update_of refuse
-  update-unknown e ey = not-planned unknown_table (line_at parts) _ _ refl unknown-number ey
+      → Plans (build_update (catalog_at c q tables) (update_at c q cells parts)) area area
+      (Err (record { reason = Re.UnknownTable; line = y }))
+  unfolding update_of refuse named_reason
+  update-unknown e ey = not-planned unknown_table (line_at parts) _ _ refl refl ey
       (U.update-table (catalog_at c q tables) (update_at c q cells parts) _
       (not_there c q tables cells parts h.within named a n ha hn r f e))
 
@@ -223,16 +225,16 @@ module _ (c q : Bytes) (tables cells parts : List ℕ) {area nodes : List ℕ}
       has : must_get_table (catalog_at c q tables) (line_at parts) (name_of c q parts) ≡ ok here
       has = there c q tables cells parts h.within named a n ha hn r f i e
 
-      pub update-refused : (k l : ℕ) → x ≡ W.Refused k l
-          → Plans (build_update (catalog_at c q tables) (update_at c q cells parts)) area area₁ x
+      pub update-refused : (v : Refusal) → x ≡ Err v
+          → Plans (build_update (catalog_at c q tables) (update_at c q cells parts)) area area₁ (Err v)
       unfolding update_of
-      update-refused k l z =
-          let p = stopped k l built z in
-          refused-at p.refusal built.kept p.answer
+      update-refused v z =
+          let p = stopped v built z in
+          refused-at p.refusal built.kept (sym z ∙ p.answer)
           (U.update-where (catalog_at c q tables) (update_at c q cells parts) here has p.refusal
           (not_taken (table_scope here) o p.refusal p.is))
 
-      module _ (m : ℕ) (z : x ≡ W.Done m) where
+      module _ (m : ℕ) (z : x ≡ Ok m) where
         pub update-few-sets : FewSets m (sets_at c q cells parts)
         unfolding update_of clause_size
         update-few-sets =

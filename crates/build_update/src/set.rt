@@ -9,12 +9,12 @@ ghost use Rattle.plan.specs.Emits.{Emits};
 ghost use Rattle.build_update.specs.Sets.{default_step, Values};
 
 use build_expression::build_expression;
-use numbers::refusals::NO_DEFAULT;
-use plan::cells::{Written, constant};
+use numbers::refusals::{Reason, Refusal};
+use plan::cells::constant;
 use schema::default_at;
 use sections::entry::{Entry, first_row};
 
-// The default of the j-th column of the i-th table, or 24 at a line.
+// The default of the j-th column of the i-th table; refused at a line where there is none.
 fn build_default(
     catalog: &[u8],
     statement: &[u8],
@@ -24,7 +24,7 @@ fn build_default(
     line: u32,
     area: &mut [u32],
     n: u32,
-) -> Written
+) -> Result<u32, Refusal>
     requires { Room n 1 area.old }
     ensures { Emits
         (default_step n line
@@ -33,10 +33,13 @@ fn build_default(
 {
     let d = default_at(tables, i, j);
     if d.kind == 0 {
-        return Written::Refused(NO_DEFAULT, line);
+        return Err(Refusal {
+            reason: Reason::NoDefault,
+            line,
+        });
     }
     constant(catalog, statement, area, n, d.kind, d.first, d.second);
-    Written::Done(n + 1)
+    Ok(n + 1)
 }
 
 // The set of the entry e, of the j-th column of the i-th table, over a scope whose arrays are lent.
@@ -55,7 +58,7 @@ pub fn build_set<'t, 'a>(
     count: u32,
     area: &mut [u32],
     n: u32,
-) -> Written
+) -> Result<u32, Refusal>
     requires { Room n (3 * option_size (given_of catalog.now statement.now cells.now e) + 1) area.old }
     ensures { Values catalog.now statement.now cells.now
         (take width labels.now) (take width matches.now) (take count names.now)

@@ -13,21 +13,14 @@ ghost use Rattle.build_update.specs.Writes.{Writes, set_of};
 ghost use Rattle.build_update.specs.SoFar.{sets_at};
 
 use crate::set::build_set;
-use build_expression::position::{Position, position_of};
-use plan::cells::Written;
+use build_expression::position::position_of;
+use numbers::refusals::Refusal;
 use plan::own;
+use plan::steps::Part;
 use scope::lookup::lookup;
 use sections::entry;
 use sections::entry::Entry;
 use statement::access::name_start;
-
-// What sets append: the next cell and how many numbers of the nodes are in use; or document 01's number of a refusal, and
-// its line.
-#[derive(Clone, Copy)]
-pub enum SetsWritten {
-    Done(u32, usize),
-    Refused(u32, u32),
-}
 
 // The set of the entry e in the i-th table: its column is looked up before its value is built.
 fn write_set<'t, 'a>(
@@ -46,7 +39,7 @@ fn write_set<'t, 'a>(
     n: u32,
     nodes: &mut [u32],
     k: usize,
-) -> SetsWritten
+) -> Result<Part, Refusal>
     requires room { Room n (3 * option_size (given_of catalog.now statement.now cells.now e) + 1) area.old }
     requires set_size_in_bounds { k + set_size ≤ length nodes.old }
     ensures { (h : ℕ) → Writes
@@ -59,31 +52,14 @@ fn write_set<'t, 'a>(
 {
     let a = name_start(e);
     let found = lookup(
-        catalog,
-        statement,
-        labels,
-        matches,
-        width,
-        names,
-        count,
-        None,
-        a,
-        e.length,
+        catalog, statement, labels, matches, width, names, count, None, a, e.length,
     );
-    let position = position_of(found, e.line);
-    match position {
-        Position::At(j) => {
-            let value = build_set(
-                catalog, statement, tables, cells, i, j, e, labels, matches, width, names, count,
-                area, n,
-            );
-            match value {
-                Written::Done(m) => SetsWritten::Done(m, own::set(nodes, k, j, m - 1)),
-                Written::Refused(number, line) => SetsWritten::Refused(number, line),
-            }
-        }
-        Position::Refused(number, line) => SetsWritten::Refused(number, line),
-    }
+    let j = position_of(found, e.line)?;
+    let cell = build_set(
+        catalog, statement, tables, cells, i, j, e, labels, matches, width, names, count, area, n,
+    )?;
+    let used = own::set(nodes, k, j, cell - 1);
+    Ok(Part { cell, used })
 }
 
 // All sets, from the n-th cell and behind the k numbers of the nodes.
@@ -103,7 +79,7 @@ pub fn write_sets<'t, 'a>(
     n: u32,
     nodes: &mut [u32],
     k: usize,
-) -> SetsWritten
+) -> Result<Part, Refusal>
     requires room { Room n
         (3 * sets_size (sets_at catalog.now statement.now cells.now parts.now)
         + length (sets_at catalog.now statement.now cells.now parts.now)) area.old }
@@ -118,20 +94,27 @@ pub fn write_sets<'t, 'a>(
 {
     let sets = entry::count(parts, entry::SET);
     let mut v: u32 = 0;
-    let mut m = n;
-    let mut j = k;
+    let mut written = Part { cell: n, used: k };
     while v < sets {
         let e = entry::entry_at(parts, entry::SET, v);
-        let written = write_set(
-            catalog, statement, tables, cells, i, e, labels, matches, width, names, count, area, m,
-            nodes, j,
-        );
-        let SetsWritten::Done(next, used) = written else {
-            return written;
-        };
-        m = next;
-        j = used;
+        written = write_set(
+            catalog,
+            statement,
+            tables,
+            cells,
+            i,
+            e,
+            labels,
+            matches,
+            width,
+            names,
+            count,
+            area,
+            written.cell,
+            nodes,
+            written.used,
+        )?;
         v += 1;
     }
-    SetsWritten::Done(m, j)
+    Ok(written)
 }

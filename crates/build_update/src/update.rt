@@ -11,10 +11,9 @@ ghost use Rattle.build_statement.specs.Tables.{table_named};
 ghost use Rattle.build_update.specs.SoFar.{sets_at};
 ghost use Rattle.build_update.specs.Updates.{FewSets, UpdateEnds};
 
-use crate::sets::{SetsWritten, write_sets};
+use crate::sets::write_sets;
 use build_statement::clause::build_where;
-use numbers::refusals::UNKNOWN_TABLE;
-use plan::cells::Written;
+use numbers::refusals::{Reason, Refusal};
 use plan::finish::{UPDATE, finish};
 use plan::nodes::scan;
 use plan::own;
@@ -43,7 +42,7 @@ fn end_update<'t, 'a>(
     area: &mut [u32],
     nodes: &mut [u32],
     m: u32,
-) -> Written
+) -> Result<u32, Refusal>
     requires free { Free area.old nodes.old }
     requires few_sets { FewSets m (sets_at catalog.now statement.now cells.now parts.now) }
     ensures { (h : ℕ) → UpdateEnds
@@ -63,14 +62,9 @@ fn end_update<'t, 'a>(
     let written = write_sets(
         catalog, statement, tables, cells, parts, i, labels, matches, width, names, count, area, m,
         nodes, j,
-    );
-    match written {
-        SetsWritten::Done(z, e) => {
-            finish(area, nodes, UPDATE, z, 1, k, e);
-            Written::Done(z)
-        }
-        SetsWritten::Refused(number, line) => Written::Refused(number, line),
-    }
+    )?;
+    finish(area, nodes, UPDATE, written.cell, 1, k, written.used);
+    Ok(written.cell)
 }
 
 pub fn build_update<'t>(
@@ -81,7 +75,7 @@ pub fn build_update<'t>(
     parts: &[u32],
     area: &mut [u32],
     nodes: &mut [u32],
-) -> Written
+) -> Result<u32, Refusal>
     requires { ReadyFor catalog.now statement.now tables.now
         (ast.update (update_at catalog.now statement.now cells.now parts.now)) area.old nodes.old }
     ensures { Plans
@@ -93,11 +87,14 @@ pub fn build_update<'t>(
     let n = access::name_length(parts);
     let found = get_table(catalog, statement, tables, a, n);
     let Found::At(i) = found else {
-        return Written::Refused(UNKNOWN_TABLE, access::line(parts));
+        return Err(Refusal {
+            reason: Reason::UnknownTable,
+            line: access::line(parts),
+        });
     };
     let scope = Scope::from_table(tables, i, a, n);
     let clause = access::clause_at(parts, entry::WHERE);
-    let filtered = build_where(
+    let m = build_where(
         catalog,
         statement,
         cells,
@@ -108,10 +105,7 @@ pub fn build_update<'t>(
         &scope.tables,
         scope.count,
         area,
-    );
-    let Written::Done(m) = filtered else {
-        return filtered;
-    };
+    )?;
     end_update(
         catalog,
         statement,

@@ -1,36 +1,37 @@
 -- `sets::write_set`: its column, its value and its numbers.
+use Rattle.plan.specs.Emits.{exit}
 use lib.ListN.{take}
 use Rattle.schema.specs.Layout.{table_at}
 use Rattle.build_update.specs.Writes.{set-unfound, set-refused, set-root, set-written}
 use Rattle.build_update.proofs.sets.write_set.Goals as goal
 
-pub overflow_sub-m : goal.overflow_sub-m
-overflow_sub-m c = set-root c.args.catalog.now c.args.statement.now c.args.cells.now
+pub overflow_sub-cell : goal.overflow_sub-cell
+overflow_sub-cell c = set-root c.args.catalog.now c.args.statement.now c.args.cells.now
     (take c.args.width c.args.labels.now) (take c.args.width c.args.matches.now) (take c.args.count c.args.names.now)
     (table_at c.args.catalog.now c.args.statement.now c.args.tables.now c.args.i).columns c.args.e c.args.n
-    c.name_start-a.ensures c.lookup-found.ensures c.position_of-position.ensures
-    _ c.in-At.is c.build_set-value.ensures _ c.in-Done.is
+    c.name_start-a.ensures c.lookup-found.ensures c.position_of.ensures
+    _ c.in_ok-j.was c.build_set.ensures _ c.in_ok-cell.was
 
-pub set-requires : goal.set-requires
-set-requires c = c.requires.set_size_in_bounds
+pub set-used-requires : goal.set-used-requires
+set-used-requires c = c.requires.set_size_in_bounds
 
-pub returns-in-Done : goal.returns-in-Done
-returns-in-Done c = set-written c.args.catalog.now c.args.statement.now c.args.cells.now
+pub returns : goal.returns
+returns c = set-written c.args.catalog.now c.args.statement.now c.args.cells.now
     (take c.args.width c.args.labels.now) (take c.args.width c.args.matches.now) (take c.args.count c.args.names.now)
     (table_at c.args.catalog.now c.args.statement.now c.args.tables.now c.args.i).columns c.args.e c.args.n
-    c.name_start-a.ensures c.lookup-found.ensures c.position_of-position.ensures
-    _ c.in-At.is c.build_set-value.ensures _ c.in-Done.is c.set.ensures
+    c.name_start-a.ensures c.lookup-found.ensures c.position_of.ensures
+    _ c.in_ok-j.was c.build_set.ensures _ c.in_ok-cell.was c.set-used.ensures
 
-pub returns-in-Refused-value : goal.returns-in-Refused-value
-returns-in-Refused-value c = set-refused c.args.catalog.now c.args.statement.now c.args.cells.now
+pub returns-in_err-cell : goal.returns-in_err-cell
+returns-in_err-cell c = λ h. rw (exit c.from_residual-in_err-cell.result c.from_residual-in_err-cell.ensures.1) (set-refused c.args.catalog.now c.args.statement.now c.args.cells.now
     (take c.args.width c.args.labels.now) (take c.args.width c.args.matches.now) (take c.args.count c.args.names.now)
     (table_at c.args.catalog.now c.args.statement.now c.args.tables.now c.args.i).columns c.args.e c.args.n
-    c.name_start-a.ensures c.lookup-found.ensures c.position_of-position.ensures
-    _ c.in-At.is c.build_set-value.ensures _ _ c.in-Refused-value.is
+    c.name_start-a.ensures c.lookup-found.ensures c.position_of.ensures
+    _ c.in_ok-j.was c.build_set.ensures _ c.in_err-cell.was h)
 
-pub returns-in-Refused : goal.returns-in-Refused
-returns-in-Refused c = set-unfound c.args.catalog.now c.args.statement.now c.args.cells.now
+pub returns-in_err-j : goal.returns-in_err-j
+returns-in_err-j c = λ h. rw (exit c.from_residual.result c.from_residual.ensures.1) (set-unfound c.args.catalog.now c.args.statement.now c.args.cells.now
     (take c.args.width c.args.labels.now) (take c.args.width c.args.matches.now) (take c.args.count c.args.names.now)
     (table_at c.args.catalog.now c.args.statement.now c.args.tables.now c.args.i).columns c.args.e c.args.n
-    c.name_start-a.ensures c.lookup-found.ensures c.position_of-position.ensures
-    _ _ c.in-Refused.is
+    c.name_start-a.ensures c.lookup-found.ensures c.position_of.ensures
+    _ c.in_err-j.was h)

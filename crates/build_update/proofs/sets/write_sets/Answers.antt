@@ -1,5 +1,6 @@
 -- `sets::write_sets`: the sets so far.
 use native.Mathlib.Omega.{arith}
+use Rattle.plan.specs.Emits.{exit}
 use mathlib.Core.Path.{◌∙◌}
 use Rattle.build_update.specs.SoFar.{set_here_lem, sets-length, so-far-none, so-far-step, so-far-stop, so-far-all}
 use Rattle.build_update.specs.SoFar.{area-kept, nodes-kept, number-room, set_room}
@@ -8,29 +9,23 @@ use Rattle.build_update.proofs.sets.write_sets.Goals as goal
 pub loop-v-init : goal.loop-v-init
 loop-v-init c = λ h. so-far-none _ _ _ _ _ _ _ (omega (arith, c.requires.parts_in_bounds))
 
-pub write_set-written-requires : goal.write_set-written-requires
-write_set-written-requires c = record {
+pub write_set-requires : goal.write_set-requires
+write_set-requires c = record {
   room = set_room _ _ _ (c.loop-v.invariant 0) _ (set_here_lem c.args.catalog.now c.args.statement.now c.args.cells.now c.args.parts.now _ _ c.entry_at-e.ensures
       (omega (arith, c.loop-v-test.true, c.count-sets.ensures c.args.catalog.now c.args.statement.now c.args.cells.now))) c.requires.room;
   set_size_in_bounds = number-room _ _ _ (c.loop-v.invariant 0) c.requires.parts_in_bounds
       (omega (arith, c.loop-v-test.true, c.count-sets.ensures c.args.catalog.now c.args.statement.now c.args.cells.now, sets-length c.args.catalog.now c.args.statement.now c.args.cells.now c.args.parts.now));
 }
 
-pub shape_of-area-in_default : goal.shape_of-area-in_default
-shape_of-area-in_default c = (c.write_set-written.ensures 0).area_kept ∙ area-kept _ _ _ (c.loop-v.invariant 0)
-
-pub shape_of-nodes-in_default : goal.shape_of-nodes-in_default
-shape_of-nodes-in_default c = (c.write_set-written.ensures 0).nodes_kept ∙ nodes-kept _ _ _ (c.loop-v.invariant 0)
-
-pub returns-in_default : goal.returns-in_default
-returns-in_default c = λ h. so-far-stop _ _ _ (c.loop-v.invariant h) _ (set_here_lem c.args.catalog.now c.args.statement.now c.args.cells.now c.args.parts.now _ _ c.entry_at-e.ensures
+pub returns-in_err-written : goal.returns-in_err-written
+returns-in_err-written c = λ h. rw (exit c.from_residual.result c.from_residual.ensures.1) (so-far-stop _ _ _ (c.loop-v.invariant h) _ (set_here_lem c.args.catalog.now c.args.statement.now c.args.cells.now c.args.parts.now _ _ c.entry_at-e.ensures
     (omega (arith, c.loop-v-test.true, c.count-sets.ensures c.args.catalog.now c.args.statement.now c.args.cells.now)))
-    (c.write_set-written.ensures h) _ _ c.in_default.is
+    (c.write_set.ensures h) _ c.in_err-written.was)
 
 pub loop-v-preserved : goal.loop-v-preserved
 loop-v-preserved c = λ h. so-far-step _ _ _ (c.loop-v.invariant h) _ (set_here_lem c.args.catalog.now c.args.statement.now c.args.cells.now c.args.parts.now _ _ c.entry_at-e.ensures
     (omega (arith, c.loop-v-test.true, c.count-sets.ensures c.args.catalog.now c.args.statement.now c.args.cells.now)))
-    (c.write_set-written.ensures h) _ _ c.in-Done.is
+    (c.write_set.ensures h) _ c.in_ok-written.was
 
 pub shape_of-area : goal.shape_of-area
 shape_of-area c = area-kept _ _ _ (c.loop-v.invariant 0)

@@ -9,7 +9,7 @@ use Rattle.build_update.proofs.sets.write_sets.Given as goal
 abbrev pub invariant-loop-v : goal.invariant-loop-v
 invariant-loop-v l =
     (h : ℕ) → SoFar (scope_at l.catalog l.statement l.cells (take l.width l.labels) (take l.width l.matches) (take l.count l.names) h)
-    (table_at l.catalog l.statement l.tables l.i).columns (sets_at l.catalog l.statement l.cells l.parts) l.n l.k l.initial.area l.initial.nodes l.v l.m l.j l.area l.nodes
+    (table_at l.catalog l.statement l.tables l.i).columns (sets_at l.catalog l.statement l.cells l.parts) l.n l.k l.initial.area l.initial.nodes l.v l.written.cell l.written.used l.area l.nodes
 
 abbrev pub decreases-loop-v : goal.decreases-loop-v
 decreases-loop-v l =

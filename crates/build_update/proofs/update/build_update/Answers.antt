@@ -1,5 +1,6 @@
 -- `update::build_update`: the table, its filter, and the plan behind it.
 use native.Mathlib.Omega.{arith}
+use Rattle.plan.specs.Emits.{exit}
 use mathlib.Core.Path.{refl}
 use Rattle.build_statement.specs.Kinds.{free-kept}
 use Rattle.build_update.specs.Updates.{update-unknown, update-where-room, update-refused, update-few-sets, update-planned}
@@ -9,28 +10,28 @@ pub returns-in_default : goal.returns-in_default
 returns-in_default c = update-unknown c.args.catalog.now c.args.statement.now c.args.tables.now c.args.cells.now c.args.parts.now
     (c.requires) _ _ c.name_address-a.ensures c.name_length-n.ensures _ c.get_table-found.ensures c.in_default.is c.line.ensures
 
-pub build_where-filtered-requires : goal.build_where-filtered-requires
-build_where-filtered-requires c = update-where-room c.args.catalog.now c.args.statement.now c.args.tables.now c.args.cells.now c.args.parts.now
+pub build_where-requires : goal.build_where-requires
+build_where-requires c = update-where-room c.args.catalog.now c.args.statement.now c.args.tables.now c.args.cells.now c.args.parts.now
     (c.requires) _ _ c.name_address-a.ensures c.name_length-n.ensures _ c.get_table-found.ensures
     c.clause_at-clause.ensures (omega (arith, c.well_formed.1.1.1.0.1))
 
-pub returns-in_default-filtered : goal.returns-in_default-filtered
-returns-in_default-filtered c = update-refused c.args.catalog.now c.args.statement.now c.args.tables.now c.args.cells.now c.args.parts.now
+pub returns-in_err-m : goal.returns-in_err-m
+returns-in_err-m c = rw (exit c.from_residual.result c.from_residual.ensures.1) (update-refused c.args.catalog.now c.args.statement.now c.args.tables.now c.args.cells.now c.args.parts.now
     (c.requires) _ _ c.name_address-a.ensures c.name_length-n.ensures _ c.get_table-found.ensures
     c.clause_at-clause.ensures (omega (arith, c.well_formed.1.1.1.0.1)) _ c.in-At.is
-    c.from_table-scope.ensures c.build_where-filtered.ensures _ _ c.in_default-filtered.is
+    c.from_table-scope.ensures c.build_where.ensures _ c.in_err-m.was)
 
 pub end_update-requires : goal.end_update-requires
 end_update-requires c = record {
-  free = free-kept c.requires.free c.build_where-filtered.auto.area refl;
+  free = free-kept c.requires.free c.build_where.auto.area refl;
   few_sets = update-few-sets c.args.catalog.now c.args.statement.now c.args.tables.now c.args.cells.now c.args.parts.now
       (c.requires) _ _ c.name_address-a.ensures c.name_length-n.ensures _ c.get_table-found.ensures
       c.clause_at-clause.ensures (omega (arith, c.well_formed.1.1.1.0.1)) _ c.in-At.is
-      c.from_table-scope.ensures c.build_where-filtered.ensures _ c.in-Done.is;
+      c.from_table-scope.ensures c.build_where.ensures _ c.in_ok-m.was;
 }
 
 pub returns : goal.returns
 returns c = update-planned c.args.catalog.now c.args.statement.now c.args.tables.now c.args.cells.now c.args.parts.now
     (c.requires) _ _ c.name_address-a.ensures c.name_length-n.ensures _ c.get_table-found.ensures
     c.clause_at-clause.ensures (omega (arith, c.well_formed.1.1.1.0.1)) _ c.in-At.is
-    c.from_table-scope.ensures c.build_where-filtered.ensures _ c.in-Done.is c.end_update.ensures
+    c.from_table-scope.ensures c.build_where.ensures _ c.in_ok-m.was c.end_update.ensures
