@@ -1,9 +1,9 @@
 -- A statement that was read: what is known of it, and what is built of it by its kind.
-use Rattle.std.specs.Prelude.{ℕ, ◌≤◌, ◌≡◌, Bool, true, false, List, leb, length}
+use Rattle.std.specs.Prelude.{ℕ, ◌≤◌, ◌≡◌, Bool, true, false, List, leb, length, Err}
 use Rattle.std.proofs.Math.Path.{refl, ap}
 use Rattle.std.proofs.Common.{leb-true}
 use Rattle.std.proofs.lemmas.Bool.{false≢true}
-use Rattle.rules.specs.Refusals.{other_statement, refusal_number}
+use Rattle.rules.specs.Refusals.{other_statement}
 use Rattle.rules.specs.Limits.{least_area}
 use Rattle.rules.specs.Lists.{Bytes}
 use Rattle.rules.specs.Schema.{Catalog}
@@ -18,8 +18,9 @@ use Rattle.statement.specs.Access.{kind_number, line_at, from_rows, kind_of, sel
 use Rattle.statement.specs.Stays.{SectionsStay}
 use Rattle.statement.specs.declared.access.Kind.{Kind}
 use Rattle.statement.specs.declared.access.Kind.TheVariants as K
-use Rattle.plan.specs.declared.cells.Written.{Written}
-use Rattle.plan.specs.declared.cells.Written.TheVariants as W
+use Rattle.plan.specs.Emits.{Written}
+use Rattle.numbers.specs.Reasons.{named}
+use Rattle.numbers.specs.declared.refusals.Reason.TheVariants as Re
 use Rattle.build_statement.specs.Plans.{Ready, Plans}
 use Rattle.build_statement.specs.Kinds.{Free}
 use Rattle.build_statement.specs.Ends.{not-planned}
@@ -111,7 +112,8 @@ module _ (c q : Bytes) (cells froms parts : List ℕ) where
 
   -- none of the six
   pub other-plans : {area : List ℕ} {l : ℕ} (ts : Catalog) → K.Other ≡ kind_of (kind_number parts) → l ≡ line_at parts
-      → Plans (build_statement ts (statement_at c q cells froms parts)) area area (W.Refused 4 l)
-  unfolding statement_of build_statement refusal_number
-  other-plans {l = l} ts e f = not-planned other_statement (line_at parts) 4 l refl refl f
+      → Plans (build_statement ts (statement_at c q cells froms parts)) area area
+      (Err (record { reason = Re.OtherStatement; line = l }))
+  unfolding statement_of build_statement named
+  other-plans {l = l} ts e f = not-planned other_statement (line_at parts) Re.OtherStatement l refl refl f
       (ap (build_statement ts) (statement-kind c q cells froms parts K.Other e))

@@ -1,5 +1,5 @@
 -- What the entry answers, and the area at exit: those of the rules.
-use Rattle.std.specs.Prelude.{ℕ, ◌≤◌, ◌<◌, ◌≡◌, refl, List, length, replicate}
+use Rattle.std.specs.Prelude.{ℕ, ◌≤◌, ◌<◌, ◌≡◌, refl, List, length, replicate, Ok, Err}
 use Rattle.std.proofs.Common.{arith, sym, ap, ◌∙◌, lt-ltb}
 use Rattle.rules.specs.Refusals.{refusal_number, Refusal, Answer, ok, refused, ◌>>=◌}
 use Rattle.rules.specs.Limits.{least_area}
@@ -12,8 +12,9 @@ use Rattle.rules.specs.Entry as rules
 use Rattle.rules.specs.Entry.{text_number, refused_area, outcome, entry, plan}
 use Rattle.claims.specs.Refused.Entry.{statement-refusals}
 use Rattle.plan.specs.Exit.{refused-exit}
-use Rattle.plan.specs.declared.cells.Written.{Written}
-use Rattle.plan.specs.declared.cells.Written.TheVariants as W
+use Rattle.plan.specs.Emits.{Written}
+use Rattle.numbers.specs.Reasons.{reason_of, noted, reason-named}
+use Rattle.numbers.specs.declared.refusals.Refusal as code
 use Rattle.reader.specs.Texts.{read_texts}
 use Rattle.reader.specs.Entry.{planned, entry-reads}
 use Rattle.build_statement.specs.Plans.{planned_of, Plans}
@@ -49,23 +50,24 @@ refused-answer area₀ w e m k fx ft fl h = rw e (record {
 })
 
 -- A PLAN
-built-done : (a : Answer (Plan Built)) (n : ℕ) → W.Done n ≡ planned_of a → (p : Plan Built) × (a ≡ ok p)
+built-done : (a : Answer (Plan Built)) (n : ℕ) → ◌≡◌ {A = Written} (Ok n) (planned_of a) → (p : Plan Built) × (a ≡ ok p)
 unfolding planned_of
 built-done (ok p) n e = (p, refl)
 built-done (refused w) n e = absurd (let z : ◌≡◌ {A = ℕ} 0 1 = cc in omega arith)
 
-built-refused : (a : Answer (Plan Built)) (x l : ℕ) → W.Refused x l ≡ planned_of a → (w : Refusal) × (a ≡ refused w)
+built-refused : (a : Answer (Plan Built)) (v : code.Refusal) → ◌≡◌ {A = Written} (Err v) (planned_of a)
+    → (w : Refusal) × (a ≡ refused w)
 unfolding planned_of
-built-refused (ok p) x l e = absurd (let z : ◌≡◌ {A = ℕ} 0 1 = cc in omega arith)
-built-refused (refused w) x l e = (w, refl)
+built-refused (ok p) v e = absurd (let z : ◌≡◌ {A = ℕ} 0 1 = cc in omega arith)
+built-refused (refused w) v e = (w, refl)
 
 pub planned-answer : {a : Answer (Plan Built)} {area area' : List ℕ} {x : Written} {r : Outcome} (n : ℕ)
-    → Plans a area area' x → x ≡ W.Done n → r.number ≡ 0 → r.text ≡ 0 → r.line ≡ 0 → r.count ≡ n
+    → Plans a area area' x → x ≡ Ok n → r.number ≡ 0 → r.text ≡ 0 → r.line ≡ 0 → r.count ≡ n
     → Answers (outcome area a) r area'
 unfolding outcome planned_of
 planned-answer {a} {area} {area'} {x} {r} n h e en et el ec =
     let b = built-done a n (sym e ∙ h.answer) in
-    let f : W.Done n ≡ planned_of (ok b.0) = sym e ∙ h.answer ∙ ap planned_of b.1 in
+    let f : ◌≡◌ {A = Written} (Ok n) (planned_of (ok b.0)) = sym e ∙ h.answer ∙ ap planned_of b.1 in
     let z = h.exit b.0 b.1 in
     rw b.1 (record {
       number = en;
@@ -77,15 +79,16 @@ planned-answer {a} {area} {area'} {x} {r} n h e en et el ec =
 
 -- a statement that is refused is so in its own text
 pub building-refused : (ts : Catalog) (s : Statement) (area₀ : List ℕ) {area area' : List ℕ} {y : Written} {r : Outcome}
-    (x l : ℕ) → Plans (build_statement ts s) area₀ area y → y ≡ W.Refused x l → least_area ≤ length area₀
-    → Refused x 2 l area area' r → Answers (outcome area₀ (build_statement ts s)) r area'
+    (v : code.Refusal) (x : ℕ) → Plans (build_statement ts s) area₀ area y → y ≡ Err v → least_area ≤ length area₀
+    → x ≡ refusal_number (reason_of v.reason) → Refused x 2 v.line area area' r → Answers (outcome area₀ (build_statement ts s)) r area'
 unfolding planned_of text_number
-building-refused ts s area₀ {y = y} x l h e m z =
-    let b = built-refused (build_statement ts s) x l (sym e ∙ h.answer) in
+building-refused ts s area₀ {y = y} v x h e m n z =
+    let b = built-refused (build_statement ts s) v (sym e ∙ h.answer) in
     let w = b.0 in
-    let f : W.Refused x l ≡ W.Refused (refusal_number w.reason) w.line = sym e ∙ h.answer ∙ ap planned_of b.1 in
-    let fx : x ≡ refusal_number w.reason = cc in
-    let fl : l ≡ w.line = cc in
+    let f : ◌≡◌ {A = Written} (Err v) (Err (noted w)) = sym e ∙ h.answer ∙ ap planned_of b.1 in
+    let u : v ≡ noted w = cc in
+    let fx : x ≡ refusal_number w.reason = n ∙ rw (u, reason-named w.reason) in
+    let fl : v.line ≡ w.line = ap (λ (y : code.Refusal). y.line) u in
     let g = (statement-refusals ts s).refusal w b.1 in
     refused-answer area₀ w b.1 m h.kept fx (rw g.text) fl z
 

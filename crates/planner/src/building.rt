@@ -15,9 +15,8 @@ use build_statement::create::build_create_table;
 use build_statement::delete::build_delete;
 use build_statement::drop::build_drop_table;
 use build_update::update::build_update;
-use numbers::refusals::OTHER_STATEMENT;
+use numbers::refusals::{Reason, Refusal};
 use plan::NODES_SIZE;
-use plan::cells::Written;
 use statement::access::{Kind, from_rows, kind_of, line};
 
 // By its kind, with room for the nodes of any statement.
@@ -30,7 +29,7 @@ fn build_kind<'t>(
     parts: &[u32],
     area: &mut [u32],
     nodes: &mut [u32],
-) -> Written
+) -> Result<u32, Refusal>
     requires statement_ready { StatementReady catalog.now statement.now tables.now cells.old froms.now parts.now }
     requires cells_len { length cells.old ≡ table_size }
     requires free { Free area.old nodes.old }
@@ -43,11 +42,17 @@ fn build_kind<'t>(
     match kind {
         Kind::Select => build_select(catalog, statement, tables, cells, froms, parts, area, nodes),
         Kind::Create => build_create_table(catalog, statement, cells, parts, area, nodes),
-        Kind::Drop => build_drop_table(catalog, statement, parts, area, nodes),
+        Kind::Drop => {
+            build_drop_table(catalog, statement, parts, area, nodes);
+            Ok(0)
+        }
         Kind::Delete => build_delete(catalog, statement, tables, cells, parts, area, nodes),
         Kind::Insert => build_insert(catalog, statement, tables, cells, parts, area, nodes),
         Kind::Update => build_update(catalog, statement, tables, cells, parts, area, nodes),
-        Kind::Other => Written::Refused(OTHER_STATEMENT, line(parts)),
+        Kind::Other => Err(Refusal {
+            reason: Reason::OtherStatement,
+            line: line(parts),
+        }),
     }
 }
 
@@ -76,7 +81,7 @@ pub fn build<'t>(
     froms: &[u32],
     parts: &[u32],
     area: &mut [u32],
-) -> Written
+) -> Result<u32, Refusal>
     requires statement_ready { StatementReady catalog.now statement.now tables.now cells.old froms.now parts.now }
     requires cells_len { (length cells.old ≡ table_size) × (least_area ≤ length area.old) }
     ensures { Plans (build_statement

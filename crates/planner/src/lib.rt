@@ -15,8 +15,7 @@ ghost use Rattle.planner.specs.Outcomes.{built_of, Answers, Refused};
 ghost use Rattle.planner.specs.Kinds.{StatementReady};
 
 use building::build;
-use numbers::refusals::SHORT_AREA;
-use plan::cells::Written;
+use numbers::refusals::Reason;
 use plan::finish::{LAYOUT, clear};
 use reader::{STATEMENT, Texts, read_texts};
 use schema::NUMBERS;
@@ -66,15 +65,14 @@ fn plan_read<'t>(
         (statement_at catalog.now statement.now cells.old froms.now parts.now)))
         result area.new }
 {
-    let built = build(catalog, statement, tables, cells, froms, parts, area);
-    match built {
-        Written::Done(n) => Outcome {
+    match build(catalog, statement, tables, cells, froms, parts, area) {
+        Ok(n) => Outcome {
             number: 0,
             text: 0,
             line: 0,
             count: n,
         },
-        Written::Refused(x, l) => refuse(area, x, STATEMENT, l),
+        Err(refusal) => refuse(area, refusal.reason.number(), STATEMENT, refusal.line),
     }
 }
 
@@ -110,7 +108,7 @@ pub fn planner_plan<'t>(catalog: &'t [u8], statement: &'t [u8], area: &mut [u32]
 {
     if area.len() < LEAST_AREA {
         return Outcome {
-            number: SHORT_AREA,
+            number: Reason::ShortArea.number(),
             text: STATEMENT,
             line: 0,
             count: 0,

@@ -5,7 +5,7 @@ use Rattle.planner.specs.Outcomes.{entry-short, entry-long}
 use Rattle.planner.proofs.planner_plan.Goals as goal
 
 pub returns-then-area-lt-LEAST_AREA : goal.returns-then-area-lt-LEAST_AREA
-returns-then-area-lt-LEAST_AREA c = entry-short _ _ _ c.if-area-lt-LEAST_AREA.true refl refl refl refl
+returns-then-area-lt-LEAST_AREA c = entry-short _ _ _ c.if-area-lt-LEAST_AREA.true c.number.ensures refl refl refl
 
 pub returns-then-numbers_for-le-SMALL_NUMBERS : goal.returns-then-numbers_for-le-SMALL_NUMBERS
 returns-then-numbers_for-le-SMALL_NUMBERS c = entry-long _ _ _ (omega (arith, c.if-area-lt-LEAST_AREA.false)) c.plan_with.ensures
