@@ -5,7 +5,7 @@ use Rattle.std.proofs.Math.Path.{◌≡◌, sym, ap}
 use mathlib.Core.List.{List, [], ◌∷◌, ◌++◌, map, append_assoc}
 use Rattle.std.proofs.Math.ListN.{length, length-map, length-append, get_or-append}
 use Rattle.std.proofs.Math.Seq.{split_at}
-use Rattle.rules.specs.Refusals.{limit_passed, Answer, ok, ◌>>=◌, refuse, at_most}
+use Rattle.rules.specs.Refusals.{limit_passed, Answer, ok, ◌>>=◌, at_most}
 use Rattle.rules.specs.Limits.{most_columns}
 use Rattle.rules.specs.Lists.{Bytes}
 use Rattle.rules.specs.Ast.{Expr, line_of, size}

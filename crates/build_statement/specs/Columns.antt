@@ -23,7 +23,7 @@ use Rattle.claims.specs.Answers.{ensured, each-length}
 use Rattle.appends.specs.Answers.{bind_ok, bind-refused, ok_same, ok-not-refused}
 use Rattle.appends.specs.Area.{cells_numbers, records_numbers, create-area}
 use Rattle.appends.specs.Statements.Create.{create-key, columns-step, columns-refused}
-use Rattle.numbers.specs.Reasons.{named, told, noted, named-reason}
+use Rattle.numbers.specs.Reasons.{told, noted, named-reason}
 use Rattle.numbers.specs.declared.refusals.Refusal.{Refusal}
 use Rattle.schema.specs.Layout.{catalog_at}
 use Rattle.sections.specs.Layout.{section_at}

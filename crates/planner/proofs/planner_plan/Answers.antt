@@ -1,10 +1,13 @@
 -- `planner_plan`: a short area is untouched; else both texts are planned, with enough numbers for the catalog.
 use native.Mathlib.Omega.{arith}
 use mathlib.Core.Path.{refl}
+use Rattle.rules.specs.Refusals.{refusal_number}
+use Rattle.numbers.specs.Reasons.{reason_of}
 use Rattle.planner.specs.Outcomes.{entry-short, entry-long}
 use Rattle.planner.proofs.planner_plan.Goals as goal
 
 pub returns-then-area-lt-LEAST_AREA : goal.returns-then-area-lt-LEAST_AREA
+unfolding refusal_number reason_of
 returns-then-area-lt-LEAST_AREA c = entry-short _ _ _ c.if-area-lt-LEAST_AREA.true c.number.ensures refl refl refl
 
 pub returns-then-numbers_for-le-SMALL_NUMBERS : goal.returns-then-numbers_for-le-SMALL_NUMBERS

@@ -1,6 +1,5 @@
 -- `lists::build_groups`: row by row.
 use native.Mathlib.Omega.{arith}
-use mathlib.Core.Path.{◌∙◌}
 use Rattle.plan.specs.Emits.{exit}
 use Rattle.build_aggregate.specs.Entries.{rows-begin, rows-kept, rows_all, row_room, rows_more, rows-stop, rows-done}
 use Rattle.build_aggregate.specs.Kinds.{group_at}

@@ -1,6 +1,5 @@
 -- `orders::put_keys`: the cells and parts of the keys so far, and the keys that are left.
 use Rattle.build_clauses.specs.Keys.{putting-begin, keys_below, keys-past, room-here, space-here, putting-refused, putting-more, putting-end}
-use mathlib.Core.Path.{◌∙◌}
 use Rattle.plan.specs.Emits.{exit}
 use native.Mathlib.Omega.{arith}
 use Rattle.build_clauses.proofs.orders.put_keys.Goals as goal

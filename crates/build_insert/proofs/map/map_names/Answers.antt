@@ -1,6 +1,5 @@
 -- `map::map_names`: the names so far.
 use native.Mathlib.Omega.{arith}
-use mathlib.Core.Path.{refl}
 use Rattle.build_insert.specs.Map.{columns_of, map-none, map-all, name-unknown, name-repeated, name-mapped}
 use Rattle.build_insert.proofs.map.map_names.Goals as goal
 

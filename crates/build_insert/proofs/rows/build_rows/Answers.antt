@@ -1,7 +1,6 @@
 -- `rows::build_rows`: row by row.
 use Rattle.plan.specs.Emits.{exit}
 use native.Mathlib.Omega.{arith}
-use mathlib.Core.Path.{◌∙◌}
 use Rattle.build_insert.specs.Rows.{rows_none, rows-kept, rows_all, rows-room, rows-space, rows-stop, rows_more, rows-done}
 use Rattle.build_insert.proofs.rows.build_rows.Goals as goal
 

@@ -1,7 +1,6 @@
 -- `rows::build_values`: value by value.
 use Rattle.plan.specs.Emits.{exit}
 use native.Mathlib.Omega.{arith}
-use mathlib.Core.Path.{◌∙◌}
 use Rattle.build_insert.specs.Values.{values-none, values-kept, values-all, value_room, value-space, values-stop, values-more, values-done}
 use Rattle.build_insert.proofs.rows.build_values.Goals as goal
 

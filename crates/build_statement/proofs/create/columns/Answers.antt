@@ -1,7 +1,6 @@
 -- `create::columns`: the columns so far.
 use native.Mathlib.Omega.{arith}
 use Rattle.plan.specs.Emits.{exit}
-use mathlib.Core.Path.{◌∙◌}
 use Rattle.build_statement.specs.Columns.{so-far-none, in_use, still, so-far-step, so-far-stop, so-far-all}
 use Rattle.build_statement.proofs.create.columns.Goals as goal
 

@@ -1,7 +1,6 @@
 -- `sets::write_sets`: the sets so far.
 use native.Mathlib.Omega.{arith}
 use Rattle.plan.specs.Emits.{exit}
-use mathlib.Core.Path.{◌∙◌}
 use Rattle.build_update.specs.SoFar.{set_here_lem, sets-length, so-far-none, so-far-step, so-far-stop, so-far-all}
 use Rattle.build_update.specs.SoFar.{area-kept, nodes-kept, number-room, set_room}
 use Rattle.build_update.proofs.sets.write_sets.Goals as goal
