@@ -1,5 +1,5 @@
 -- The FROM clause: the room it takes and its contract, and the clause without items.
-use Rattle.std.specs.Prelude.{ℕ, ◌*◌, ◌≤◌, ◌<◌, ◌≡◌, refl, length}
+use Rattle.std.specs.Prelude.{ℕ, ◌*◌, ◌≤◌, ◌<◌, ◌≡◌, refl, length, Result, MatchResult, Ok}
 use Rattle.std.proofs.Common.{arith}
 use mathlib.Core.List.{List, [], ◌∷◌, append-nil}
 use Rattle.rules.specs.Refusals.{ok}
@@ -24,6 +24,7 @@ use Rattle.appends.specs.Area.{cells_numbers}
 use Rattle.appends.specs.From.Laid.{stage_of}
 use Rattle.appends.specs.From.Clause.{from-none}
 use Rattle.appends.specs.Room.Clauses.{room-from}
+use Rattle.numbers.specs.declared.refusals.Refusal.{Refusal}
 use Rattle.ast.specs.Table.{tree_at}
 use Rattle.schema.specs.Layout.{catalog_at}
 use Rattle.scope.specs.Labels.{columns_of}
@@ -33,7 +34,7 @@ use Rattle.scope.specs.declared.Scope.{Scope}
 use Rattle.plan.specs.Layout.{nodes_size, empty_row_size}
 use Rattle.plan.specs.Appended.{Appended}
 use Rattle.plan.specs.Cells.{Room}
-use Rattle.plan.specs.Steps.{Refuses, stands_one, Standing}
+use Rattle.plan.specs.Steps.{RefusedWith, stands_one, Standing}
 use Rattle.build_from.specs.declared.Source.{Source}
 
 -- ROOM
@@ -71,20 +72,20 @@ pub record ClauseAccepted (c q : Bytes) (ts cells : List ℕ) (fs : List From) (
   pub valid : Valid x.scope
   pub plain : Plain x.scope
   pub count : x.scope.count ≤ most_from_tables
-  pub some : 0 < x.m
-  pub few : x.m ≤ x.k
+  pub some : 0 < x.node
+  pub few : x.node ≤ x.used
   pub node : Node Built
   pub is : build_from_clause (catalog_at c q ts) fs ≡ ok (stage_of node (scope_of (tree_at c q cells) c q x.scope))
-  pub standing : Standing node x.n x.m x.k area nodes area' nodes'
+  pub standing : Standing node x.cell x.node x.used area nodes area' nodes'
   pub labelled : labels node ≡ columns_of c q (table_numbers x.scope) (labels_of x.scope)
   pub qualified : All IsQualified (columns_of c q (table_numbers x.scope) (labels_of x.scope))
 
 pub record ClauseBuilds (c q : Bytes) (ts cells : List ℕ) (fs : List From) (area nodes area' nodes' : List ℕ)
-    (x : Source) : Type 0 where
+    (r : Result Source Refusal) : Type 0 where
   pub kept : length area' ≡ length area
   pub kept-nodes : length nodes' ≡ length nodes
-  pub refused : (x.number ≡ 0 → ⊥) → Refuses (build_from_clause (catalog_at c q ts) fs) x.number x.line
-  pub accepted : x.number ≡ 0 → ClauseAccepted c q ts cells fs area nodes area' nodes' x
+  pub is : MatchResult r (ClauseAccepted c q ts cells fs area nodes area' nodes')
+      (RefusedWith (build_from_clause (catalog_at c q ts) fs))
 
 -- the labels of the node of an accepted clause
 module _ (c q : Bytes) (ts cells : List ℕ) (fs : List From) (s : Scope) (d : Node Built)
@@ -102,36 +103,36 @@ pub empty-room : {c q : Bytes} {ts : List ℕ} {fs : List From} {area nodes : Li
     → ClauseRoom c q ts fs area nodes → empty_row_size ≤ length nodes
 empty-room h = h.numbers.row
 
-pub clause-none : (c q : Bytes) (ts cells area : List ℕ) {nodes nodes' : List ℕ} (x : Source) → New x.scope
-    → x.number ≡ 0 → x.n ≡ 0 → x.m ≡ 1 → Appended (record_numbers (values ([] ∷ []))) 0 nodes x.k nodes'
-    → ClauseBuilds c q ts cells [] area nodes area nodes' x
+pub clause-none : (c q : Bytes) (ts cells area : List ℕ) {nodes nodes' : List ℕ} {s : Scope} {v : ℕ} → New s
+    → Appended (record_numbers (values ([] ∷ []))) 0 nodes v nodes'
+    → ClauseBuilds c q ts cells [] area nodes area nodes'
+    (Ok (record { scope = s; line = 0; cell = 0; node = 1; used = v }))
 unfolding cells_numbers concat
-clause-none c q ts cells area x s en ei em a =
+clause-none c q ts cells area {s = x} s a =
     let o = from-none (catalog_at c q ts) 0 0 in
-    let is : build_from_clause (catalog_at c q ts) [] ≡ ok (stage_of o.node (scope_of (tree_at c q cells) c q x.scope)) =
+    let is : build_from_clause (catalog_at c q ts) [] ≡ ok (stage_of o.node (scope_of (tree_at c q cells) c q x)) =
     rw (s.is (tree_at c q cells) c q) o.answer in
     let n : 1 ≤ length (record_numbers (values ([] ∷ []))) = unfold record_numbers sized in (omega arith) in
     record {
       kept = refl;
       kept-nodes = a.all;
-      refused = λ z. absurd (z en);
-      accepted = λ z. record {
+      is = record {
         valid = s.valid;
         plain = s.plain;
         count = s.valid.tables;
-        some = omega (arith, em);
-        few = omega (arith, em, n, a.next);
+        some = omega arith;
+        few = omega (arith, n, a.next);
         node = o.node;
         is = is;
         standing = record {
           cells = [];
           records = values ([] ∷ []) ∷ [];
-          lays = rw (ei, em) o.lays;
-          stands = stands_one _ (rw (ei, append-nil)) a;
+          lays = o.lays;
+          stands = stands_one _ (rw append-nil) a;
           kept = refl;
           kept-nodes = a.all;
         };
-        labelled = clause-labels c q ts cells [] x.scope o.node is;
-        qualified = clause-qualified c q ts cells [] x.scope o.node is;
+        labelled = clause-labels c q ts cells [] x o.node is;
+        qualified = clause-qualified c q ts cells [] x o.node is;
       };
     }

@@ -1,5 +1,5 @@
 -- A FROM item by its row: a table, or a join whose sides are the items in the rows before it; and the room for each.
-use Rattle.std.specs.Prelude.{ℕ, ◌+◌, ◌*◌, ◌≤◌, ◌≡◌, refl, Bool, true, false, List}
+use Rattle.std.specs.Prelude.{ℕ, ◌+◌, ◌*◌, ◌≤◌, ◌≡◌, refl, Bool, true, false, List, Result, Ok, Err}
 use Rattle.std.proofs.Common.{arith, ◌∙◌}
 use Rattle.std.proofs.Math.Option.{Option}
 use Rattle.rules.specs.Lists.{Bytes}
@@ -17,6 +17,7 @@ use Rattle.claims.specs.Room.Nodes.{table_room, join_room}
 use Rattle.appends.specs.From.Laid.{source_of}
 use Rattle.appends.specs.From.Sides.{sides_first, sides-second}
 use Rattle.appends.specs.Room.From.{item-next, item-numbers}
+use Rattle.numbers.specs.declared.refusals.Refusal.{Refusal}
 use Rattle.ast.specs.Table.{tree_at}
 use Rattle.schema.specs.Layout.{catalog_at}
 use Rattle.scope.specs.Scopes.{scope_of}
@@ -24,7 +25,7 @@ use Rattle.from.specs.Layout.{from_at}
 use Rattle.from.specs.Access.{line_at, kind_at, left_side, right_side}
 use Rattle.from.specs.declared.row.Kind.TheVariants as K
 use Rattle.plan.specs.Room.{laid-in-use}
-use Rattle.plan.specs.Steps.{Refuses, refuses-on}
+use Rattle.plan.specs.Steps.{RefusedWith, refused-on}
 use Rattle.build_from.specs.Sources.{Laid, ItemRoom, Accepted, Builds}
 use Rattle.build_from.specs.Tables.{table_row}
 use Rattle.build_from.specs.Merges.{merge-empty}
@@ -68,7 +69,7 @@ module _ (c q : Bytes) (ts cells froms : List ℕ) (r : ℕ) {n m k : ℕ} {area
         → ItemRoom c q ts (table_row c q froms r) n m k area nodes
     item-table-room h = rw (from-table c q cells froms r e) at h
 
-    pub item-table : {area' nodes' : List ℕ} {x : Source}
+    pub item-table : {area' nodes' : List ℕ} {x : Result Source Refusal}
         → Builds c q ts cells (table_row c q froms r) n m k area nodes area' nodes' x
         → Builds c q ts cells (from_at c q cells froms r) n m k area nodes area' nodes' x
     item-table h = rw (from-table c q cells froms r e) h
@@ -97,110 +98,111 @@ module _ (c q : Bytes) (ts cells froms : List ℕ) (r : ℕ) {n m k : ℕ} {area
     }
 
     -- a refusal of the first side
-    whole-refused : {z l : ℕ} → Refuses (build_sides (predicate_in c q cells froms r)
+    whole-refused : {w : Refusal} → RefusedWith (build_sides (predicate_in c q cells froms r)
         (build_from (catalog_at c q ts) (from_at c q cells froms x)) (build_from (catalog_at c q ts) (from_at c q cells froms y)))
-        z l → Refuses (build_from (catalog_at c q ts) (from_at c q cells froms r)) z l
+        w → RefusedWith (build_from (catalog_at c q ts) (from_at c q cells froms r)) w
     whole-refused d = rw (from-join c q cells froms r s.join)
-        (refuses-on (rw (first-tree c q cells froms r s, second-tree c q cells froms r s) at d)
+        (refused-on (rw (first-tree c q cells froms r s, second-tree c q cells froms r s) at d)
         (sides-refused (catalog_at c q ts) (line_at froms r) (join_at froms r) (left_side c q cells froms r)
         (right_side c q cells froms r) (predicate_in c q cells froms r)))
 
+    pub first-refused : {area₁ nodes₁ : List ℕ} {w : Refusal}
+        → Builds c q ts cells (from_at c q cells froms x) n m k area nodes area₁ nodes₁ (Err w)
+        → Builds c q ts cells (from_at c q cells froms r) n m k area nodes area₁ nodes₁ (Err w)
+    first-refused d = record {
+      kept = d.kept;
+      kept-nodes = d.kept-nodes;
+      is = whole-refused (refused-on d.is (sides_first (predicate_in c q cells froms r) _ _));
+    }
+
     module _ {area₁ nodes₁ : List ℕ} {a : Source}
-        (d : Builds c q ts cells (from_at c q cells froms x) n m k area nodes area₁ nodes₁ a) where
-      pub first-refused : (a.number ≡ 0 → ⊥)
-          → Builds c q ts cells (from_at c q cells froms r) n m k area nodes area₁ nodes₁ a
-      first-refused z = record {
-        kept = d.kept;
-        kept-nodes = d.kept-nodes;
-        refused = λ w. whole-refused (refuses-on (d.refused z) (sides_first (predicate_in c q cells froms r) _ _));
-        accepted = λ w. absurd (z w);
-      }
+        (d : Builds c q ts cells (from_at c q cells froms x) n m k area nodes area₁ nodes₁ (Ok a)) where
+      abbrev built : Accepted c q ts cells (from_at c q cells froms x) n m k area nodes area₁ nodes₁ a
+      built = d.is
 
-      module _ (z : a.number ≡ 0) where
-        abbrev built : Accepted c q ts cells (from_at c q cells froms x) n m k area nodes area₁ nodes₁ a
-        built = d.accepted z
-
-        pub second-room : ItemRoom c q ts (from_at c q cells froms y) a.n a.m a.k area₁ nodes₁
-        second-room =
-            let i = laid_cells (catalog_at c q ts) (from_at c q cells froms x) built.laid in
-            let j = laid-numbers (catalog_at c q ts) (from_at c q cells froms x) built.laid in
-            record {
-              statement = h.statement;
-              within = h.within;
-              parts = (sides.parts _ _ h.parts).1;
-              tables = omega (arith, h.tables, sides.tables);
-              cells = record {
-                counted = omega (arith, h.cells.counted, sides.cells, i);
-                held = omega (arith, h.cells.held, sides.cells, i, d.kept);
-              };
-              numbers = omega (arith, h.numbers, sides.tables, j, d.kept-nodes);
-              most = omega (arith, h.most, d.kept-nodes);
-              few = built.few;
-            }
-
-        module _ {area₂ nodes₂ : List ℕ} {b : Source}
-            (e : Builds c q ts cells (from_at c q cells froms y) a.n a.m a.k area₁ nodes₁ area₂ nodes₂ b) where
-          pub second-refused : (b.number ≡ 0 → ⊥)
-              → Builds c q ts cells (from_at c q cells froms r) n m k area nodes area₂ nodes₂ b
-          second-refused w = record {
-            kept = e.kept ∙ d.kept;
-            kept-nodes = e.kept-nodes ∙ d.kept-nodes;
-            refused = λ v. whole-refused (refuses-on (e.refused w)
-                (sides-second (predicate_in c q cells froms r) _ _ (scope_of (tree_at c q cells) c q a.scope) a.line n m
-                built.laid.cells built.laid.records a.n a.m built.laid.is
-                (scope_of (tree_at c q cells) c q a.scope)
-                (merge-empty (tree_at c q cells) c q a.scope a.line built.valid built.plain)));
-            accepted = λ v. absurd (w v);
+      pub second-room : ItemRoom c q ts (from_at c q cells froms y) a.cell a.node a.used area₁ nodes₁
+      second-room =
+          let i = laid_cells (catalog_at c q ts) (from_at c q cells froms x) built.laid in
+          let j = laid-numbers (catalog_at c q ts) (from_at c q cells froms x) built.laid in
+          record {
+            statement = h.statement;
+            within = h.within;
+            parts = (sides.parts _ _ h.parts).1;
+            tables = omega (arith, h.tables, sides.tables);
+            cells = record {
+              counted = omega (arith, h.cells.counted, sides.cells, i);
+              held = omega (arith, h.cells.held, sides.cells, i, d.kept);
+            };
+            numbers = omega (arith, h.numbers, sides.tables, j, d.kept-nodes);
+            most = omega (arith, h.most, d.kept-nodes);
+            few = built.few;
           }
 
-          module _ (w : b.number ≡ 0) where
-            abbrev other : Accepted c q ts cells (from_at c q cells froms y) a.n a.m a.k area₁ nodes₁ area₂ nodes₂ b
-            other = e.accepted w
+      pub second-refused : {area₂ nodes₂ : List ℕ} {w : Refusal}
+          → Builds c q ts cells (from_at c q cells froms y) a.cell a.node a.used area₁ nodes₁ area₂ nodes₂ (Err w)
+          → Builds c q ts cells (from_at c q cells froms r) n m k area nodes area₂ nodes₂ (Err w)
+      second-refused e = record {
+        kept = e.kept ∙ d.kept;
+        kept-nodes = e.kept-nodes ∙ d.kept-nodes;
+        is = whole-refused (refused-on e.is
+            (sides-second (predicate_in c q cells froms r) _ _ (scope_of (tree_at c q cells) c q a.scope) a.line n m
+            built.laid.cells built.laid.records a.cell a.node built.laid.is
+            (scope_of (tree_at c q cells) c q a.scope)
+            (merge-empty (tree_at c q cells) c q a.scope a.line built.valid built.plain)));
+      }
 
-            pub join-room : JoinRoom c q cells froms r a b area₂ nodes₂
-            join-room =
-                let i = laid_cells (catalog_at c q ts) (from_at c q cells froms x) built.laid in
-                let j = laid-numbers (catalog_at c q ts) (from_at c q cells froms x) built.laid in
-                let i' = laid_cells (catalog_at c q ts) (from_at c q cells froms y) other.laid in
-                let j' = laid-numbers (catalog_at c q ts) (from_at c q cells froms y) other.laid in
-                record {
-                  scopes = record {
-                    valid = built.valid;
-                    plain = built.plain;
-                    other = other.valid;
-                    other-plain = other.plain;
-                    tables = omega (arith, built.count, other.count, sides.tables, h.tables);
-                  };
-                  room = record {
-                    counted = omega (arith, h.cells.counted, sides.cells, i, i');
-                    held = omega (arith, h.cells.held, sides.cells, i, i', d.kept, e.kept);
-                  };
-                  numbers = omega (arith, h.numbers, sides.tables, j, j', d.kept-nodes, e.kept-nodes);
-                  most = omega (arith, h.most, d.kept-nodes, e.kept-nodes);
-                  first = omega (arith, built.more);
-                  second = omega (arith, other.more);
-                  few = other.few;
-                }
+      module _ {area₂ nodes₂ : List ℕ} {b : Source}
+          (e : Builds c q ts cells (from_at c q cells froms y) a.cell a.node a.used area₁ nodes₁ area₂ nodes₂ (Ok b)) where
+        abbrev other : Accepted c q ts cells (from_at c q cells froms y) a.cell a.node a.used area₁ nodes₁ area₂ nodes₂ b
+        other = e.is
 
-            both-in : OrderIn c q cells froms r (catalog_at c q ts) (left_side c q cells froms r) (right_side c q cells froms r)
-                a b n m k area nodes area₂ nodes₂
-            both-in = rw (← first-tree c q cells froms r s, ← second-tree c q cells froms r s)
-                (record { area₁ = area₁; nodes₁ = nodes₁; first = built.laid; second = other.laid })
-
-            pub item-join : {area₃ nodes₃ : List ℕ} {z' : Source}
-                → Joins c q cells froms r a b area₂ nodes₂ area₃ nodes₃ z'
-                → Builds c q ts cells (from_at c q cells froms r) n m k area nodes area₃ nodes₃ z'
-            item-join g = record {
-              kept = g.kept ∙ e.kept ∙ d.kept;
-              kept-nodes = g.kept-nodes ∙ e.kept-nodes ∙ d.kept-nodes;
-              refused = λ v. rw (from-join c q cells froms r s.join)
-                  (g.refused v (catalog_at c q ts) _ _ n m k area nodes both-in);
-              accepted = λ v. let t = g.accepted v in record {
-                valid = t.valid;
-                plain = t.plain;
-                count = omega (arith, t.count, built.count, other.count, sides.tables);
-                more = omega (arith, t.more, other.more, built.more);
-                few = t.few;
-                laid = rw (from-join c q cells froms r s.join) (t.laid (catalog_at c q ts) _ _ n m k area nodes both-in);
+        pub join-room : JoinRoom c q cells froms r a b area₂ nodes₂
+        join-room =
+            let i = laid_cells (catalog_at c q ts) (from_at c q cells froms x) built.laid in
+            let j = laid-numbers (catalog_at c q ts) (from_at c q cells froms x) built.laid in
+            let i' = laid_cells (catalog_at c q ts) (from_at c q cells froms y) other.laid in
+            let j' = laid-numbers (catalog_at c q ts) (from_at c q cells froms y) other.laid in
+            record {
+              scopes = record {
+                valid = built.valid;
+                plain = built.plain;
+                other = other.valid;
+                other-plain = other.plain;
+                tables = omega (arith, built.count, other.count, sides.tables, h.tables);
               };
+              room = record {
+                counted = omega (arith, h.cells.counted, sides.cells, i, i');
+                held = omega (arith, h.cells.held, sides.cells, i, i', d.kept, e.kept);
+              };
+              numbers = omega (arith, h.numbers, sides.tables, j, j', d.kept-nodes, e.kept-nodes);
+              most = omega (arith, h.most, d.kept-nodes, e.kept-nodes);
+              first = omega (arith, built.more);
+              second = omega (arith, other.more);
+              few = other.few;
             }
+
+        both-in : OrderIn c q cells froms r (catalog_at c q ts) (left_side c q cells froms r) (right_side c q cells froms r)
+            a b n m k area nodes area₂ nodes₂
+        both-in = rw (← first-tree c q cells froms r s, ← second-tree c q cells froms r s)
+            (record { area₁ = area₁; nodes₁ = nodes₁; first = built.laid; second = other.laid })
+
+        pub item-join : {area₃ nodes₃ : List ℕ} (z : Result Source Refusal)
+            → Joins c q cells froms r a b area₂ nodes₂ area₃ nodes₃ z
+            → Builds c q ts cells (from_at c q cells froms r) n m k area nodes area₃ nodes₃ z
+        item-join (Err w) g = record {
+          kept = g.kept ∙ e.kept ∙ d.kept;
+          kept-nodes = g.kept-nodes ∙ e.kept-nodes ∙ d.kept-nodes;
+          is = rw (from-join c q cells froms r s.join) (g.is (catalog_at c q ts) _ _ n m k area nodes both-in);
+        }
+        item-join (Ok z) g = record {
+          kept = g.kept ∙ e.kept ∙ d.kept;
+          kept-nodes = g.kept-nodes ∙ e.kept-nodes ∙ d.kept-nodes;
+          is = record {
+            valid = g.is.valid;
+            plain = g.is.plain;
+            count = omega (arith, g.is.count, built.count, other.count, sides.tables);
+            more = omega (arith, g.is.more, other.more, built.more);
+            few = g.is.few;
+            laid = rw (from-join c q cells froms r s.join) (g.is.laid (catalog_at c q ts) _ _ n m k area nodes both-in);
+          };
+        }

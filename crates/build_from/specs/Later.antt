@@ -1,5 +1,5 @@
 -- A later item of the FROM clause behind the clause so far: its scope merged into the clause's, and the join of both.
-use Rattle.std.specs.Prelude.{ℕ, ◌+◌, ◌-◌, ◌*◌, ◌≤◌, ◌<◌, pred, ◌≡◌, refl, false, List, [], ◌∷◌, ◌++◌, length}
+use Rattle.std.specs.Prelude.{ℕ, ◌+◌, ◌-◌, ◌*◌, ◌≤◌, ◌<◌, pred, ◌≡◌, refl, false, List, [], ◌∷◌, ◌++◌, length, Result, MatchResult, Ok, Err}
 use Rattle.std.proofs.Common.{arith, sym, ap, ◌∙◌}
 use Rattle.std.proofs.Math.Numerals.{sub-one}
 use Rattle.std.proofs.Math.Option.{Option, none}
@@ -23,6 +23,7 @@ use Rattle.appends.specs.Answers.{bind_ok, bind-refused}
 use Rattle.appends.specs.Nodes.Lays.{Lays}
 use Rattle.appends.specs.From.Laid.{stage_of}
 use Rattle.appends.specs.From.Clause.{later-end, later-refused, later-merge, later-step, later-lays}
+use Rattle.numbers.specs.declared.refusals.Refusal as code
 use Rattle.ast.specs.Table.{tree_at}
 use Rattle.schema.specs.Layout.{catalog_at}
 use Rattle.scope.specs.Scopes.{scope_of, Valid, Plain}
@@ -30,13 +31,12 @@ use Rattle.scope.specs.declared.Scope.{Scope}
 use Rattle.plan.specs.Layout.{join_size}
 use Rattle.plan.specs.Appended.{Appended}
 use Rattle.plan.specs.Records.{records-on}
-use Rattle.plan.specs.Steps.{refuses-on, Lies, Taken, NotTaken}
+use Rattle.plan.specs.Steps.{refused-on, Lies, Taken, StoppedWith}
 use Rattle.build_from.specs.Sources.{ItemRoom, Accepted, Builds}
 use Rattle.build_from.specs.Merges.{TwoScopes, Merges}
 use Rattle.build_from.specs.Joins.{join-size}
 use Rattle.build_from.specs.Items.{laid_cells, laid-numbers}
 use Rattle.build_from.specs.declared.Source.{Source}
-use Rattle.build_from.specs.declared.merges.Both.{Both}
 
 -- THE RULE
 -- one item behind a node with scope s
@@ -76,54 +76,50 @@ module _ (cat : Catalog) (f : From) (fs : List From) (r : Stage) where
 pub record LaterRoom (c q : Bytes) (ts : List ℕ) (f : From) (a : Source) (area nodes : List ℕ) : Type 0 where
   pub valid : Valid a.scope
   pub plain : Plain a.scope
-  pub some : 0 < a.m
+  pub some : 0 < a.node
   pub tables : a.scope.count + from_tables f ≤ most_from_tables
-  pub item : ItemRoom c q ts f a.n a.m a.k area nodes
-  pub numbers : a.k + table_room * from_tables f ≤ length nodes
+  pub item : ItemRoom c q ts f a.cell a.node a.used area nodes
+  pub numbers : a.used + table_room * from_tables f ≤ length nodes
 
 pub record LaterAccepted (c q : Bytes) (ts cells : List ℕ) (f : From) (a : Source) (area nodes area' nodes' : List ℕ)
     (x : Source) : Type 0 where
   pub valid : Valid x.scope
   pub plain : Plain x.scope
   pub count : x.scope.count ≡ a.scope.count + from_tables f
-  pub more : a.m < x.m
-  pub few : x.m ≤ x.k
-  pub next : x.n ≤ a.n + 3 * from_size f
-  pub numbers : x.k ≤ a.k + table_room * from_tables f
+  pub more : a.node < x.node
+  pub few : x.node ≤ x.used
+  pub next : x.cell ≤ a.cell + 3 * from_size f
+  pub numbers : x.used ≤ a.used + table_room * from_tables f
   pub taken : Taken (λ d. stage_of d (scope_of (tree_at c q cells) c q x.scope))
       (later_item (catalog_at c q ts) f (scope_of (tree_at c q cells) c q a.scope))
-      a.n a.m a.k area nodes x.n x.m x.k area' nodes'
+      a.cell a.node a.used area nodes x.cell x.node x.used area' nodes'
 
 pub record LaterBuilds (c q : Bytes) (ts cells : List ℕ) (f : From) (a : Source) (area nodes area' nodes' : List ℕ)
-    (x : Source) : Type 0 where
+    (r : Result Source code.Refusal) : Type 0 where
   pub kept : length area' ≡ length area
   pub kept-nodes : length nodes' ≡ length nodes
-  pub refused : (x.number ≡ 0 → ⊥)
-      → NotTaken (later_item (catalog_at c q ts) f (scope_of (tree_at c q cells) c q a.scope))
-      a.n a.m x.number x.line
-  pub accepted : x.number ≡ 0 → LaterAccepted c q ts cells f a area nodes area' nodes' x
+  pub is : MatchResult r (LaterAccepted c q ts cells f a area nodes area' nodes')
+      (StoppedWith (later_item (catalog_at c q ts) f (scope_of (tree_at c q cells) c q a.scope)) a.cell a.node)
 
 -- THE RETURNS
 module _ {c q : Bytes} {ts cells : List ℕ} {f : From} {a : Source} {area nodes : List ℕ}
-    (h : LaterRoom c q ts f a area nodes) {area₁ nodes₁ : List ℕ} {b : Source}
-    (d : Builds c q ts cells f a.n a.m a.k area nodes area₁ nodes₁ b) where
+    (h : LaterRoom c q ts f a area nodes) {area₁ nodes₁ : List ℕ} where
   abbrev scopes : Scope → rules.Scope
   scopes s = scope_of (tree_at c q cells) c q s
 
-  pub later-unbuilt : (b.number ≡ 0 → ⊥) → LaterBuilds c q ts cells f a area nodes area₁ nodes₁ b
-  later-unbuilt z = record {
+  pub later-unbuilt : {w : code.Refusal} → Builds c q ts cells f a.cell a.node a.used area nodes area₁ nodes₁ (Err w)
+      → LaterBuilds c q ts cells f a area nodes area₁ nodes₁ (Err w)
+  later-unbuilt d = record {
     kept = d.kept;
     kept-nodes = d.kept-nodes;
-    refused = λ w n cs rs l. refuses-on (d.refused z)
-        (later-refused (catalog_at c q ts) n (scopes a.scope) 0 0 cs rs a.n a.m l f []);
-    accepted = λ w. absurd (z w);
+    is = λ n cs rs l. refused-on d.is (later-refused (catalog_at c q ts) n (scopes a.scope) 0 0 cs rs a.cell a.node l f []);
   }
 
-  module _ (z : b.number ≡ 0) where
-    abbrev built : Accepted c q ts cells f a.n a.m a.k area nodes area₁ nodes₁ b
-    built = d.accepted z
+  module _ {b : Source} (d : Builds c q ts cells f a.cell a.node a.used area nodes area₁ nodes₁ (Ok b)) where
+    abbrev built : Accepted c q ts cells f a.cell a.node a.used area nodes area₁ nodes₁ b
+    built = d.is
 
-    in_use : b.k + join_size ≤ a.k + table_room * from_tables f
+    in_use : b.used + join_size ≤ a.used + table_room * from_tables f
     in_use = omega (arith, laid-numbers (catalog_at c q ts) f built.laid)
 
     pub later-scopes : TwoScopes a.scope b.scope
@@ -136,78 +132,76 @@ module _ {c q : Bytes} {ts cells : List ℕ} {f : From} {a : Source} {area nodes
     }
 
     -- room for the join, and for its node among the numbers of 32 bits
-    pub later-join-room : (b.k + join_size ≤ length nodes₁) × (0 < b.m) × (b.m + 1 < 4294967296)
+    pub later-join-room : (b.used + join_size ≤ length nodes₁) × (0 < b.node) × (b.node + 1 < 4294967296)
     later-join-room = (
       omega (arith, in_use, h.numbers, d.kept-nodes),
       omega (arith, built.more),
       omega (arith, in_use, h.numbers, h.item.most, built.few),
     )
 
-    module _ {m : Both} (g : Merges c q a.scope b.scope m) where
-      pub later-unmerged : (x : Source) → (m.number ≡ 0 → ⊥) → x.number ≡ m.number → x.line ≡ b.line
-          → LaterBuilds c q ts cells f a area nodes area₁ nodes₁ x
-      later-unmerged x y en el = record {
-        kept = d.kept;
-        kept-nodes = d.kept-nodes;
-        refused = λ w n cs rs l. rw (en, el) (refuses-on (g.refused y (tree_at c q cells) b.line)
-            (later-merge (catalog_at c q ts) n (scopes a.scope) 0 0 cs rs a.n a.m l f []
-            (scopes b.scope) b.line built.laid.cells built.laid.records b.n b.m built.laid.is));
-        accepted = λ w. absurd (y (sym en ∙ w));
+    pub later-unmerged : {w : code.Refusal} → Merges c q a.scope b.scope b.line (Err w)
+        → LaterBuilds c q ts cells f a area nodes area₁ nodes₁ (Err w)
+    later-unmerged g = record {
+      kept = d.kept;
+      kept-nodes = d.kept-nodes;
+      is = λ n cs rs l. refused-on (g.is (tree_at c q cells))
+          (later-merge (catalog_at c q ts) n (scopes a.scope) 0 0 cs rs a.cell a.node l f []
+          (scopes b.scope) b.line built.laid.cells built.laid.records b.cell b.node built.laid.is);
+    }
+
+    module _ {s : Scope} (g : Merges c q a.scope b.scope b.line (Ok s)) {v : ℕ} {nodes' : List ℕ}
+        (j : (x : Option ℕ) → option_number x ≡ 0
+        → Appended (record_numbers (join (a.node - 1) (b.node - 1) x false)) b.used nodes₁ v nodes') where
+      laid_join : Appended (record_numbers (join (pred a.node) (pred b.node) none false)) b.used nodes₁ v nodes'
+      unfolding option_number
+      laid_join = rw (sub-one a.node, sub-one b.node) at (j none refl)
+
+      joined-in-use : v ≡ b.used + join_size
+      joined-in-use = laid_join.next ∙ ap (λ n. b.used + n) (join-size _ _ _ _)
+
+      later-taken : Taken (λ n. stage_of n (scopes s)) (later_item (catalog_at c q ts) f (scopes a.scope))
+          a.cell a.node a.used area nodes b.cell (b.node + 1) v area₁ nodes'
+      later-taken = record {
+        cells = built.laid.cells;
+        records = built.laid.records ++ (join (pred a.node) (pred b.node) none false ∷ []);
+        lies = lies;
+        stands = record {
+          cells = built.laid.stands.cells;
+          records = records-on built.laid.records _ built.laid.stands.records laid_join;
+        };
       }
+        where
+          lies : (n : Node Built) (cs : List Cell) (rs : List NodeRecord) → Lays 0 0 n cs rs a.cell a.node
+              → Lies (λ n. stage_of n (scopes s)) (later_item (catalog_at c q ts) f (scopes a.scope) n)
+              (cs ++ built.laid.cells)
+              (rs ++ (built.laid.records ++ (join (pred a.node) (pred b.node) none false ∷ []))) b.cell (b.node + 1)
+          lies n cs rs l =
+              let cat = catalog_at c q ts in
+              let o = built.laid in
+              let e = later-end cat (P.join n o.is.node none false) (scopes s) 0 0 _ _ b.cell (b.node + 1)
+              (later-lays cat n (scopes a.scope) 0 0 cs rs a.cell a.node l f [] (scopes b.scope) b.line
+              o.cells o.records b.cell b.node o.is) in
+              record {
+                node = e.node;
+                answer = later-step cat n (scopes a.scope) 0 0 cs rs a.cell a.node l f [] (scopes b.scope) b.line
+                    o.cells o.records b.cell b.node o.is (scopes s)
+                    (g.is.is (tree_at c q cells) b.line) ∙ e.answer;
+                lays = e.lays;
+              }
 
-      module _ (y : m.number ≡ 0) {v : ℕ} {nodes' : List ℕ} (j : (x : Option ℕ) → option_number x ≡ 0
-          → Appended (record_numbers (join (a.m - 1) (b.m - 1) x false)) b.k nodes₁ v nodes') where
-        laid_join : Appended (record_numbers (join (pred a.m) (pred b.m) none false)) b.k nodes₁ v nodes'
-        unfolding option_number
-        laid_join = rw (sub-one a.m, sub-one b.m) at (j none refl)
-
-        joined-in-use : v ≡ b.k + join_size
-        joined-in-use = laid_join.next ∙ ap (λ n. b.k + n) (join-size _ _ _ _)
-
-        later-taken : Taken (λ n. stage_of n (scopes m.scope)) (later_item (catalog_at c q ts) f (scopes a.scope))
-            a.n a.m a.k area nodes b.n (b.m + 1) v area₁ nodes'
-        later-taken = record {
-          cells = built.laid.cells;
-          records = built.laid.records ++ (join (pred a.m) (pred b.m) none false ∷ []);
-          lies = lies;
-          stands = record {
-            cells = built.laid.stands.cells;
-            records = records-on built.laid.records _ built.laid.stands.records laid_join;
-          };
-        }
-          where
-            lies : (n : Node Built) (cs : List Cell) (rs : List NodeRecord) → Lays 0 0 n cs rs a.n a.m
-                → Lies (λ n. stage_of n (scopes m.scope)) (later_item (catalog_at c q ts) f (scopes a.scope) n)
-                (cs ++ built.laid.cells)
-                (rs ++ (built.laid.records ++ (join (pred a.m) (pred b.m) none false ∷ []))) b.n (b.m + 1)
-            lies n cs rs l =
-                let cat = catalog_at c q ts in
-                let o = built.laid in
-                let e = later-end cat (P.join n o.is.node none false) (scopes m.scope) 0 0 _ _ b.n (b.m + 1)
-                (later-lays cat n (scopes a.scope) 0 0 cs rs a.n a.m l f [] (scopes b.scope) b.line
-                o.cells o.records b.n b.m o.is) in
-                record {
-                  node = e.node;
-                  answer = later-step cat n (scopes a.scope) 0 0 cs rs a.n a.m l f [] (scopes b.scope) b.line
-                      o.cells o.records b.n b.m o.is (scopes m.scope)
-                      ((g.accepted y).is (tree_at c q cells) b.line) ∙ e.answer;
-                  lays = e.lays;
-                }
-
-        pub later-joined : (x : Source) → x.scope ≡ m.scope → x.number ≡ 0 → x.n ≡ b.n → x.m ≡ b.m + 1
-            → x.k ≡ v → LaterBuilds c q ts cells f a area nodes area₁ nodes' x
-        later-joined x es en ei em ek = record {
-          kept = d.kept;
-          kept-nodes = laid_join.all ∙ d.kept-nodes;
-          refused = λ w. absurd (w en);
-          accepted = λ w. record {
-            valid = rw es (g.accepted y).valid;
-            plain = rw es (g.accepted y).plain;
-            count = rw es ((g.accepted y).count ∙ ap (λ n. a.scope.count + n) built.count);
-            more = omega (arith, em, built.more);
-            few = omega (arith, em, ek, joined-in-use, built.few);
-            next = omega (arith, ei, laid_cells (catalog_at c q ts) f built.laid);
-            numbers = omega (arith, ek, joined-in-use, in_use);
-            taken = rw (es, ei, em, ek) later-taken;
-          };
-        }
+      pub later-joined : LaterBuilds c q ts cells f a area nodes area₁ nodes'
+          (Ok (record { scope = s; line = b.line; cell = b.cell; node = b.node + 1; used = v }))
+      later-joined = record {
+        kept = d.kept;
+        kept-nodes = laid_join.all ∙ d.kept-nodes;
+        is = record {
+          valid = g.is.valid;
+          plain = g.is.plain;
+          count = g.is.count ∙ ap (λ n. a.scope.count + n) built.count;
+          more = omega (arith, built.more);
+          few = omega (arith, joined-in-use, built.few);
+          next = omega (arith, laid_cells (catalog_at c q ts) f built.laid);
+          numbers = omega (arith, joined-in-use, in_use);
+          taken = later-taken;
+        };
+      }

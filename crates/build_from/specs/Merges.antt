@@ -1,13 +1,13 @@
 -- The scopes of a join's sides merged, or refused: 6 a table name held by both, then 3 too many columns. Merged into the
 -- empty scope, a scope stays as it is.
-use Rattle.std.specs.Prelude.{ℕ, ◌+◌, ◌≤◌, ◌≡◌, Bool, ltb, take, ⊤, Result, Ok, Err}
+use Rattle.std.specs.Prelude.{ℕ, ◌+◌, ◌≤◌, ◌≡◌, Bool, ltb, take, ⊤, Result, MatchResult, Ok, Err}
 use native.Mathlib.Omega.{arith}
 use Rattle.std.proofs.Math.Path.{refl, sym, ap}
 use Rattle.std.proofs.Common.{◌∙◌, length-take-le}
 use Rattle.std.proofs.Math.Bool.{true, false}
 use mathlib.Core.List.{List, [], ◌∷◌}
 use borrow.Author.Tests.{le-ltb, ltb-false}
-use Rattle.rules.specs.Refusals.{ok, refuse, refuse_if, ◌>>=◌, ◌>>◌, refusal_number, limit_passed, duplicate_table}
+use Rattle.rules.specs.Refusals.{ok, refuse, refuse_if, ◌>>=◌, ◌>>◌, limit_passed, duplicate_table}
 use Rattle.rules.specs.Limits.{most_columns, most_from_tables}
 use Rattle.rules.specs.Lists.{Bytes, any}
 use Rattle.rules.specs.Lines.{Word}
@@ -19,17 +19,16 @@ use Rattle.claims.specs.Widths.Labels.{merge-width}
 use Rattle.appends.specs.Answers.{ok-not-refused}
 use Rattle.appends.specs.From.Laid.{source_of}
 use Rattle.appends.specs.From.Merge.{merge_at, merge-at, merge_step}
+use Rattle.numbers.specs.Reasons.{reason_of, named-reason}
+use Rattle.numbers.specs.declared.refusals.Reason.{Reason}
+use Rattle.numbers.specs.declared.refusals.Refusal.{Refusal}
 use Rattle.ast.specs.Table.{tree_at}
 use Rattle.scope.specs.Labels.{columns-length}
 use Rattle.scope.specs.Scopes.{scope_of, scope_from, Valid, Plain, plain-scope, labels_of, table_numbers}
 use Rattle.scope.specs.Merge.{Mergeable, Merged}
 use Rattle.scope.specs.Merging.{MayMerge, merging_of}
 use Rattle.scope.specs.declared.Scope.{Scope}
-use Rattle.numbers.specs.Reasons.{reason_of}
-use Rattle.numbers.specs.declared.refusals.Reason.{Reason}
-use Rattle.numbers.specs.declared.refusals.Reason.TheVariants as Re
-use Rattle.plan.specs.Steps.{Refuses, refuses-at}
-use Rattle.build_from.specs.declared.merges.Both.{Both}
+use Rattle.plan.specs.Steps.{RefusedWith, refused-at}
 
 -- scopes of FROM items with few tables
 pub record TwoScopes (s t : Scope) : Type 0 where
@@ -68,10 +67,10 @@ pub record MergedScope (c q : Bytes) (s t r : Scope) : Type 0 where
   pub width : s.width + t.width ≡ r.width
   pub is : (e : ℕ → Expr) (l : ℕ) → merge_at (scope_of e c q s) (scope_of e c q t) l ≡ ok (scope_of e c q r)
 
-pub record Merges (c q : Bytes) (s t : Scope) (r : Both) : Type 0 where
-  pub refused : (r.number ≡ 0 → ⊥) → (e : ℕ → Expr) (l : ℕ)
-      → Refuses (merge_at (scope_of e c q s) (scope_of e c q t) l) r.number l
-  pub accepted : r.number ≡ 0 → MergedScope c q s t r.scope
+-- r is the merge, refused at line l
+pub record Merges (c q : Bytes) (s t : Scope) (l : ℕ) (r : Result Scope Refusal) : Type 0 where
+  pub is : MatchResult r (MergedScope c q s t)
+      (λ w. (e : ℕ → Expr) → RefusedWith (merge_at (scope_of e c q s) (scope_of e c q t) l) w)
 
 -- no refusal has the number 0
 numbered : (reason : Reason) → refusal_number (reason_of reason) ≡ 0 → ⊥
@@ -116,11 +115,10 @@ module _ (c q : Bytes) (s t : Scope) (h : TwoScopes s t) {m : Result ⊤ Reason}
       ∙ g.is (scope_of e c q s) (source_of (P.values []) (scope_of e c q t) l) refl (scope-width e c q s h.valid)
       refl (scope-width e c q t h.other)
 
-  pub merges-refused : (r : Both) (reason : Reason) → m ≡ Err reason → r.number ≡ refusal_number (reason_of reason) → Merges c q s t r
+  pub merges-refused : {k : Reason} (l : ℕ) → m ≡ Err k → Merges c q s t l (Err (record { reason = k; line = l }))
   unfolding merging_of
-  merges-refused r reason e n = record {
-    refused = λ z x l. refuses-at (reason_of reason) l r.number l (told x l ∙ rw e) n refl;
-    accepted = λ z. absurd (numbered reason (sym n ∙ z));
+  merges-refused {k} l e = record {
+    is = λ x. refused-at (reason_of k) l k l (told x l ∙ rw e) (sym (named-reason k)) refl;
   }
 
   -- they fit where they may be merged
@@ -136,38 +134,38 @@ module _ (c q : Bytes) (s t : Scope) (h : TwoScopes s t) {m : Result ⊤ Reason}
       go false true k = unfold refuse_if refuse ◌>>=◌ in (ok-not-refused _ _ (sym k))
       go false false k = refl
 
-  pub mergeable : {u : ⊤} → m ≡ Ok u → Mergeable s t
-  unfolding merging_of
-  mergeable f = let e = tree_at c q [] in record {
-    valid = h.valid;
-    plain = h.plain;
-    other = h.other;
-    other-plain = h.other-plain;
-    width = omega (
-      arith,
-      fits (scope_of e c q s) (scope_of e c q t) 0 (told e 0 ∙ rw f),
-      scope-width e c q s h.valid,
-      scope-width e c q t h.other,
-    );
-    tables = h.tables;
-  }
-
-  pub merges-allowed : (r : Both) {u : ⊤} → m ≡ Ok u → r.number ≡ 0 → Merged s t r.scope → Merges c q s t r
-  unfolding merging_of
-  merges-allowed r f n d = let e = tree_at c q [] in record {
-    refused = λ z. absurd (z n);
-    accepted = λ z. record {
-      valid = d.valid;
-      plain = d.plain;
-      count = d.count;
+  module _ {u : ⊤} (f : m ≡ Ok u) where
+    pub mergeable : Mergeable s t
+    unfolding merging_of
+    mergeable = let e = tree_at c q [] in record {
+      valid = h.valid;
+      plain = h.plain;
+      other = h.other;
+      other-plain = h.other-plain;
       width = omega (
         arith,
-        scope-width e c q r.scope d.valid,
-        ap rules.width (d.is e c q),
-        merge-width (scope_of e c q s) (scope_of e c q t),
+        fits (scope_of e c q s) (scope_of e c q t) 0 (told e 0 ∙ rw f),
         scope-width e c q s h.valid,
         scope-width e c q t h.other,
       );
-      is = λ x l. told x l ∙ rw f (ap ok (sym (d.is x c q)));
-    };
-  }
+      tables = h.tables;
+    }
+
+    pub merges-allowed : {r : Scope} (l : ℕ) → Merged s t r → Merges c q s t l (Ok r)
+    unfolding merging_of
+    merges-allowed {r} l d = let e = tree_at c q [] in record {
+      is = record {
+        valid = d.valid;
+        plain = d.plain;
+        count = d.count;
+        width = omega (
+          arith,
+          scope-width e c q r d.valid,
+          ap rules.width (d.is e c q),
+          merge-width (scope_of e c q s) (scope_of e c q t),
+          scope-width e c q s h.valid,
+          scope-width e c q t h.other,
+        );
+        is = λ x l. told x l ∙ rw f (ap ok (sym (d.is x c q)));
+      };
+    }

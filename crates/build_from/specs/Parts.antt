@@ -1,5 +1,5 @@
 -- The FROM clause item by item: the clause so far, without the items that are left.
-use Rattle.std.specs.Prelude.{ℕ, ◌+◌, ◌*◌, ◌≤◌, ◌<◌, ◌≡◌, List, [], ◌∷◌, length, get_or, drop}
+use Rattle.std.specs.Prelude.{ℕ, ◌+◌, ◌*◌, ◌≤◌, ◌<◌, ◌≡◌, List, [], ◌∷◌, length, get_or, drop, Ok, Err}
 use Rattle.std.proofs.Common.{arith, add-one, sym, ◌∙◌, drop_of_length-le, drop-cons}
 use Rattle.std.proofs.Math.Path.{refl, ap}
 use Rattle.rules.specs.Limits.{most_from_tables}
@@ -16,13 +16,14 @@ use Rattle.claims.specs.Within.{ExprWithin}
 use Rattle.claims.specs.Room.Nodes.{table_room}
 use Rattle.appends.specs.From.Laid.{stage_of}
 use Rattle.appends.specs.From.Clause.{from-refused, from_first, later-end}
+use Rattle.numbers.specs.declared.refusals.Refusal.{Refusal}
 use Rattle.ast.specs.Table.{tree_at}
 use Rattle.schema.specs.Layout.{catalog_at}
 use Rattle.scope.specs.Scopes.{scope_of, Valid, Plain}
 use Rattle.from.specs.Layout.{roots_before, roots_at, from_at, froms_at}
 use Rattle.from.specs.Roots.{froms-count, from-item}
 use Rattle.plan.specs.Cells.{Room}
-use Rattle.plan.specs.Steps.{Refuses, refuses-on, step-done, Standing, standing_on}
+use Rattle.plan.specs.Steps.{refused-on, step-done, Standing, standing_on}
 use Rattle.build_from.specs.Sources.{ItemRoom, Builds}
 use Rattle.build_from.specs.Merges.{merge-empty}
 use Rattle.build_from.specs.Items.{laid_cells, laid-numbers}
@@ -35,23 +36,16 @@ pub record PartAccepted (c q : Bytes) (ts cells : List ℕ) (fs gs : List From) 
     (a : Source) : Type 0 where
   pub valid : Valid a.scope
   pub plain : Plain a.scope
-  pub some : 0 < a.m
-  pub few : a.m ≤ a.k
+  pub some : 0 < a.node
+  pub few : a.node ≤ a.used
   pub parts : All (FromHas (ExprWithin c q) (StatementName c q)) gs
   pub tables : a.scope.count + total from_tables gs ≤ most_from_tables
-  pub room : Room a.n (3 * total from_size gs) area
-  pub numbers : a.k + table_room * total from_tables gs ≤ length nodes
+  pub room : Room a.cell (3 * total from_size gs) area
+  pub numbers : a.used + table_room * total from_tables gs ≤ length nodes
   pub node : Node Built
   pub is : build_from_clause (catalog_at c q ts) fs
       ≡ build_later_items (catalog_at c q ts) gs (stage_of node (scope_of (tree_at c q cells) c q a.scope))
-  pub standing : Standing node a.n a.m a.k area₀ nodes₀ area nodes
-
-pub record PartBuilds (c q : Bytes) (ts cells : List ℕ) (fs gs : List From) (area₀ nodes₀ area nodes : List ℕ)
-    (a : Source) : Type 0 where
-  pub kept : length area ≡ length area₀
-  pub kept-nodes : length nodes ≡ length nodes₀
-  pub refused : (a.number ≡ 0 → ⊥) → Refuses (build_from_clause (catalog_at c q ts) fs) a.number a.line
-  pub accepted : a.number ≡ 0 → PartAccepted c q ts cells fs gs area₀ nodes₀ area nodes a
+  pub standing : Standing node a.cell a.node a.used area₀ nodes₀ area nodes
 
 -- the first item
 module _ {c q : Bytes} {ts : List ℕ} {fs : List From} {f : From} {gs : List From} {area₀ nodes₀ : List ℕ}
@@ -72,52 +66,55 @@ module _ {c q : Bytes} {ts : List ℕ} {fs : List From} {f : From} {gs : List Fr
     few = omega arith;
   }
 
-  first-built : {cells area nodes : List ℕ} {a : Source} → Builds c q ts cells f 0 0 0 area₀ nodes₀ area nodes a
-      → PartBuilds c q ts cells fs gs area₀ nodes₀ area nodes a
-  unfolding All total
-  first-built {cells} {a = a} d = record {
+  first-refused : {cells area nodes : List ℕ} {w : Refusal}
+      → Builds c q ts cells f 0 0 0 area₀ nodes₀ area nodes (Err w)
+      → ClauseBuilds c q ts cells fs area₀ nodes₀ area nodes (Err w)
+  first-refused d = record {
     kept = d.kept;
     kept-nodes = d.kept-nodes;
-    refused = λ z. refuses-on (d.refused z)
-        (λ w i. ap (build_from_clause (catalog_at c q ts)) e ∙ from-refused (catalog_at c q ts) f gs w i);
-    accepted = λ z.
-        let o = d.accepted z in
-        let s = scope_of (tree_at c q cells) c q a.scope in
-        let i = laid_cells (catalog_at c q ts) f o.laid in
-        let k = laid-numbers (catalog_at c q ts) f o.laid in
-        record {
-          valid = o.valid;
-          plain = o.plain;
-          some = o.more;
-          few = o.few;
-          parts = room.parts.1;
-          tables = omega (arith, room.tables, o.count);
-          room = record {
-            counted = omega (arith, room.cells.counted, i);
-            held = omega (arith, room.cells.held, i, d.kept);
-          };
-          numbers = omega (arith, room.numbers.tables, k, d.kept-nodes);
-          node = o.laid.is.node;
-          is = ap (build_from_clause (catalog_at c q ts)) e
-              ∙ from_first (catalog_at c q ts) f gs s a.line 0 0 o.laid.cells o.laid.records a.n a.m
-              o.laid.is s (merge-empty (tree_at c q cells) c q a.scope a.line o.valid o.plain);
-          standing = record {
-            cells = o.laid.cells;
-            records = o.laid.records;
-            lays = o.laid.is.lays;
-            stands = o.laid.stands;
-            kept = d.kept;
-            kept-nodes = d.kept-nodes;
-          };
-        };
+    is = refused-on d.is (λ w i. ap (build_from_clause (catalog_at c q ts)) e ∙ from-refused (catalog_at c q ts) f gs w i);
   }
+
+  first-built : {cells area nodes : List ℕ} {a : Source} → Builds c q ts cells f 0 0 0 area₀ nodes₀ area nodes (Ok a)
+      → PartAccepted c q ts cells fs gs area₀ nodes₀ area nodes a
+  unfolding All total
+  first-built {cells} {a = a} d =
+      let o = d.is in
+      let s = scope_of (tree_at c q cells) c q a.scope in
+      let i = laid_cells (catalog_at c q ts) f o.laid in
+      let k = laid-numbers (catalog_at c q ts) f o.laid in
+      record {
+        valid = o.valid;
+        plain = o.plain;
+        some = o.more;
+        few = o.few;
+        parts = room.parts.1;
+        tables = omega (arith, room.tables, o.count);
+        room = record {
+          counted = omega (arith, room.cells.counted, i);
+          held = omega (arith, room.cells.held, i, d.kept);
+        };
+        numbers = omega (arith, room.numbers.tables, k, d.kept-nodes);
+        node = o.laid.is.node;
+        is = ap (build_from_clause (catalog_at c q ts)) e
+            ∙ from_first (catalog_at c q ts) f gs s a.line 0 0 o.laid.cells o.laid.records a.cell a.node
+            o.laid.is s (merge-empty (tree_at c q cells) c q a.scope a.line o.valid o.plain);
+        standing = record {
+          cells = o.laid.cells;
+          records = o.laid.records;
+          lays = o.laid.is.lays;
+          stands = o.laid.stands;
+          kept = d.kept;
+          kept-nodes = d.kept-nodes;
+        };
+      }
 
 -- a later one
 module _ {c q : Bytes} {ts cells : List ℕ} {fs gs : List From} {f : From} {gs' : List From}
     {area₀ nodes₀ area nodes : List ℕ} {a : Source} (h : ClauseRoom c q ts fs area₀ nodes₀) (e : gs ≡ f ∷ gs')
-    (p : PartBuilds c q ts cells fs gs area₀ nodes₀ area nodes a) (z : a.number ≡ 0) where
+    (p : PartAccepted c q ts cells fs gs area₀ nodes₀ area nodes a) where
   abbrev part : PartAccepted c q ts cells fs (f ∷ gs') area₀ nodes₀ area nodes a
-  part = rw e at (p.accepted z)
+  part = rw e at p
 
   next-room : LaterRoom c q ts f a area nodes
   unfolding All total
@@ -133,87 +130,78 @@ module _ {c q : Bytes} {ts cells : List ℕ} {fs gs : List From} {f : From} {gs'
       tables = omega (arith, part.tables);
       cells = record { counted = omega (arith, part.room.counted); held = omega (arith, part.room.held) };
       numbers = omega (arith, part.numbers);
-      most = omega (arith, h.most, p.kept-nodes);
+      most = omega (arith, h.most, part.standing.kept-nodes);
       few = part.few;
     };
     numbers = omega (arith, part.numbers);
   }
 
-  next_built : {area' nodes' : List ℕ} {x : Source} → LaterBuilds c q ts cells f a area nodes area' nodes' x
-      → PartBuilds c q ts cells fs gs' area₀ nodes₀ area' nodes' x
-  unfolding All total
-  next_built {x = x} d = record {
-    kept = d.kept ∙ p.kept;
-    kept-nodes = d.kept-nodes ∙ p.kept-nodes;
-    refused = λ y.
-        let s = part.standing in
-        refuses-on (d.refused y part.node s.cells s.records s.lays)
-        (λ w i. part.is ∙ later-stops (catalog_at c q ts) f gs' _ w i);
-    accepted = λ y.
-        let o = d.accepted y in
-        let w = standing_on x.n x.m x.k part.standing (step-done d.kept d.kept-nodes o.taken) refl in
-        record {
-          valid = o.valid;
-          plain = o.plain;
-          some = omega (arith, o.more);
-          few = o.few;
-          parts = part.parts.1;
-          tables = omega (arith, part.tables, o.count);
-          room = record {
-            counted = omega (arith, part.room.counted, o.next);
-            held = omega (arith, part.room.held, o.next, d.kept);
-          };
-          numbers = omega (arith, part.numbers, o.numbers, d.kept-nodes);
-          node = w.node;
-          is = part.is ∙ later-goes (catalog_at c q ts) f gs' _ _ w.answer;
-          standing = w.standing;
-        };
-  }
-
--- the whole
-module _ {c q : Bytes} {ts cells : List ℕ} {fs gs : List From} {area₀ nodes₀ area nodes : List ℕ} {a : Source}
-    (p : PartBuilds c q ts cells fs gs area₀ nodes₀ area nodes a) where
   -- a refusal ends the clause
-  pub part-refused : (a.number ≡ 0 → ⊥) → ClauseBuilds c q ts cells fs area₀ nodes₀ area nodes a
-  part-refused z = record {
-    kept = p.kept;
-    kept-nodes = p.kept-nodes;
-    refused = p.refused;
-    accepted = λ y. absurd (z y);
+  next-refused : {area' nodes' : List ℕ} {w : Refusal} → LaterBuilds c q ts cells f a area nodes area' nodes' (Err w)
+      → ClauseBuilds c q ts cells fs area₀ nodes₀ area' nodes' (Err w)
+  next-refused d = record {
+    kept = d.kept ∙ part.standing.kept;
+    kept-nodes = d.kept-nodes ∙ part.standing.kept-nodes;
+    is = refused-on (d.is part.node part.standing.cells part.standing.records part.standing.lays)
+        (λ w i. part.is ∙ later-stops (catalog_at c q ts) f gs' _ w i);
   }
 
-  -- nothing is left
-  pub part-whole : gs ≡ [] → ClauseBuilds c q ts cells fs area₀ nodes₀ area nodes a
-  part-whole e = record {
-    kept = p.kept;
-    kept-nodes = p.kept-nodes;
-    refused = p.refused;
-    accepted = λ z.
-        let o = p.accepted z in
-        let s = o.standing in
-        let i = later-end (catalog_at c q ts) o.node (scope_of (tree_at c q cells) c q a.scope) 0 0
-        s.cells s.records a.n a.m s.lays in
-        let is = (rw e at o.is) ∙ i.answer in
-        record {
-          valid = o.valid;
-          plain = o.plain;
-          count = o.valid.tables;
-          some = o.some;
-          few = o.few;
-          node = i.node;
-          is = is;
-          standing = record {
-            cells = s.cells;
-            records = s.records;
-            lays = i.lays;
-            stands = s.stands;
-            kept = s.kept;
-            kept-nodes = s.kept-nodes;
-          };
-          labelled = clause-labels c q ts cells fs a.scope i.node is;
-          qualified = clause-qualified c q ts cells fs a.scope i.node is;
+  next_built : {area' nodes' : List ℕ} {x : Source} → LaterBuilds c q ts cells f a area nodes area' nodes' (Ok x)
+      → PartAccepted c q ts cells fs gs' area₀ nodes₀ area' nodes' x
+  unfolding All total
+  next_built {x = x} d =
+      let o = d.is in
+      let w = standing_on (record { cell = x.cell; node = x.node; used = x.used }) part.standing
+      (step-done d.kept d.kept-nodes o.taken) refl in
+      record {
+        valid = o.valid;
+        plain = o.plain;
+        some = omega (arith, o.more);
+        few = o.few;
+        parts = part.parts.1;
+        tables = omega (arith, part.tables, o.count);
+        room = record {
+          counted = omega (arith, part.room.counted, o.next);
+          held = omega (arith, part.room.held, o.next, d.kept);
         };
-  }
+        numbers = omega (arith, part.numbers, o.numbers, d.kept-nodes);
+        node = w.node;
+        is = part.is ∙ later-goes (catalog_at c q ts) f gs' _ _ w.answer;
+        standing = w.standing;
+      }
+
+-- the whole: nothing is left
+pub part-whole : {c q : Bytes} {ts cells : List ℕ} {fs gs : List From} {area₀ nodes₀ area nodes : List ℕ} {a : Source}
+    → PartAccepted c q ts cells fs gs area₀ nodes₀ area nodes a → gs ≡ []
+    → ClauseBuilds c q ts cells fs area₀ nodes₀ area nodes (Ok a)
+part-whole {c} {q} {ts} {cells} {fs} {a = a} o e =
+    let s = o.standing in
+    let i = later-end (catalog_at c q ts) o.node (scope_of (tree_at c q cells) c q a.scope) 0 0
+    s.cells s.records a.cell a.node s.lays in
+    let is = (rw e at o.is) ∙ i.answer in
+    record {
+      kept = s.kept;
+      kept-nodes = s.kept-nodes;
+      is = record {
+        valid = o.valid;
+        plain = o.plain;
+        count = o.valid.tables;
+        some = o.some;
+        few = o.few;
+        node = i.node;
+        is = is;
+        standing = record {
+          cells = s.cells;
+          records = s.records;
+          lays = i.lays;
+          stands = s.stands;
+          kept = s.kept;
+          kept-nodes = s.kept-nodes;
+        };
+        labelled = clause-labels c q ts cells fs a.scope i.node is;
+        qualified = clause-qualified c q ts cells fs a.scope i.node is;
+      };
+    }
 
 -- BY ROWS
 none_of : (fs : List From) → length fs ≡ 0 → fs ≡ []
@@ -228,8 +216,8 @@ module _ (c q : Bytes) (ts cells froms : List ℕ) (n : ℕ) {area₀ nodes₀ :
 
   -- none
   pub clause-empty : {nodes : List ℕ} {x : Source} → j ≡ 0
-      → ((b p : Bytes) (us xs ys : List ℕ) → ClauseBuilds b p us xs [] ys nodes₀ ys nodes x)
-      → ClauseBuilds c q ts cells items area₀ nodes₀ area₀ nodes x
+      → ((b p : Bytes) (us xs ys : List ℕ) → ClauseBuilds b p us xs [] ys nodes₀ ys nodes (Ok x))
+      → ClauseBuilds c q ts cells items area₀ nodes₀ area₀ nodes (Ok x)
   clause-empty z k = rw (none_of items (froms-count c q cells froms n ∙ sym e ∙ z)) (k c q ts cells area₀)
 
   item-at : (i : ℕ) {r : ℕ} → i < j → r ≡ get_or (roots_at froms n) i 0
@@ -242,22 +230,32 @@ module _ (c q : Bytes) (ts cells froms : List ℕ) (n : ℕ) {area₀ nodes₀ :
     pub clause-first-room : ItemRoom c q ts (from_at c q cells froms r) 0 0 0 area₀ nodes₀
     clause-first-room = first-item-room h (item-at 0 (omega (arith, z)) g)
 
+    pub clause-first-refused : {area nodes : List ℕ} {w : Refusal}
+        → Builds c q ts cells (from_at c q cells froms r) 0 0 0 area₀ nodes₀ area nodes (Err w)
+        → ClauseBuilds c q ts cells items area₀ nodes₀ area nodes (Err w)
+    clause-first-refused d = first-refused h (item-at 0 (omega (arith, z)) g) d
+
     pub clause-first : {area nodes : List ℕ} {a : Source}
-        → Builds c q ts cells (from_at c q cells froms r) 0 0 0 area₀ nodes₀ area nodes a
-        → PartBuilds c q ts cells items (drop 1 items) area₀ nodes₀ area nodes a
+        → Builds c q ts cells (from_at c q cells froms r) 0 0 0 area₀ nodes₀ area nodes (Ok a)
+        → PartAccepted c q ts cells items (drop 1 items) area₀ nodes₀ area nodes a
     clause-first d = first-built h (item-at 0 (omega (arith, z)) g) d
 
   -- item i, or none
   module _ {i : ℕ} {area nodes : List ℕ} {a : Source}
-      (p : PartBuilds c q ts cells items (drop i items) area₀ nodes₀ area nodes a) where
-    module _ (l : i < j) (z : a.number ≡ 0) {r : ℕ} (g : r ≡ get_or (roots_at froms n) i 0) where
+      (p : PartAccepted c q ts cells items (drop i items) area₀ nodes₀ area nodes a) where
+    module _ (l : i < j) {r : ℕ} (g : r ≡ get_or (roots_at froms n) i 0) where
       pub clause-next-room : LaterRoom c q ts (from_at c q cells froms r) a area nodes
-      clause-next-room = next-room h (item-at i l g) p z
+      clause-next-room = next-room h (item-at i l g) p
+
+      pub clause-next-refused : {area' nodes' : List ℕ} {w : Refusal}
+          → LaterBuilds c q ts cells (from_at c q cells froms r) a area nodes area' nodes' (Err w)
+          → ClauseBuilds c q ts cells items area₀ nodes₀ area' nodes' (Err w)
+      clause-next-refused d = next-refused h (item-at i l g) p d
 
       pub clause-next : {area' nodes' : List ℕ} {x : Source}
-          → LaterBuilds c q ts cells (from_at c q cells froms r) a area nodes area' nodes' x
-          → PartBuilds c q ts cells items (drop (i + 1) items) area₀ nodes₀ area' nodes' x
-      clause-next d = next_built h (item-at i l g) p z d
+          → LaterBuilds c q ts cells (from_at c q cells froms r) a area nodes area' nodes' (Ok x)
+          → PartAccepted c q ts cells items (drop (i + 1) items) area₀ nodes₀ area' nodes' x
+      clause-next d = next_built h (item-at i l g) p d
 
-    pub clause-end : j ≤ i → ClauseBuilds c q ts cells items area₀ nodes₀ area nodes a
+    pub clause-end : j ≤ i → ClauseBuilds c q ts cells items area₀ nodes₀ area nodes (Ok a)
     clause-end l = part-whole p (drop_of_length-le items {i = i} (omega (arith, l, e, froms-count c q cells froms n)))

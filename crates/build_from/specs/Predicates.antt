@@ -1,7 +1,7 @@
 -- A join's predicate: none, or the tree at its row, built over a scope.
 use Prim.Native.Nat.{ℕ, ◌+◌, ◌*◌, pred}
 use Rattle.std.proofs.Common.{arith, ◌∙◌, append-nil}
-use Rattle.std.specs.Prelude.{◌≡◌, refl, List, [], ◌++◌, length, take}
+use Rattle.std.specs.Prelude.{◌≡◌, refl, List, [], ◌++◌, length, take, Result, MatchResult, Ok, Err}
 use Rattle.std.proofs.Math.Path.{sym}
 use Rattle.std.proofs.Math.Option.{Option, none, some}
 use Rattle.rules.specs.Refusals.{ok}
@@ -14,6 +14,7 @@ use Rattle.rules.specs.Sizes.{option_size}
 use Rattle.appends.specs.Area.{cells_numbers}
 use Rattle.appends.specs.Expressions.Emit.{emit}
 use Rattle.appends.specs.Expressions.Option.{emit_option, option-none, option-step, option-stop}
+use Rattle.numbers.specs.declared.refusals.Refusal.{Refusal}
 use Rattle.ast.specs.Table.{tree_at}
 use Rattle.from.specs.Access.{predicate_number, predicate_row, predicate_of}
 use Rattle.from.specs.declared.row.Predicate.{Predicate}
@@ -21,10 +22,8 @@ use Rattle.from.specs.declared.row.Predicate.TheVariants as F
 use Rattle.plan.specs.Layout.{cells_end}
 use Rattle.plan.specs.Cells.{Room}
 use Rattle.plan.specs.Emits.{Emits, accepted}
-use Rattle.plan.specs.declared.cells.Written.{Written}
-use Rattle.plan.specs.declared.cells.Written.TheVariants.{Done, Refused}
 use Rattle.build_expression.specs.Rows.{emit-within}
-use Rattle.plan.specs.Steps.{Refuses, refusal-some, emits-refused}
+use Rattle.plan.specs.Steps.{RefusedWith, refused-on, emits-refused}
 use Rattle.build_from.specs.declared.predicates.Root.{Root}
 
 -- the predicate of row r
@@ -39,25 +38,24 @@ pub record PredicateStands (s : rules.Scope) (o : Option Expr) (n : ℕ) (area a
   pub stands : take (cells_end m) area' ≡ take (cells_end n) area ++ cells_numbers cells
   pub rooted : option_number number ≡ root
 
-pub record PredicateBuilt (s : rules.Scope) (o : Option Expr) (n : ℕ) (area area' : List ℕ) (x : Root) : Type 0 where
+pub record PredicateBuilt (s : rules.Scope) (o : Option Expr) (n : ℕ) (area area' : List ℕ) (r : Result Root Refusal)
+    : Type 0 where
   pub kept : length area' ≡ length area
-  pub refused : (x.number ≡ 0 → ⊥) → Refuses (emit_option s n o) x.number x.line
-  pub accepted : x.number ≡ 0 → PredicateStands s o n area area' x.n x.root
+  pub is : MatchResult r (λ x. PredicateStands s o n area area' x.cell x.root) (RefusedWith (emit_option s n o))
 
 module _ (c q : Bytes) (cells froms : List ℕ) (r : ℕ) {f : Predicate} (e : f ≡ predicate_row (predicate_number froms r)) where
   -- none
-  pub predicate-missing : (s : rules.Scope) (n : ℕ) (area : List ℕ) (x : Root) → f ≡ F.Missing → x.number ≡ 0
-      → x.n ≡ n → x.root ≡ 0 → PredicateBuilt s (predicate_in c q cells froms r) n area area x
+  pub predicate-missing : (s : rules.Scope) (n : ℕ) (area : List ℕ) → f ≡ F.Missing
+      → PredicateBuilt s (predicate_in c q cells froms r) n area area (Ok (record { cell = n; root = 0 }))
   unfolding predicate_of option_number cells_numbers concat
-  predicate-missing s n area x d en ei er = record {
+  predicate-missing s n area d = record {
     kept = refl;
-    refused = λ z. absurd (z en);
-    accepted = λ z. record {
+    is = record {
       cells = [];
       number = none;
-      is = rw (← e, d, ei) (option-none s n);
-      stands = rw (ei, append-nil);
-      rooted = sym er;
+      is = rw (← e, d) (option-none s n);
+      stands = rw append-nil;
+      rooted = refl;
     };
   }
 
@@ -72,38 +70,29 @@ module _ (c q : Bytes) (cells froms : List ℕ) (r : ℕ) {f : Predicate} (e : f
     unfolding option_size
     predicate-room h = rw is_some at h
 
-    module _ {s : rules.Scope} {n : ℕ} {area area' : List ℕ} {w : Written}
-        (h : Emits (emit s n (tree_at c q cells p)) n area area' w) where
-      pub predicate-refused : (x : Root) (k l : ℕ) → w ≡ Refused k l → x.number ≡ k → x.line ≡ l
-          → PredicateBuilt s (predicate_in c q cells froms r) n area area' x
-      predicate-refused x k l g en el =
-          let y = emits-refused k l h g in
+    module _ {s : rules.Scope} {n : ℕ} {area area' : List ℕ} where
+      pub predicate-refused : {w : Refusal} → Emits (emit s n (tree_at c q cells p)) n area area' (Err w)
+          → PredicateBuilt s (predicate_in c q cells froms r) n area area' (Err w)
+      predicate-refused {w} h =
+          let y = emits-refused w h refl in
           record {
             kept = h.kept;
-            refused = λ z. record {
-              why = y.why;
-              is = rw is_some (option-stop s n (tree_at c q cells p) y.why y.is);
-              number = en ∙ y.number;
-              line = el ∙ y.line;
-            };
-            accepted = λ z. absurd (omega (arith, z, en, y.number, refusal-some y.why.reason));
+            is = refused-on y (λ v i. rw is_some (option-stop s n (tree_at c q cells p) v i));
           }
 
-      pub predicate-accepted : (x : Root) (m : ℕ) → w ≡ Done m → x.number ≡ 0 → x.n ≡ m → x.root ≡ m
-          → PredicateBuilt s (predicate_in c q cells froms r) n area area' x
+      pub predicate-accepted : {m : ℕ} → Emits (emit s n (tree_at c q cells p)) n area area' (Ok m)
+          → PredicateBuilt s (predicate_in c q cells froms r) n area area' (Ok (record { cell = m; root = m }))
       unfolding option_number
-      predicate-accepted x m g en ei er =
-          let y = accepted m h g in
+      predicate-accepted {m} h =
+          let y = accepted m h refl in
           let b = emit-within s n (tree_at c q cells p) y.cells m y.is in
-          let z : pred m + 1 ≡ x.root = omega (arith, b.some', er) in
           record {
             kept = h.kept;
-            refused = λ v. absurd (v en);
-            accepted = λ v. record {
+            is = record {
               cells = y.cells;
               number = some (pred m);
-              is = rw (is_some, ei) (option-step s n (tree_at c q cells p) y.cells m y.is);
-              stands = rw ei (h.cells y.cells m y.is);
-              rooted = z;
+              is = rw is_some (option-step s n (tree_at c q cells p) y.cells m y.is);
+              stands = h.cells y.cells m y.is;
+              rooted = omega (arith, b.some');
             };
           }

@@ -1,5 +1,5 @@
 -- A row of FROM: a table, or a join with the rows of its sides in the order in which they are built.
-use Rattle.std.specs.Prelude.{ℕ, ◌-◌, ◌<◌, ◌≤◌, ◌≡◌, Bool, List}
+use Rattle.std.specs.Prelude.{ℕ, ◌-◌, ◌<◌, ◌≤◌, ◌≡◌, Bool, List, Option, Some, None, MatchOption}
 use Rattle.std.proofs.Common.{arith, ap, ◌∙◌}
 use Rattle.std.proofs.Math.Path.{refl, sym}
 use Rattle.std.proofs.Math.Bool.{true, false}
@@ -15,8 +15,7 @@ use Rattle.from.specs.declared.row.Kind.{Kind}
 use Rattle.from.specs.declared.row.Kind.TheVariants as K
 use Rattle.build_from.specs.Tables.{table_row}
 use Rattle.build_from.specs.Predicates.{predicate_in}
-use Rattle.build_from.specs.declared.rows.Rows.{Rows}
-use Rattle.build_from.specs.declared.rows.Rows.TheVariants as R
+use Rattle.build_from.specs.declared.rows.Sides.{Sides}
 
 -- the join of a kind
 unfoldable pub join_of : Kind → Join
@@ -46,22 +45,9 @@ pub record SideRows (froms : List ℕ) (r x y : ℕ) : Type 0 where
   pub first : x ≡ first_of (is_right (join_at froms r)) (left_at froms r) (r - 1)
   pub second : y ≡ second_of (is_right (join_at froms r)) (left_at froms r) (r - 1)
 
-unfoldable pub RowsAs : List ℕ → ℕ → Rows → Type 0
-RowsAs froms r R.Table = kind_at froms r ≡ K.Table
-RowsAs froms r (R.Sides x y) = SideRows froms r x y
-
-pub record RowsAt (froms : List ℕ) (r : ℕ) (x : Rows) : Type 0 where
-  pub is : RowsAs froms r x
-
--- what a row is by the answer
-pub rows-table : {froms : List ℕ} {r : ℕ} {v : Rows} → RowsAt froms r v → v ≡ R.Table → kind_at froms r ≡ K.Table
-unfolding RowsAs
-rows-table {froms} {r} h e = rw e at h.is
-
-pub rows-sides : {froms : List ℕ} {r : ℕ} {v : Rows} {x y : ℕ} → RowsAt froms r v → v ≡ R.Sides x y
-    → SideRows froms r x y
-unfolding RowsAs
-rows-sides {froms} {r} h e = rw e at h.is
+-- row r is a table, or a join with these sides
+pub record SidesAt (froms : List ℕ) (r : ℕ) (o : Option Sides) : Type 0 where
+  pub is : MatchOption o (kind_at froms r ≡ K.Table) (λ s. SideRows froms r s.first s.second)
 
 -- KINDS
 abbrev pub is_join : Kind → Bool
@@ -108,16 +94,15 @@ no_table k h e = let z : ◌≡◌ {A = Bool} false true = sym (ap is_join e) �
     true-false z = absurd (let y : ◌≡◌ {A = ℕ} 0 1 = cc in omega arith)
 
 module _ (froms : List ℕ) (r : ℕ) {k : Kind} (e : k ≡ kind_at froms r) where
-  pub table-row : k ≡ K.Table → RowsAt froms r R.Table
-  unfolding RowsAs
+  pub table-row : k ≡ K.Table → SidesAt froms r None
   table-row h = record { is = sym e ∙ h }
 
   pub behind : is_join k ≡ true → 1 ≤ r
   behind h = omega (arith, join-behind froms r (λ z. no_table k h (e ∙ z)))
 
   pub sides-row : {x y : ℕ} → is_join k ≡ true → right_kind k ≡ false → x ≡ left_at froms r → y ≡ r - 1
-      → RowsAt froms r (R.Sides x y)
-  unfolding RowsAs join_at first_of second_of
+      → SidesAt froms r (Some (record { first = x; second = y }))
+  unfolding join_at first_of second_of
   sides-row {x} {y} h g ex ey =
       let p = behind h in
       record {
@@ -131,8 +116,8 @@ module _ (froms : List ℕ) (r : ℕ) {k : Kind} (e : k ≡ kind_at froms r) whe
       }
 
   pub right-row : {x y : ℕ} → is_join k ≡ true → right_kind k ≡ true → x ≡ r - 1 → y ≡ left_at froms r
-      → RowsAt froms r (R.Sides x y)
-  unfolding RowsAs join_at first_of second_of
+      → SidesAt froms r (Some (record { first = x; second = y }))
+  unfolding join_at first_of second_of
   right-row {x} {y} h g ex ey =
       let p = behind h in
       record {

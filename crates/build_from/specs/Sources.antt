@@ -1,6 +1,6 @@
 -- The contract of building a FROM item: what it refuses, or the scope, cells and node records that it is; and the room
 -- that it takes.
-use Rattle.std.specs.Prelude.{ℕ, ◌+◌, ◌*◌, ◌≤◌, ◌<◌, ◌≡◌, List, length}
+use Rattle.std.specs.Prelude.{ℕ, ◌+◌, ◌*◌, ◌≤◌, ◌<◌, ◌≡◌, List, length, Result, MatchResult}
 use Rattle.rules.specs.Refusals.{Answer}
 use Rattle.rules.specs.Limits.{most_from_tables}
 use Rattle.rules.specs.Lists.{Bytes}
@@ -16,12 +16,13 @@ use Rattle.claims.specs.Words.Within.{StatementName}
 use Rattle.claims.specs.Within.{ExprWithin, TextsWithin}
 use Rattle.claims.specs.Room.Nodes.{table_room, join_room}
 use Rattle.appends.specs.From.Laid.{SourceLaid}
+use Rattle.numbers.specs.declared.refusals.Refusal.{Refusal}
 use Rattle.ast.specs.Table.{tree_at}
 use Rattle.schema.specs.Layout.{catalog_at}
 use Rattle.scope.specs.Scopes.{scope_of, Valid, Plain}
 use Rattle.plan.specs.Layout.{nodes_size}
 use Rattle.plan.specs.Cells.{Room}
-use Rattle.plan.specs.Steps.{Refuses, Stands}
+use Rattle.plan.specs.Steps.{RefusedWith, Stands}
 use Rattle.build_from.specs.declared.Source.{Source}
 
 -- an item with scope s and line l: its cells from the i-th on and its records from the k-th on stand there
@@ -51,14 +52,14 @@ pub record Accepted (c q : Bytes) (ts cells : List ℕ) (f : From) (i k u : ℕ)
   pub valid : Valid x.scope
   pub plain : Plain x.scope
   pub count : x.scope.count ≡ from_tables f
-  pub more : k < x.m
-  pub few : x.m ≤ x.k
+  pub more : k < x.node
+  pub few : x.node ≤ x.used
   pub laid : Laid (building.build_from (catalog_at c q ts) f) (scope_of (tree_at c q cells) c q x.scope) x.line
-      i k u area nodes x.n x.m x.k area' nodes'
+      i k u area nodes x.cell x.node x.used area' nodes'
 
 pub record Builds (c q : Bytes) (ts cells : List ℕ) (f : From) (i k u : ℕ) (area nodes area' nodes' : List ℕ)
-    (x : Source) : Type 0 where
+    (r : Result Source Refusal) : Type 0 where
   pub kept : length area' ≡ length area
   pub kept-nodes : length nodes' ≡ length nodes
-  pub refused : (x.number ≡ 0 → ⊥) → Refuses (building.build_from (catalog_at c q ts) f) x.number x.line
-  pub accepted : x.number ≡ 0 → Accepted c q ts cells f i k u area nodes area' nodes' x
+  pub is : MatchResult r (Accepted c q ts cells f i k u area nodes area' nodes')
+      (RefusedWith (building.build_from (catalog_at c q ts) f))

@@ -1,9 +1,9 @@
 -- A table of FROM: found or not, its scope under its alias or its name, and its scan.
-use Rattle.std.specs.Prelude.{ℕ, zero, suc, ◌+◌, ◌≤◌, ◌<◌, ◌≡◌, List, [], ◌∷◌, length}
+use Rattle.std.specs.Prelude.{ℕ, zero, suc, ◌+◌, ◌≤◌, ◌<◌, ◌≡◌, List, [], ◌∷◌, length, Ok, Err}
 use Rattle.std.proofs.Common.{arith, ◌∙◌, append-nil}
 use Rattle.std.proofs.Math.Path.{refl, sym, ap}
 use Rattle.std.proofs.Math.Option.{Option, none, some}
-use Rattle.rules.specs.Refusals.{refusal_number, unknown_table, refuse}
+use Rattle.rules.specs.Refusals.{unknown_table, refuse}
 use Rattle.rules.specs.Lists.{Bytes, or_else, map_option, concat}
 use Rattle.rules.specs.Lines.{Word}
 use Rattle.rules.specs.Schema.{Table, get_table, named_by}
@@ -17,6 +17,8 @@ use Rattle.claims.specs.Reading.Limits.{from_tables}
 use Rattle.claims.specs.Within.{from-name}
 use Rattle.appends.specs.Area.{cells_numbers}
 use Rattle.appends.specs.From.Merge.{table-found, table-unknown, table_step, table-refused}
+use Rattle.numbers.specs.Reasons.{named}
+use Rattle.numbers.specs.declared.refusals.Reason.TheVariants.{UnknownTable}
 use Rattle.ast.specs.Table.{tree_at}
 use Rattle.ast.specs.Names.{name_at}
 use Rattle.schema.specs.Layout.{table_at, catalog_at}
@@ -32,9 +34,8 @@ use Rattle.from.specs.Access.{line_at, name_address, name_length, alias_address,
 use Rattle.plan.specs.Layout.{scan_size}
 use Rattle.plan.specs.Appended.{Appended}
 use Rattle.plan.specs.Records.{records-first}
-use Rattle.plan.specs.Steps.{refuses-at}
+use Rattle.plan.specs.Steps.{refused-at}
 use Rattle.build_from.specs.Sources.{ItemRoom, Builds}
-use Rattle.build_from.specs.declared.Source.{Source}
 
 -- ROWS
 -- the name and the alias in row r
@@ -137,50 +138,50 @@ module _ (c q : Bytes) (ts cells froms : List ℕ) (r : ℕ) {n m k : ℕ} {area
   found-is = rw (g, ← ea, ← es) (schema.table-found 0 (catalog_at c q ts) (bytes_at c q a s))
 
   -- no table has its name
-  pub table-missing : (x : Source) → f ≡ Nothing → x.number ≡ 5 → x.line ≡ line_at froms r
-      → Builds c q ts cells (table_row c q froms r) n m k area nodes area nodes x
-  unfolding found_table map_option refusal_number refuse
-  table-missing x e en el =
+  pub table-missing : {l : ℕ} → f ≡ Nothing → l ≡ line_at froms r
+      → Builds c q ts cells (table_row c q froms r) n m k area nodes area nodes
+      (Err (record { reason = UnknownTable; line = l }))
+  unfolding found_table map_option named refuse
+  table-missing e el =
       let y : get_table (catalog_at c q ts) (row_name c q froms r).bytes ≡ none = sym found-is ∙ rw e in
       record {
         kept = refl;
         kept-nodes = refl;
-        refused = λ z. refuses-at unknown_table (line_at froms r) x.number x.line
+        is = refused-at unknown_table (line_at froms r) UnknownTable _
             (table-refused (catalog_at c q ts) (line_at froms r) (row_name c q froms r) (row_alias c q froms r) _
-            (table-unknown (catalog_at c q ts) (line_at froms r) (row_name c q froms r) y)) en el;
-        accepted = λ z. absurd (omega (arith, z, en));
+            (table-unknown (catalog_at c q ts) (line_at froms r) (row_name c q froms r) y)) refl el;
       }
 
   -- the i-th table has it
-  pub table-accepted : (x : Source) {i : ℕ} {nodes' : List ℕ} → f ≡ At i → FromNamed ts froms r i x.scope
-      → Scanned c q froms r k nodes x.k nodes' → x.number ≡ 0 → x.line ≡ line_at froms r → x.n ≡ n → x.m ≡ m + 1
-      → Builds c q ts cells (table_row c q froms r) n m k area nodes area nodes' x
+  pub table-accepted : {s : Scope} {l i v : ℕ} {nodes' : List ℕ} → f ≡ At i → FromNamed ts froms r i s
+      → Scanned c q froms r k nodes v nodes' → l ≡ line_at froms r
+      → Builds c q ts cells (table_row c q froms r) n m k area nodes area nodes'
+      (Ok (record { scope = s; line = l; cell = n; node = m + 1; used = v }))
   unfolding found_table map_option from_tables named_by rules.from_table cells_numbers concat
-  table-accepted x {i} {nodes'} e o p en el ei em =
+  table-accepted {s = x} {i = i} e o p el =
       let t = table_at c q ts i in
       let w = row_name c q froms r in
       let y : get_table (catalog_at c q ts) w.bytes ≡ some t = sym found-is ∙ rw e in
       let z : found_table c q ts (At i) ≡ table_from 0 (catalog_at c q ts) (bytes_at c q a s) =
       ap (found_table c q ts) (sym e) ∙ g in
       let u = rw (o.name c q) at (from-name (line_at froms r) w (row_alias c q froms r) h.parts) in
-      let d : scope_of (tree_at c q cells) c q x.scope ≡ rules.from_table (or_else (row_alias c q froms r) w) t =
+      let d : scope_of (tree_at c q cells) c q x ≡ rules.from_table (or_else (row_alias c q froms r) w) t =
       rw (o.name c q) (found_scope h.within ts refl i (bytes_at c q a s) z o.made u (tree_at c q cells)) in
       record {
         kept = refl;
         kept-nodes = (p.is t).all;
-        refused = λ v. absurd (v en);
-        accepted = λ v. record {
+        is = record {
           valid = o.made.valid;
           plain = o.made.plain;
           count = o.made.one;
-          more = omega (arith, em);
-          few = omega (arith, em, (p.is t).next, h.few, scan-size (named_by w t) (row_alias c q froms r));
+          more = omega arith;
+          few = omega (arith, (p.is t).next, h.few, scan-size (named_by w t) (row_alias c q froms r));
           laid = record {
             cells = [];
             records = scan (named_by w t) (row_alias c q froms r) none ∷ [];
-            is = rw (d, el, ei, em) (table_step (catalog_at c q ts) (line_at froms r) w (row_alias c q froms r)
+            is = rw (d, el) (table_step (catalog_at c q ts) (line_at froms r) w (row_alias c q froms r)
                 (named_by w t) n m (table-found (catalog_at c q ts) (line_at froms r) w t y));
-            stands = record { cells = rw (ei, append-nil); records = records-first _ (p.is t) };
+            stands = record { cells = rw append-nil; records = records-first _ (p.is t) };
           };
         };
       }

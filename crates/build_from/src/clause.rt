@@ -1,5 +1,5 @@
 // FROM as a whole: its items joined one after the other.
-ghost use Rattle.std.specs.Prelude.{ℕ, ◌≤◌, List, [], length};
+ghost use Rattle.std.specs.Prelude.{ℕ, ◌≤◌, List, [], length, Ok};
 ghost use Rattle.rules.specs.Lists.{Bytes};
 ghost use Rattle.from.specs.Layout.{from_at, froms_at};
 ghost use Rattle.plan.specs.Layout.{empty_row_size};
@@ -9,6 +9,7 @@ ghost use Rattle.build_from.specs.Clause.{ClauseRoom, ClauseBuilds};
 use crate::merges::merge_scopes;
 use crate::{Source, build_from};
 use from::roots;
+use numbers::refusals::Refusal;
 use plan::nodes;
 use scope::Scope;
 
@@ -23,7 +24,7 @@ fn join_item<'t>(
     a: Source,
     area: &mut [u32],
     nodes: &mut [u32],
-) -> Source
+) -> Result<Source, Refusal>
     requires { LaterRoom catalog.now statement.now tables.now
         (from_at catalog.now statement.now cells.now froms.now r) a area.old nodes.old }
     ensures { LaterBuilds catalog.now statement.now tables.now cells.now
@@ -31,53 +32,37 @@ fn join_item<'t>(
         area.old nodes.old area.new nodes.new result }
 {
     let b = build_from(
-        catalog, statement, tables, cells, froms, r, area, nodes, a.n, a.m, a.k,
-    );
-    if b.number != 0 {
-        return b;
-    }
-    let both = merge_scopes(catalog, statement, a.scope, b.scope);
-    let s = both.scope;
-    if both.number != 0 {
-        return Source {
-            scope: s,
-            number: both.number,
-            line: b.line,
-            n: b.n,
-            m: b.m,
-            k: b.k,
-        };
-    }
-    let k = nodes::join(nodes, b.k, a.m - 1, b.m - 1, false, 0);
-    Source {
+        catalog, statement, tables, cells, froms, r, area, nodes, a.cell, a.node, a.used,
+    )?;
+    let s = merge_scopes(catalog, statement, a.scope, b.scope, b.line)?;
+    let k = nodes::join(nodes, b.used, a.node - 1, b.node - 1, false, 0);
+    Ok(Source {
         scope: s,
-        number: 0,
         line: b.line,
-        n: b.n,
-        m: b.m + 1,
-        k: k,
-    }
+        cell: b.cell,
+        node: b.node + 1,
+        used: k,
+    })
 }
 
 // No items: one row of no columns.
 fn empty_clause(nodes: &mut [u32]) -> Source
     requires { empty_row_size ≤ length nodes.old }
     ensures { (c q : Bytes) (ts cells area : List ℕ) → ClauseBuilds c q ts cells [] area nodes.old
-        area nodes.new result }
+        area nodes.new (Ok result) }
 {
     let k = nodes::empty_row(nodes, 0);
     Source {
         scope: Scope::new(),
-        number: 0,
         line: 0,
-        n: 0,
-        m: 1,
-        k: k,
+        cell: 0,
+        node: 1,
+        used: k,
     }
 }
 
-// The items in the first `rows` rows of FROM, from the first cell and the first node on. Where it is accepted, `line` is
-// not determined.
+// The items in the first `rows` rows of FROM, from the first cell and the first node on. The line of what it gives is not
+// determined.
 pub fn build_from_clause<'t>(
     catalog: &'t [u8],
     statement: &'t [u8],
@@ -87,7 +72,7 @@ pub fn build_from_clause<'t>(
     rows: u32,
     area: &mut [u32],
     nodes: &mut [u32],
-) -> Source
+) -> Result<Source, Refusal>
     requires { ClauseRoom catalog.now statement.now tables.now
         (froms_at catalog.now statement.now cells.now froms.now rows) area.old nodes.old }
     ensures { ClauseBuilds catalog.now statement.now tables.now cells.now
@@ -96,22 +81,17 @@ pub fn build_from_clause<'t>(
 {
     let count = roots::items(froms, rows);
     if count == 0 {
-        return empty_clause(nodes);
+        return Ok(empty_clause(nodes));
     }
     let first = roots::root(froms, rows, 0);
     let mut clause = build_from(
         catalog, statement, tables, cells, froms, first, area, nodes, 0, 0, 0,
-    );
-    let mut i: u32 = 1;
-    while i < count {
-        if clause.number != 0 {
-            return clause;
-        }
+    )?;
+    for i in 1..count {
         let r = roots::root(froms, rows, i);
         clause = join_item(
             catalog, statement, tables, cells, froms, r, clause, area, nodes,
-        );
-        i += 1;
+        )?;
     }
-    clause
+    Ok(clause)
 }

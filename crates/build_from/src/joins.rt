@@ -7,6 +7,7 @@ use crate::predicates::build_predicate;
 use crate::remaps::push_remap;
 use crate::rows::join_kind;
 use from::row;
+use numbers::refusals::Refusal;
 use plan::nodes;
 
 // The join in row r of the sides a and b, a built before b: their scopes merged, its predicate over both, its record; the
@@ -21,61 +22,37 @@ pub fn build_join<'t>(
     b: Source,
     area: &mut [u32],
     nodes: &mut [u32],
-) -> Source
+) -> Result<Source, Refusal>
     requires { JoinRoom catalog.now statement.now cells.now froms.now r a b area.old nodes.old }
     ensures { Joins catalog.now statement.now cells.now froms.now r a b
         area.old nodes.old area.new nodes.new result }
 {
     let first = a.scope.width;
     let second = b.scope.width;
-    let m = b.m;
-    let both = merge_scopes(catalog, statement, a.scope, b.scope);
-    let s = both.scope;
-    if both.number != 0 {
-        return Source {
-            scope: s,
-            number: both.number,
-            line: b.line,
-            n: b.n,
-            m: m,
-            k: b.k,
-        };
-    }
+    let m = b.node;
+    let s = merge_scopes(catalog, statement, a.scope, b.scope, b.line)?;
     let p = build_predicate(
         catalog, statement, cells, froms, r, &s.labels, &s.matches, s.width, &s.tables, s.count,
-        area, b.n,
-    );
+        area, b.cell,
+    )?;
     let l = row::line(froms, r);
-    if p.number != 0 {
-        return Source {
-            scope: s,
-            number: p.number,
-            line: p.line,
-            n: p.n,
-            m: m,
-            k: b.k,
-        };
-    }
     let kind = join_kind(froms, r);
-    let k = nodes::join(nodes, b.k, a.m - 1, m - 1, kind.outer, p.root);
+    let k = nodes::join(nodes, b.used, a.node - 1, m - 1, kind.outer, p.root);
     if kind.right {
         let end = push_remap(nodes, k, m, first, second);
-        let t = s.swap(first, second);
-        return Source {
-            scope: t,
-            number: 0,
+        return Ok(Source {
+            scope: s.swap(first, second),
             line: l,
-            n: p.n,
-            m: m + 2,
-            k: end,
-        };
+            cell: p.cell,
+            node: m + 2,
+            used: end,
+        });
     }
-    Source {
+    Ok(Source {
         scope: s,
-        number: 0,
         line: l,
-        n: p.n,
-        m: m + 1,
-        k: k,
-    }
+        cell: p.cell,
+        node: m + 1,
+        used: k,
+    })
 }

@@ -12,19 +12,19 @@ mod tables; // tables.rt: a table of FROM
 ghost use Rattle.from.specs.Layout.{from_at};
 ghost use Rattle.build_from.specs.Sources.{ItemRoom, Builds};
 
-use rows::{Rows, rows_of};
+use numbers::refusals::Refusal;
+use rows::sides;
 use scope::Scope;
 
-// A FROM item, or the clause: its scope, and with it the next cell, the next node and how many numbers of the nodes are in
-// use; `number` is 0, and `line` the item's. Where it is refused, document 01's number and line.
+// A FROM item, or the clause: its scope and its line, and with them the next cell, the next node and how many numbers of the
+// nodes are in use.
 #[derive(Clone, Copy)]
 pub struct Source {
     pub scope: Scope,
-    pub number: u32,
     pub line: u32,
-    pub n: u32,
-    pub m: u32,
-    pub k: usize,
+    pub cell: u32,
+    pub node: u32,
+    pub used: usize,
 }
 
 // The item in row r of FROM from the n-th cell and the m-th node on, k numbers of the nodes being in use: a scan, or a join
@@ -41,31 +41,26 @@ pub fn build_from<'t>(
     n: u32,
     m: u32,
     k: usize,
-) -> Source
+) -> Result<Source, Refusal>
     requires { ItemRoom catalog.now statement.now tables.now
         (from_at catalog.now statement.now cells.now froms.now r) n m k area.old nodes.old }
     ensures { Builds catalog.now statement.now tables.now cells.now
         (from_at catalog.now statement.now cells.now froms.now r) n m k
         area.old nodes.old area.new nodes.new result }
 {
-    let rows = rows_of(froms, r);
+    let rows = sides(froms, r);
     match rows {
-        Rows::Table => tables::build_table(
+        None => tables::build_table(
             catalog, statement, tables, cells, froms, r, area, nodes, n, m, k,
         ),
-        Rows::Sides(x, y) => {
+        Some(side) => {
             let a = build_from(
-                catalog, statement, tables, cells, froms, x, area, nodes, n, m, k,
-            );
-            if a.number != 0 {
-                return a;
-            }
+                catalog, statement, tables, cells, froms, side.first, area, nodes, n, m, k,
+            )?;
             let b = build_from(
-                catalog, statement, tables, cells, froms, y, area, nodes, a.n, a.m, a.k,
-            );
-            if b.number != 0 {
-                return b;
-            }
+                catalog, statement, tables, cells, froms, side.second, area, nodes, a.cell, a.node,
+                a.used,
+            )?;
             joins::build_join(catalog, statement, cells, froms, r, a, b, area, nodes)
         }
     }

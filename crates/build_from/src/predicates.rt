@@ -8,15 +8,12 @@ ghost use Rattle.build_from.specs.Predicates.{predicate_in, PredicateBuilt};
 use build_expression::build_expression;
 use from::row;
 use from::row::Predicate;
-use plan::cells::Written;
+use numbers::refusals::Refusal;
 
-// The next cell, and one more than the predicate's root, 0 where there is none; `number` is 0. Where it is refused,
-// document 01's number and line.
+// The next cell, and the root as the join's record holds it: one more than the predicate's, 0 where there is none.
 #[derive(Clone, Copy)]
 pub struct Root {
-    pub number: u32,
-    pub line: u32,
-    pub n: u32,
+    pub cell: u32,
     pub root: u32,
 }
 
@@ -34,7 +31,7 @@ pub fn build_predicate<'t, 'a>(
     count: u32,
     area: &mut [u32],
     n: u32,
-) -> Root
+) -> Result<Root, Refusal>
     requires { Room n (3 * option_size (predicate_in catalog.now statement.now cells.now froms.now r)) area.old }
     ensures { (h : ℕ) → PredicateBuilt (scope_at catalog.now statement.now cells.now
         (take width labels.now) (take width matches.now) (take count tables.now) h)
@@ -42,31 +39,16 @@ pub fn build_predicate<'t, 'a>(
         n area.old area.new result }
 {
     match row::predicate_of(froms, r) {
-        Predicate::Missing => Root {
-            number: 0,
-            line: 0,
-            n: n,
-            root: 0,
-        },
+        Predicate::Missing => Ok(Root { cell: n, root: 0 }),
         Predicate::Row(p) => {
             let built = build_expression(
                 catalog, statement, cells, p as usize, labels, matches, width, tables, count, area,
                 n,
-            );
-            match built {
-                Written::Done(m) => Root {
-                    number: 0,
-                    line: 0,
-                    n: m,
-                    root: m,
-                },
-                Written::Refused(x, l) => Root {
-                    number: x,
-                    line: l,
-                    n: n,
-                    root: 0,
-                },
-            }
+            )?;
+            Ok(Root {
+                cell: built,
+                root: built,
+            })
         }
     }
 }

@@ -15,10 +15,8 @@ fn push_rising(nodes: &mut [u32], k: usize, i: u32, n: u32) -> usize
     ensures { Appended (map option_number (rising i n)) k nodes.old result nodes.new }
 {
     let mut end = k;
-    let mut j: u32 = 0;
-    while j < n {
+    for j in 0..n {
         end = push(nodes, end, i + j + 1);
-        j += 1;
     }
     end
 }

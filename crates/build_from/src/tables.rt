@@ -7,7 +7,7 @@ ghost use Rattle.build_from.specs.Tables.{table_row, FromNamed, Scanned};
 
 use crate::Source;
 use from::row;
-use numbers::refusals::UNKNOWN_TABLE;
+use numbers::refusals::{Reason, Refusal};
 use plan::nodes;
 use schema::{Found, get_table};
 use scope::Scope;
@@ -65,7 +65,7 @@ pub fn build_table(
     n: u32,
     m: u32,
     k: usize,
-) -> Source
+) -> Result<Source, Refusal>
     requires { ItemRoom catalog.now statement.now tables.now (table_row catalog.now statement.now froms.now r)
         n m k area.old nodes.old }
     ensures { Builds catalog.now statement.now tables.now cells.now
@@ -77,23 +77,18 @@ pub fn build_table(
     let len = row::name_length(froms, r);
     let found = get_table(catalog, statement, tables, a, len);
     let Found::At(i) = found else {
-        return Source {
-            scope: Scope::new(),
-            number: UNKNOWN_TABLE,
+        return Err(Refusal {
+            reason: Reason::UnknownTable,
             line: l,
-            n: n,
-            m: m,
-            k: k,
-        };
+        });
     };
     let s = named_scope(tables, froms, r, i);
     let e = scan_row(catalog, statement, froms, r, nodes, k);
-    Source {
+    Ok(Source {
         scope: s,
-        number: 0,
         line: l,
-        n: n,
-        m: m + 1,
-        k: e,
-    }
+        cell: n,
+        node: m + 1,
+        used: e,
+    })
 }

@@ -1,6 +1,6 @@
 -- The columns of visited rows, hidden one behind the other.
 use Rattle.std.specs.Prelude as std
-use Rattle.std.specs.Prelude.{ℕ, suc, ◌+◌, ◌≤◌, ◌<◌, false, get_or, take, drop, set}
+use Rattle.std.specs.Prelude.{ℕ, suc, ◌+◌, ◌≤◌, ◌<◌, get_or, take, drop, set, Result, Ok, Err}
 use Rattle.std.proofs.Common.{arith, ◌∙◌, drop_of_length-le, drop-cons, get_or-take, length-take-le}
 use Rattle.std.proofs.Math.Numerals.{add-one}
 use Rattle.std.proofs.Math.Path.{◌≡◌, refl, sym, ap}
@@ -14,6 +14,9 @@ use Rattle.rules.specs.Lists.{Bytes}
 use Rattle.rules.specs.Ast.{Expr, line_of}
 use Rattle.rules.specs.Scope as rules
 use Rattle.rules.specs.Scope.{add_passthrough}
+use Rattle.numbers.specs.Reasons.{named}
+use Rattle.numbers.specs.declared.refusals.Reason.TheVariants.{LimitPassed}
+use Rattle.numbers.specs.declared.refusals.Refusal.{Refusal}
 use Rattle.rules.specs.Hidden.{HiddenColumn, Hidden, add_hidden, to_hide, visit}
 use Rattle.ast.specs.Table.{tree_at}
 use Rattle.ast.specs.Row.{line_at, line-of}
@@ -27,11 +30,10 @@ use Rattle.build_expression.specs.Builds.{scope_at}
 use Rattle.build_hidden.specs.Terms.{Passable, HiddenAs, shown_of}
 use Rattle.build_hidden.specs.Visits.{hidden_by, trees_at}
 use Rattle.build_hidden.specs.Lacking.{Lacking, lacking-below}
-use Rattle.build_hidden.specs.declared.Hiding.{Hiding}
 
 -- CONTRACT
 pub record RowsHidden (c q : Bytes) (t xs ms ts rows : List ℕ) (child : Scope) (positions positions' : List ℕ)
-    (r : Hiding) : Type 0 where
+    (r : Result Scope Refusal) : Type 0 where
   pub is : (h : ℕ) → HiddenAs c q t child
       (hidden_by (scope_at c q t xs ms ts h) (trees_at c q t rows) (shown_of c q t child)) positions positions' r
 
@@ -107,25 +109,25 @@ module _ {c q : Bytes} {t labels matches : List ℕ} {w : ℕ} {tables : List �
   abbrev whole : ℕ → Hidden
   whole h = hidden_by (parent h) (trees_at c q t rows) (shown_of c q t child)
 
-  pub hiding-end : (l : ℕ) → length rows ≤ i
-      → RowsHidden c q t (take w labels) (take w matches) (take n tables) rows child
-      positions positions' (record { scope = s; full = false; line = l })
+  pub hiding-end : length rows ≤ i
+      → RowsHidden c q t (take w labels) (take w matches) (take n tables) rows child positions positions' (Ok s)
   unfolding hidden_by
-  hiding-end l k = record {
+  hiding-end k = record {
     is = λ h.
         let z : state h ≡ whole h =
         ap (λ rs. hidden_by (parent h) (trees_at c q t rs) (state h)) (sym (drop_of_length-le rows {i = i} k))
         ∙ (v.reached h).rest in
         record {
           kept = v.kept;
-          valid = λ e. v.valid;
-          width = λ e. v.width;
-          hides = λ e. record {
-            is = ap (λ g. g.scope) z;
-            numbers = ap (λ g. map (λ (d : HiddenColumn). d.position) g.columns) (sym z) ∙ (v.reached h).numbers;
-            count = ap (λ g. length g.columns) (sym z) ∙ (v.reached h).count;
+          is = record {
+            valid = v.valid;
+            width = v.width;
+            hides = record {
+              is = ap (λ g. g.scope) z;
+              numbers = ap (λ g. map (λ (d : HiddenColumn). d.position) g.columns) (sym z) ∙ (v.reached h).numbers;
+              count = ap (λ g. length g.columns) (sym z) ∙ (v.reached h).count;
+            };
           };
-          exceeds = λ e. absurd (let y : ◌≡◌ {A = ℕ} 0 1 = cc in omega arith);
         };
   }
 
@@ -183,24 +185,21 @@ module _ {c q : Bytes} {t labels matches : List ℕ} {w : ℕ} {tables : List �
       -- there is no room for it
       pub hiding-full : {y : ℕ} → most_columns ≤ s.width → y ≡ line_at t r
           → RowsHidden c q t (take w labels) (take w matches) (take n tables) rows child positions positions'
-          (record { scope = s; full = true; line = y })
-      unfolding add_hidden
+          (Err (record { reason = LimitPassed; line = y }))
+      unfolding add_hidden named
       hiding-full {y} m g = record {
         is = λ h.
             let b = stays (parent h) (trees_at c q t (drop (suc i) rows)) (added h) in
             record {
               kept = v.kept;
-              valid = λ o. absurd (let u : ◌≡◌ {A = ℕ} 0 1 = cc in omega arith);
-              width = λ o. absurd (let u : ◌≡◌ {A = ℕ} 0 1 = cc in omega arith);
-              hides = λ o. absurd (let u : ◌≡◌ {A = ℕ} 0 1 = cc in omega arith);
-              exceeds = λ o. record {
+              is = record {
                 before = (v.reached h).columns;
                 one = record { position = j; line = line_of (tree_at c q t r) };
                 behind = b.0;
                 columns = ap (λ u. u.columns) (sym (added-row h)) ∙ b.1
                     ∙ append_assoc (v.reached h).columns _ b.0;
                 room = (v.reached h).count ∙ omega (arith, v.width, v.valid.width, m);
-                line = g ∙ sym (line-of c q t r);
+                is = ap (λ (l : ℕ). record { reason = LimitPassed; line = l }) (g ∙ sym (line-of c q t r));
               };
             };
       }

@@ -1,5 +1,5 @@
 -- The rows visited for HAVING and ORDER BY, one expression after the other.
-use Rattle.std.specs.Prelude.{ℕ, suc, ◌+◌, ◌≤◌, ◌<◌, ◌≡◌, refl, length, drop}
+use Rattle.std.specs.Prelude.{ℕ, suc, ◌+◌, ◌≤◌, ◌<◌, ◌≡◌, refl, Bool, length, drop}
 use Rattle.std.proofs.Common.{arith, sym, ◌∙◌, length-append, drop_of_length-le}
 use Rattle.std.proofs.Math.Numerals.{add-one}
 use Rattle.std.proofs.Math.Path.{ap}
@@ -24,7 +24,6 @@ use Rattle.statement.specs.declared.access.Clause.TheVariants as C
 use Rattle.plan.specs.Appended.{Appended, appended-none, appended-on}
 use Rattle.build_hidden.specs.Visits.{hidden_by, hidden-append, trees_at}
 use Rattle.build_hidden.specs.Rows.{RowsFit, RowsVisited}
-use Rattle.build_hidden.specs.declared.walk.Walked.{Walked}
 
 -- the order keys, and their expressions
 module _ (c q : Bytes) (cells parts : List ℕ) where
@@ -110,8 +109,8 @@ module _ {cells parts rows : List ℕ} {n : ℕ} {rows' : List ℕ} {m k : ℕ} 
       );
     }
 
-    pub keys-more : {rows'' : List ℕ} {o : Walked} → RowsVisited cells r rows' m rows'' o
-        → KeysVisiting cells parts rows n rows'' o.count (k + 1)
+    pub keys-more : {rows'' : List ℕ} {m' : ℕ} {b : Bool} → RowsVisited cells r rows' m rows'' m' b
+        → KeysVisiting cells parts rows n rows'' m' (k + 1)
     unfolding hidden_of
     keys-more o = record {
       seen = v.seen ++ o.seen;
@@ -178,8 +177,8 @@ module _ {cells parts rows : List ℕ} (f : LaterFit cells parts rows) {x : Cl.C
     pub having-fits : RowsFit cells r 0 rows
     having-fits = record { c = f.c; q = f.q; fits = omega (arith, f.fits [], some_size) }
 
-    module _ {rows₁ : List ℕ} {w : Walked} (o : RowsVisited cells r rows 0 rows₁ w) where
-      pub some_fits : KeysFit cells parts w.count rows₁
+    module _ {rows₁ : List ℕ} {m : ℕ} {b : Bool} (o : RowsVisited cells r rows 0 rows₁ m b) where
+      pub some_fits : KeysFit cells parts m rows₁
       some_fits = record {
         c = f.c;
         q = f.q;
@@ -187,7 +186,7 @@ module _ {cells parts rows : List ℕ} (f : LaterFit cells parts rows) {x : Cl.C
         fits = omega (arith, f.fits [], some_size, o.most f.c f.q, o.appended.next, o.appended.all);
       }
 
-      pub some-visited : {rows₂ : List ℕ} {n : ℕ} → KeysVisited cells parts rows₁ w.count rows₂ n
+      pub some-visited : {rows₂ : List ℕ} {n : ℕ} → KeysVisited cells parts rows₁ m rows₂ n
           → LaterVisited cells parts rows rows₂ n
       unfolding hidden_of
       some-visited k = record {

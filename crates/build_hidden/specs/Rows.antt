@@ -8,7 +8,6 @@ use Rattle.ast.specs.Table.{rows_at, arguments_at, tree_at}
 use Rattle.ast.specs.Operands.{operands_of, kind_at, operands_at, operands-at, tree-at, arguments-more}
 use Rattle.plan.specs.Appended.{Appended, appended-none, appended-on, appended-sets}
 use Rattle.build_hidden.specs.Visits.{Walks, Walking, walking-begin, walking-end, walking-stop, walking-more}
-use Rattle.build_hidden.specs.declared.walk.Walked.{Walked}
 
 -- there is room behind n rows for as many as the tree at row r has cells, by some texts
 pub record RowsFit (t : List ℕ) (r n : ℕ) (rows : List ℕ) : Type 0 where
@@ -16,11 +15,11 @@ pub record RowsFit (t : List ℕ) (r n : ℕ) (rows : List ℕ) : Type 0 where
   pub q : Bytes
   pub fits : n + size (tree_at c q t r) ≤ length rows
 
--- the rows of the walk of the tree at row r stand behind n others
-pub record RowsVisited (t : List ℕ) (r : ℕ) (rows : List ℕ) (n : ℕ) (rows' : List ℕ) (x : Walked) : Type 0 where
+-- the rows of the walk of the tree at row r, whose answer is b, stand behind n others
+pub record RowsVisited (t : List ℕ) (r : ℕ) (rows : List ℕ) (n : ℕ) (rows' : List ℕ) (m : ℕ) (b : Bool) : Type 0 where
   pub seen : List ℕ
-  pub walks : Walks t r seen x.answer
-  pub appended : Appended seen n rows x.count rows'
+  pub walks : Walks t r seen b
+  pub appended : Appended seen n rows m rows'
   pub most : (c q : Bytes) → length seen ≤ size (tree_at c q t r)
 
 -- SIZES
@@ -93,7 +92,7 @@ module _ {t : List ℕ} {r : ℕ} {rows : List ℕ} {n : ℕ} {any : Bool} {rows
   pub visiting-kept : length rows' ≡ length rows
   visiting-kept = v.appended.all ∙ length-set rows n r
 
-  pub visiting-end : k ≤ 0 → RowsVisited t r rows n rows' (record { count = m; answer = not any })
+  pub visiting-end : k ≤ 0 → RowsVisited t r rows n rows' m (not any)
   visiting-end l = record {
     seen = r ∷ v.seen;
     walks = walking-end v.walking l;
@@ -101,15 +100,14 @@ module _ {t : List ℕ} {r : ℕ} {rows : List ℕ} {n : ℕ} {any : Bool} {rows
     most = λ c q. omega (arith, v.most c q);
   }
 
-  module _ {rows'' : List ℕ} {x : Walked} (l : 0 < k) (o : RowsVisited t p rows' m rows'' x) where
+  module _ {rows'' : List ℕ} {m' : ℕ} {b : Bool} (l : 0 < k) (o : RowsVisited t p rows' m rows'' m' b) where
     more-most : (c q : Bytes)
         → suc (length (v.seen ++ o.seen)) + size_all (arguments_at (tree_at c q t) t (k - 1) (p + rows_at t p))
         ≤ size (tree_at c q t r)
     more-most c q = rw (length-append v.seen o.seen)
         (omega (arith, v.most c q, o.most c q, size-first (tree_at c q t) t k p l))
 
-    pub visiting-stop : beq x.answer any ≡ true
-        → RowsVisited t r rows n rows'' (record { count = x.count; answer = any })
+    pub visiting-stop : beq b any ≡ true → RowsVisited t r rows n rows'' m' any
     visiting-stop z = record {
       seen = r ∷ (v.seen ++ o.seen);
       walks = walking-stop v.walking l o.walks z;
@@ -117,8 +115,8 @@ module _ {t : List ℕ} {r : ℕ} {rows : List ℕ} {n : ℕ} {any : Bool} {rows
       most = λ c q. omega (arith, more-most c q);
     }
 
-    pub visiting-more : beq x.answer any ≡ false
-        → Visiting t r (set rows n r) (n + 1) any rows'' (k - 1) (p + rows_at t p) x.count
+    pub visiting-more : beq b any ≡ false
+        → Visiting t r (set rows n r) (n + 1) any rows'' (k - 1) (p + rows_at t p) m'
     visiting-more z = record {
       seen = v.seen ++ o.seen;
       walking = walking-more v.walking l o.walks z;

@@ -1,14 +1,14 @@
 -- HAVING's and ORDER BY's rows, and what they hide.
-use Rattle.std.specs.Prelude.{ℕ, ◌≡◌, List, length, take}
+use Rattle.std.specs.Prelude.{ℕ, ◌≡◌, List, length, take, Result}
 use Rattle.std.proofs.Common.{arith, sym, length-take-le}
 use Rattle.rules.specs.Limits.{most_cells}
 use Rattle.rules.specs.Lists.{Bytes}
+use Rattle.numbers.specs.declared.refusals.Refusal.{Refusal}
 use Rattle.scope.specs.declared.Scope.{Scope}
 use Rattle.build_expression.specs.Builds.{scope_at}
 use Rattle.build_hidden.specs.Terms.{Hideable, HiddenBuilt, shown_of}
 use Rattle.build_hidden.specs.Later.{LaterFit, LaterVisited}
 use Rattle.build_hidden.specs.Hide.{RowsHidden}
-use Rattle.build_hidden.specs.declared.Hiding.{Hiding}
 
 -- there are places for all rows
 pub later-fits : {c q : Bytes} {cells parts labels matches : List ℕ} {w : ℕ} {tables : List ℕ} {n : ℕ} {child : Scope}
@@ -27,7 +27,7 @@ pub later-count : {cells parts rows rows' : List ℕ} {n : ℕ} → LaterVisited
 later-count {rows' = rows'} {n} k = length-take-le n rows' (omega (arith, k.appended.fits, k.appended.all))
 
 pub hidden-built : {c q : Bytes} {cells parts xs ms ts rows rows' : List ℕ} {n : ℕ} {child : Scope}
-    {positions positions' : List ℕ} {r : Hiding} → LaterVisited cells parts rows rows' n
+    {positions positions' : List ℕ} {r : Result Scope Refusal} → LaterVisited cells parts rows rows' n
     → RowsHidden c q cells xs ms ts (take n rows') child positions positions' r
     → HiddenBuilt c q cells parts xs ms ts child positions positions' r
 hidden-built {c} {q} {cells} {parts} {xs} {ms} {ts} {rows} {rows'} {n} {child} k b =

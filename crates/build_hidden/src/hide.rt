@@ -3,9 +3,9 @@ ghost use Rattle.std.specs.Prelude.{take};
 ghost use Rattle.build_hidden.specs.Terms.{Passable};
 ghost use Rattle.build_hidden.specs.Hide.{RowsHidden};
 
-use super::Hiding;
 use super::lacking::to_hide;
 use ast::row::line;
+use numbers::refusals::{Reason, Refusal};
 use scope::{COLUMNS, Scope};
 
 // One row after the other, until the child is full.
@@ -21,16 +21,14 @@ pub fn hide_rows<'t, 'a>(
     count: u32,
     child: Scope,
     positions: &mut [u32],
-) -> Hiding
+) -> Result<Scope, Refusal>
     requires { Passable cells.now labels.now matches.now width tables.now count child positions.old }
     ensures { RowsHidden catalog.now statement.now cells.now
         (take width labels.now) (take width matches.now) (take count tables.now)
         rows.now child positions.old positions.new result }
 {
     let mut scope = child;
-    let mut i: usize = 0;
-    while i < rows.len() {
-        let r = rows[i];
+    for &r in rows {
         let wanted = to_hide(
             catalog,
             statement,
@@ -46,16 +44,13 @@ pub fn hide_rows<'t, 'a>(
             scope.width,
         );
         let Some(j) = wanted else {
-            i += 1;
             continue;
         };
         if COLUMNS <= scope.width as usize {
-            let l = line(cells, r);
-            return Hiding {
-                scope: scope,
-                full: true,
-                line: l,
-            };
+            return Err(Refusal {
+                reason: Reason::LimitPassed,
+                line: line(cells, r),
+            });
         }
         positions[scope.hidden as usize] = j;
         scope = scope.add_hidden(
@@ -65,11 +60,6 @@ pub fn hide_rows<'t, 'a>(
             labels[j as usize],
             matches[j as usize],
         );
-        i += 1;
     }
-    Hiding {
-        scope: scope,
-        full: false,
-        line: 0,
-    }
+    Ok(scope)
 }

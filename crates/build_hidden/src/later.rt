@@ -12,12 +12,9 @@ fn order_rows(cells: &[u32], parts: &[u32], rows: &mut [usize], n: usize) -> usi
 {
     let total = count(parts, ORDER);
     let mut m = n;
-    let mut k: u32 = 0;
-    while k < total {
+    for k in 0..total {
         let e = entry_at(parts, ORDER, k);
-        let walked = visit_rows(cells, first_row(e), rows, m);
-        m = walked.count;
-        k += 1;
+        visit_rows(cells, first_row(e), rows, &mut m);
     }
     m
 }
@@ -31,8 +28,9 @@ pub fn later_rows(cells: &[u32], parts: &[u32], rows: &mut [usize]) -> usize
     match having {
         Clause::Missing => order_rows(cells, parts, rows, 0),
         Clause::Stands(_, r) => {
-            let walked = visit_rows(cells, r, rows, 0);
-            order_rows(cells, parts, rows, walked.count)
+            let mut n = 0;
+            visit_rows(cells, r, rows, &mut n);
+            order_rows(cells, parts, rows, n)
         }
     }
 }

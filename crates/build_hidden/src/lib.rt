@@ -12,18 +12,11 @@ ghost use Rattle.build_hidden.specs.Terms.{Hideable, HiddenBuilt};
 use ast::rows::STATEMENT_ROWS;
 use hide::hide_rows;
 use later::later_rows;
+use numbers::refusals::Refusal;
 use scope::Scope;
 
-// The projected scope with its hidden columns; or it is full, and the record of a line calls for one more.
-#[derive(Clone, Copy)]
-pub struct Hiding {
-    pub scope: Scope,
-    pub full: bool,
-    pub line: u32,
-}
-
-// The columns of the parent, whose arrays are lent, that are passed on hidden to the child. The parent's position of each
-// goes into `positions`.
+// The child with the columns of the parent, whose arrays are lent, that are passed on hidden to it. The parent's position
+// of each goes into `positions`. Refused where the child is full, at the line of the record that calls for one more.
 pub fn build_select_hidden<'t, 'a>(
     catalog: &'t [u8],
     statement: &'t [u8],
@@ -36,7 +29,7 @@ pub fn build_select_hidden<'t, 'a>(
     count: u32,
     child: Scope,
     positions: &mut [u32],
-) -> Hiding
+) -> Result<Scope, Refusal>
     requires { Hideable catalog.now statement.now cells.now parts.now labels.now matches.now width
         tables.now count child positions.old }
     ensures { HiddenBuilt catalog.now statement.now cells.now

@@ -4,44 +4,26 @@ ghost use Rattle.build_hidden.specs.Rows.{RowsFit, RowsVisited};
 
 use ast::rows::{CALL, kind, next, operands};
 
-// How many rows there are now, and the walk's answer.
-#[derive(Clone, Copy)]
-pub struct Walked {
-    pub count: usize,
-    pub answer: bool,
-}
-
-// The rows visited from row r on, written behind `count` others. An operator's operands are walked until one walk answers
-// false, a function's arguments until one answers true.
-pub fn visit_rows(table: &[u32], r: usize, rows: &mut [usize], count: usize) -> Walked
-    requires { RowsFit table.now r count rows.old }
-    ensures { RowsVisited table.now r rows.old count rows.new result }
+// The rows visited from row r on, written behind `count` others; the walk's answer. An operator's operands are walked until
+// one walk answers false, a function's arguments until one answers true.
+pub fn visit_rows(table: &[u32], r: usize, rows: &mut [usize], count: &mut usize) -> bool
+    requires { RowsFit table.now r count.old rows.old }
+    ensures { RowsVisited table.now r rows.old count.old rows.new count.new result }
 {
-    rows[count] = r;
+    rows[*count] = r;
+    *count += 1;
     let any = kind(table, r) == CALL;
-    let mut left = operands(table, r);
-    let mut n = count + 1;
+    let left = operands(table, r);
     if left == 0 {
-        return Walked {
-            count: n,
-            answer: !any,
-        };
+        return !any;
     }
     let mut p = r + 1;
-    while 0 < left {
-        let walked = visit_rows(table, p, rows, n);
-        n = walked.count;
-        if walked.answer == any {
-            return Walked {
-                count: n,
-                answer: any,
-            };
+    for i in 0..left {
+        let answer = visit_rows(table, p, rows, count);
+        if answer == any {
+            return any;
         }
         p = next(table, p);
-        left -= 1;
     }
-    Walked {
-        count: n,
-        answer: !any,
-    }
+    !any
 }

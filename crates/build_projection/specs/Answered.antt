@@ -1,4 +1,5 @@
 -- What is answered for the items: all are listed, one is too many, or a star has no columns.
+use Rattle.std.specs.Prelude as std
 use Rattle.std.specs.Prelude.{ℕ, zero, suc, ◌≤◌, ◌≡◌, refl, Bool, ◌&&◌, List, [], ◌∷◌, map, eqb, take}
 use Rattle.std.proofs.Common.{arith, ◌∙◌, length-take-le, eq-eqb, ne_eqb}
 use Rattle.std.proofs.Math.Path.{sym, ap}
@@ -6,12 +7,15 @@ use Rattle.std.proofs.Math.Bool.{false, not}
 use Rattle.std.proofs.Math.Option.{none, some}
 use Rattle.std.proofs.Math.ListN.{length, get_or}
 use Rattle.std.proofs.lemmas.List.{length-map}
-use Rattle.rules.specs.Refusals.{Answer, ok, refuse, refusal_number, limit_passed, star_without_from}
+use Rattle.rules.specs.Refusals.{Answer, ok, refuse, limit_passed, star_without_from}
 use Rattle.rules.specs.Limits.{most_columns}
 use Rattle.rules.specs.Lists.{Bytes, is_empty, is_some}
 use Rattle.rules.specs.Ast.{Item, Select}
 use Rattle.rules.specs.Plan.{Built, Node, Label, column_count, labels, labels_from}
 use Rattle.rules.specs.Items.{plain_star, is_lone, stars_expand, expanded_items, stars_have_columns, build_items}
+use Rattle.numbers.specs.Reasons.{named}
+use Rattle.numbers.specs.declared.refusals.Reason.TheVariants.{StarWithoutFrom}
+use Rattle.numbers.specs.declared.refusals.Refusal.{Refusal}
 use Rattle.appends.specs.Answers.{bind_ok, ok_same, ok-not-refused, at_most-passed, at_most-refused}
 use Rattle.appends.specs.Select.Items.{stars-none, stars-some, stars-refused, items-star}
 use Rattle.scope.specs.Labels.{columns_of, columns-length}
@@ -19,12 +23,10 @@ use Rattle.sections.specs.Layout.{start_of, section_at}
 use Rattle.sections.specs.Access.{item_kind, group_kind, section-count}
 use Rattle.statement.specs.Layout.{to_group}
 use Rattle.statement.specs.EntryAccess.{map-length}
-use Rattle.build_projection.specs.Items.{items_at, item_of, items-length, star_of, single}
+use Rattle.numbers.specs.Options.{option_of}
+use Rattle.build_projection.specs.Items.{items_at, item_of, items-length, single}
 use Rattle.build_projection.specs.Terms.{Ready, chosen, counted, outcome_of, Answers, ItemsExpanded, ItemsBuilt}
 use Rattle.build_projection.specs.Listing.{Listing, listing-end, Wide}
-use Rattle.build_projection.specs.declared.items.Star.TheVariants as S
-use Rattle.build_projection.specs.declared.items.Outcome.{Outcome}
-use Rattle.build_projection.specs.declared.items.Outcome.TheVariants as O
 
 -- COUNTED
 counted-ok : (is' : List Item) → length is' ≤ most_columns → counted is' ≡ ok is'
@@ -38,7 +40,7 @@ counted-wide is' l w =
     ∙ ap (refuse limit_passed) w.line
 
 -- EXPANDED
-refused-answers : (c q : Bytes) (cells cells' parts items' : List ℕ) (a : Answer (List Item)) (r : Outcome)
+refused-answers : (c q : Bytes) (cells cells' parts items' : List ℕ) (a : Answer (List Item)) (r : std.Result ℕ Refusal)
     → (e : Answer (List Item)) → a ≡ e → r ≡ outcome_of e → ((is' : List Item) → e ≡ ok is' → ⊥)
     → Answers c q cells cells' parts items' a r
 refused-answers c q cells cells' parts items' a r e h g n = record {
@@ -58,7 +60,7 @@ not-star l is' e = ok-not-refused is' _ (sym e)
 pub expand-done : {cells₀ parts ts labels : List ℕ} {b : Bool} {k n s : ℕ} {cells items : List ℕ} (total : ℕ)
     → Listing cells₀ parts ts labels b k n s cells items
     → ((c q : Bytes) (x : List ℕ) → total ≡ length (section_at c q x parts item_kind)) → total ≤ k
-    → ItemsExpanded cells₀ cells parts ts labels items b (O.Done n)
+    → ItemsExpanded cells₀ cells parts ts labels items b (std.Ok n)
 unfolding outcome_of
 expand-done {cells₀} {parts} {ts} {labels = labels'} {b} {n = n} {cells = cells} {items} total h m j = record {
   is = λ c q r.
@@ -76,13 +78,13 @@ expand-done {cells₀} {parts} {ts} {labels = labels'} {b} {n = n} {cells = cell
       };
 }
 
-pub expand-refused : {cells₀ parts ts labels : List ℕ} {b : Bool} {cells items : List ℕ} (l : ℕ)
-    → ((c q : Bytes) → Ready c q cells₀ parts ts labels
+pub expand-refused : {cells₀ parts ts labels : List ℕ} {b : Bool} {cells items : List ℕ} (l : ℕ) {x : Refusal}
+    → x ≡ record { reason = named limit_passed; line = l } → ((c q : Bytes) → Ready c q cells₀ parts ts labels
     → Wide most_columns l (chosen b (columns_of c q ts labels) (items_at c q cells₀ parts)))
-    → ItemsExpanded cells₀ cells parts ts labels items b (O.Refused 3 l)
-expand-refused {cells₀} {parts} {ts} {labels = labels'} {b} {cells} {items} l w = record {
+    → ItemsExpanded cells₀ cells parts ts labels items b (std.Err x)
+expand-refused {cells₀} {parts} {ts} {labels = labels'} {b} {cells} {items} l e w = record {
   is = λ c q r. refused-answers c q cells₀ cells parts items _ _ (refuse limit_passed l)
-      (counted-wide _ l (w c q r)) (unfold outcome_of refuse refusal_number in refl) (not-ok l);
+      (counted-wide _ l (w c q r)) (unfold outcome_of refuse in rw e) (not-ok l);
 }
 
 -- BUILT
@@ -122,10 +124,9 @@ expand-some : (d : Select) (ls : List Label) (l : ℕ) (b : Bool) → plain_star
 unfolding expanded_items stars_expand chosen is_some
 expand-some d ls l b e g = rw (expanded_items, stars_expand, e, lone-length d.items l e, empty-length d.group, g)
 
-module _ {cells cells' parts ts ls items' : List ℕ} {r : Outcome} where
-  pub built-none : ((c q : Bytes) → star_of S.Missing ≡ plain_star (items_at c q cells parts))
+module _ {cells cells' parts ts ls items' : List ℕ} {r : std.Result ℕ Refusal} where
+  pub built-none : ((c q : Bytes) → option_of std.None ≡ plain_star (items_at c q cells parts))
       → ItemsExpanded cells cells' parts ts ls items' false r → ItemsBuilt cells cells' parts ts ls items' r
-  unfolding star_of
   built-none p x = record {
     is = λ c q y d m e g h.
         let n : plain_star d.items ≡ none = ap plain_star e ∙ sym (p c q) in
@@ -134,10 +135,10 @@ module _ {cells cells' parts ts ls items' : List ℕ} {r : Outcome} where
         rw a (x.is c q y);
   }
 
-  pub built-star : (l : ℕ) (b t : Bool) → ((c q : Bytes) → star_of (S.At l) ≡ plain_star (items_at c q cells parts))
+  pub built-star : (l : ℕ) (b t : Bool) → ((c q : Bytes) → option_of (std.Some l) ≡ plain_star (items_at c q cells parts))
       → (length ls ≡ 0 → ⊥) → t ≡ single parts → b ≡ not t
       → ItemsExpanded cells cells' parts ts ls items' b r → ItemsBuilt cells cells' parts ts ls items' r
-  unfolding star_of single
+  unfolding single
   built-star l b t p w u v x = record {
     is = λ c q y d m e g h.
         let n : plain_star d.items ≡ some l = ap plain_star e ∙ sym (p c q) in
@@ -154,14 +155,13 @@ module _ {cells cells' parts ts ls items' : List ℕ} {r : Outcome} where
   }
 
   -- 16
-  pub built-refused : (l : ℕ) → ((c q : Bytes) → star_of (S.At l) ≡ plain_star (items_at c q cells parts)) → length ls ≡ 0
-      → r ≡ O.Refused 16 l → ItemsBuilt cells cells' parts ts ls items' r
-  unfolding star_of
+  pub built-refused : (l : ℕ) → ((c q : Bytes) → option_of (std.Some l) ≡ plain_star (items_at c q cells parts)) → length ls ≡ 0
+      → r ≡ std.Err (record { reason = StarWithoutFrom; line = l }) → ItemsBuilt cells cells' parts ts ls items' r
   built-refused l p w f = record {
     is = λ c q y d m e g h.
         let n : plain_star d.items ≡ some l = ap plain_star e ∙ sym (p c q) in
         let k : column_count m ≡ length ls = count-labels c q ts ls m h in
         let s = stars-refused l (column_count m) (eq-eqb (column_count m) 0 (k ∙ w)) in
         refused-answers c q cells cells' parts items' _ _ (refuse star_without_from l)
-        (items-star d m l (rw n s)) (f ∙ unfold outcome_of refuse refusal_number in refl) (not-star l);
+        (items-star d m l (rw n s)) (f ∙ unfold outcome_of refuse named in refl) (not-star l);
   }

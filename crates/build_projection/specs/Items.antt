@@ -1,4 +1,5 @@
 -- The items of a SELECT by their numbers: entries, and starred columns behind the statement's rows.
+use Rattle.std.specs.Prelude as std
 use Rattle.std.specs.Prelude.{ℕ, suc, ◌+◌, ◌≤◌, ◌<◌, ◌≡◌, Bool, true, false, ◌&&◌, ltb, eqb, get_or, drop}
 use Rattle.std.proofs.Common.{arith, add-one, ◌∙◌, drop_of_length-le}
 use Rattle.std.proofs.Math.Path.{refl, sym, ap}
@@ -23,9 +24,8 @@ use Rattle.sections.specs.Expressions.{first_row}
 use Rattle.sections.specs.declared.entry.Entry.{Entry}
 use Rattle.statement.specs.Layout.{map_entries, to_item}
 use Rattle.statement.specs.EntryAccess.{item-at, map-length, name-none, name-some}
+use Rattle.numbers.specs.Options.{option_of}
 use Rattle.build_projection.specs.Stars.{starred_at}
-use Rattle.build_projection.specs.declared.items.Star.{Star}
-use Rattle.build_projection.specs.declared.items.Star.TheVariants as S
 
 -- the statement's items
 unfoldable pub items_at : Bytes → Bytes → List ℕ → List ℕ → List Item
@@ -70,10 +70,6 @@ module _ (c q : Bytes) (cells parts : List ℕ) where
   items-drop g k h = after-drop k (items_at c q cells parts) (entry_item c q cells parts k) (entry-after g k h)
 
 -- STARS
-unfoldable pub star_of : Star → Option ℕ
-star_of S.Missing = none
-star_of (S.At l) = some l
-
 -- a row is a star by its kind
 unfoldable pub star_by : Kind → ℕ → Option ℕ
 star_by K.Star l = some l
@@ -97,18 +93,27 @@ star-tree f K.Binary c q t r = refl
 star-tree f K.Is c q t r = refl
 star-tree f K.Literal c q t r = refl
 
+star-none : (k : Kind) (l : ℕ) → (k ≡ K.Star → ⊥) → star_by k l ≡ none
+unfolding star_by
+star-none K.Star l h = absurd (h refl)
+star-none K.Column l h = refl
+star-none K.Qualified l h = refl
+star-none K.Call l h = refl
+star-none K.Unary l h = refl
+star-none K.Binary l h = refl
+star-none K.Is l h = refl
+star-none K.Literal l h = refl
+
 module _ (t : List ℕ) (r : ℕ) (k : Kind) (h : number_of k ≡ kind_at t r) where
   by_kind : (c q : Bytes) → star_by k (line_at t r) ≡ as_star (tree_at c q t r)
   by_kind c q = sym (ap as_star (row-tree c q t r k h) ∙ star-tree (tree_at c q t) k c q t r)
 
-  pub star-is : (l : ℕ) → l ≡ line_at t r → k ≡ K.Star → (c q : Bytes) → star_of (S.At l) ≡ as_star (tree_at c q t r)
-  unfolding star_of star_by
+  pub star-is : (l : ℕ) → l ≡ line_at t r → k ≡ K.Star → (c q : Bytes) → option_of (std.Some l) ≡ as_star (tree_at c q t r)
+  unfolding star_by
   star-is l e z c q = rw (e, ← by_kind c q, z)
 
-  pub star-not : (z : Kind) → k ≡ z → star_by z (line_at t r) ≡ none → (c q : Bytes)
-      → star_of S.Missing ≡ as_star (tree_at c q t r)
-  unfolding star_of
-  star-not z g e c q = sym e ∙ sym (ap (λ y. star_by y (line_at t r)) g) ∙ by_kind c q
+  pub star-not : (k ≡ K.Star → ⊥) → (c q : Bytes) → option_of std.None ≡ as_star (tree_at c q t r)
+  star-not g c q = sym (star-none k (line_at t r) g) ∙ by_kind c q
 
 -- THE FIRST STAR WITH NO ALIAS
 -- the star of an item, where stars are expanded
@@ -126,35 +131,35 @@ plain-alone i e = rw (plain_star, e) (go (as_star i.expr))
 -- entry k by its numbers e
 module _ (cells parts : List ℕ) (k : ℕ) (e : Entry) (h : e ≡ numbers_at parts item_kind k) where
   pub plain-aliased : (e.length ≡ 0 → ⊥) → (c q : Bytes)
-      → star_of S.Missing ≡ plain_star (entry_item c q cells parts k ∷ [])
-  unfolding star_of plain_star entry_item
+      → option_of std.None ≡ plain_star (entry_item c q cells parts k ∷ [])
+  unfolding plain_star entry_item
   plain-aliased g c q = rw (plain_star, ← h, name-some c q e.address e.length g)
 
-  module _ (x : Star) (r : ℕ) (f : r ≡ first_row e) (t : (c q : Bytes) → star_of x ≡ as_star (tree_at c q cells r)) where
-    pub plain-free : e.length ≡ 0 → (c q : Bytes) → star_of x ≡ plain_star (entry_item c q cells parts k ∷ [])
+  module _ (x : std.Option ℕ) (r : ℕ) (f : r ≡ first_row e) (t : (c q : Bytes) → option_of x ≡ as_star (tree_at c q cells r)) where
+    pub plain-free : e.length ≡ 0 → (c q : Bytes) → option_of x ≡ plain_star (entry_item c q cells parts k ∷ [])
     unfolding entry_item
     plain-free g c q =
         t c q ∙ ap (λ i. as_star (tree_at c q cells i)) (f ∙ ap first_row h)
         ∙ sym (plain-alone (entry_item c q cells parts k) (rw (← h) (name-none c q e.address e.length g)))
 
-    pub sought-is : (b : Bool) → b ≡ true → (c q : Bytes) → star_of x ≡ sought b (entry_item c q cells parts k)
+    pub sought-is : (b : Bool) → b ≡ true → (c q : Bytes) → option_of x ≡ sought b (entry_item c q cells parts k)
     unfolding sought entry_item
     sought-is b g c q = rw (g, ← h) (t c q ∙ ap (λ i. as_star (tree_at c q cells i)) f)
 
 -- item x, by its number
-module _ (cells parts : List ℕ) (x : ℕ) (s : Star) where
-  pub plain-before : x < statement_rows → ((c q : Bytes) → star_of s ≡ plain_star (entry_item c q cells parts x ∷ []))
-      → (c q : Bytes) → star_of s ≡ plain_star (item_of c q cells parts x ∷ [])
+module _ (cells parts : List ℕ) (x : ℕ) (s : std.Option ℕ) where
+  pub plain-before : x < statement_rows → ((c q : Bytes) → option_of s ≡ plain_star (entry_item c q cells parts x ∷ []))
+      → (c q : Bytes) → option_of s ≡ plain_star (item_of c q cells parts x ∷ [])
   plain-before h t c q = rw (item-entry c q cells parts x h) (t c q)
 
-  pub plain-behind : statement_rows ≤ x → ((c q : Bytes) → star_of s ≡ as_star (tree_at c q cells x))
-      → (c q : Bytes) → star_of s ≡ plain_star (item_of c q cells parts x ∷ [])
+  pub plain-behind : statement_rows ≤ x → ((c q : Bytes) → option_of s ≡ as_star (tree_at c q cells x))
+      → (c q : Bytes) → option_of s ≡ plain_star (item_of c q cells parts x ∷ [])
   unfolding starred_at
   plain-behind h t c q =
       rw (item-starred c q cells parts x h) (t c q ∙ sym (plain-alone (starred_at c q cells x) refl))
 
-pub sought-not : (b : Bool) → b ≡ false → (i : Item) → star_of S.Missing ≡ sought b i
-unfolding star_of sought
+pub sought-not : (b : Bool) → b ≡ false → (i : Item) → option_of std.None ≡ sought b i
+unfolding sought
 sought-not b g i = rw g
 
 first-none : (i : Item) (r : List Item) → plain_star (i ∷ []) ≡ none → plain_star (i ∷ r) ≡ plain_star r
@@ -196,21 +201,19 @@ module _ {cells parts : List ℕ} {k n : ℕ} (s : Seeking cells parts k) (g : l
       → drop k (items_at c q cells parts) ≡ entry_item c q cells parts k ∷ drop (suc k) (items_at c q cells parts)
   here h c q = items-drop c q cells parts g k (omega (arith, m c q cells))
 
-  module _ (x : Star) (h : k < n) (t : (c q : Bytes) → star_of x ≡ plain_star (entry_item c q cells parts k ∷ [])) where
-    pub seek_hit : (l : ℕ) → x ≡ S.At l → (c q : Bytes) → star_of (S.At l) ≡ plain_star (items_at c q cells parts)
-    unfolding star_of
+  module _ (x : std.Option ℕ) (h : k < n) (t : (c q : Bytes) → option_of x ≡ plain_star (entry_item c q cells parts k ∷ [])) where
+    pub seek_hit : (l : ℕ) → x ≡ std.Some l → (c q : Bytes) → option_of (std.Some l) ≡ plain_star (items_at c q cells parts)
     seek_hit l e c q = sym (sym (s.rest c q) ∙ ap plain_star (here h c q)
-        ∙ first_some _ _ l (sym (t c q) ∙ ap star_of e))
+        ∙ first_some _ _ l (sym (t c q) ∙ ap option_of e))
 
-    pub seek-miss : x ≡ S.Missing → Seeking cells parts (k + 1)
-    unfolding star_of
+    pub seek-miss : x ≡ std.None → Seeking cells parts (k + 1)
     seek-miss e = record {
-      rest = λ c q. rw (add-one k) (sym (first-none _ _ (sym (t c q) ∙ ap star_of e)) ∙ sym (ap plain_star (here h c q))
+      rest = λ c q. rw (add-one k) (sym (first-none _ _ (sym (t c q) ∙ ap option_of e)) ∙ sym (ap plain_star (here h c q))
           ∙ s.rest c q);
     }
 
-  pub seek-end : n ≤ k → (c q : Bytes) → star_of S.Missing ≡ plain_star (items_at c q cells parts)
-  unfolding star_of plain_star
+  pub seek-end : n ≤ k → (c q : Bytes) → option_of std.None ≡ plain_star (items_at c q cells parts)
+  unfolding plain_star
   seek-end h c q =
       let z : length (items_at c q cells parts) ≤ k = omega (arith, items-length c q cells parts, m c q cells) in
       sym (ap plain_star (drop_of_length-le (items_at c q cells parts) z)) ∙ s.rest c q

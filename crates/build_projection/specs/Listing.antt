@@ -1,4 +1,5 @@
 -- The items one after the other: the numbers listed so far and what is left stand for all items.
+use Rattle.std.specs.Prelude as std
 use Rattle.std.specs.Prelude.{ℕ, zero, suc, ◌+◌, ◌-◌, ◌*◌, ◌≤◌, ◌<◌, ◌≡◌, Bool, true, drop, set}
 use native.Mathlib.Omega.{arith}
 use Rattle.std.proofs.Common.{add-one, sym, ◌∙◌, length-append, drop_of_length-le, take_at}
@@ -16,6 +17,7 @@ use Rattle.rules.specs.Plan.{Label, nameless, unqualified, qualified}
 use Rattle.rules.specs.Items.{starred_column, expand_stars}
 use Rattle.claims.specs.Lists.{map-append}
 use Rattle.ast.specs.Table.{row_size, statement_rows, starred_rows, table_size}
+use Rattle.numbers.specs.declared.refusals.Refusal.{Refusal}
 use Rattle.numbers.specs.Kept.{Kept}
 use Rattle.numbers.specs.Kept.{kept-all, kept_on, kept-first}
 use Rattle.read_expression.specs.Starred.{starred_row}
@@ -24,16 +26,13 @@ use Rattle.scope.specs.Scopes.{up_to}
 use Rattle.sections.specs.Layout.{section_at}
 use Rattle.sections.specs.Access.{item_kind, numbers_at}
 use Rattle.statement.specs.Layout.{map_entries, to_item}
+use Rattle.numbers.specs.Options.{option_of}
 use Rattle.build_projection.specs.Stars.{with_columns, columns-room, columns-below, columns-back, starred_at}
 use Rattle.build_projection.specs.Items.{items_at, entry_item, item_of, item-entry, item-starred, items-length}
-use Rattle.build_projection.specs.Items.{entry-after, items-drop, star_of, sought}
+use Rattle.build_projection.specs.Items.{entry-after, items-drop, sought}
 use Rattle.build_projection.specs.Steps.{width_of, starred_of, limit_line, numbers_for, cells_with, ItemListed}
-use Rattle.build_projection.specs.Steps.{listed-told, limit-told}
 use Rattle.build_projection.specs.Terms.{Ready, chosen}
-use Rattle.build_projection.specs.declared.items.Star.{Star}
-use Rattle.build_projection.specs.declared.items.Star.TheVariants as S
-use Rattle.build_projection.specs.declared.items.Step.{Step}
-use Rattle.build_projection.specs.declared.items.Step.TheVariants as T
+use Rattle.build_projection.specs.declared.items.Listed.{Listed}
 
 -- ENTRIES THAT ARE KEPT
 some_same : (a b : Item) → some a ≡ some b → a ≡ b
@@ -52,17 +51,17 @@ entry_kept c q cells parts ts labels x r g b l k h =
     ∙ entry-after c q cells parts g k h)
 
 -- WHAT AN ITEM STANDS FOR
-unfoldable pub new_items : Star → Item → List Label → List Item
-new_items S.Missing i ls = i ∷ []
-new_items (S.At l) i ls = map (starred_column l) ls
+unfoldable pub new_items : std.Option ℕ → Item → List Label → List Item
+new_items std.None i ls = i ∷ []
+new_items (std.Some l) i ls = map (starred_column l) ls
 
-chosen-item : (b : Bool) (star : Star) (i : Item) (r : List Item) (ls : List Label) → star_of star ≡ sought b i
+chosen-item : (b : Bool) (star : std.Option ℕ) (i : Item) (r : List Item) (ls : List Label) → option_of star ≡ sought b i
     → chosen b ls (i ∷ r) ≡ new_items star i ls ++ chosen b ls r
-unfolding chosen new_items sought star_of expand_stars
-chosen-item true S.Missing i r ls e = rw (expand_stars, ← e)
-chosen-item true (S.At l) i r ls e = rw (expand_stars, ← e)
-chosen-item false S.Missing i r ls e = refl
-chosen-item false (S.At l) i r ls e = absurd (let z : ◌≡◌ {A = ℕ} 0 1 = cc in omega arith)
+unfolding chosen new_items sought expand_stars
+chosen-item true std.None i r ls e = rw (expand_stars, ← e)
+chosen-item true (std.Some l) i r ls e = rw (expand_stars, ← e)
+chosen-item false std.None i r ls e = refl
+chosen-item false (std.Some l) i r ls e = absurd (let z : ◌≡◌ {A = ℕ} 0 1 = cc in omega arith)
 
 -- a starred row is no entry
 starred-rows : (c q : Bytes) (x parts : List ℕ) (r w : ℕ) → statement_rows ≤ r
@@ -111,7 +110,7 @@ listing-begin cells parts ts labels items b g h = record {
 }
 
 -- the items of one entry, by its star
-pub record Found (c q : Bytes) (cells₀ parts ts labels : List ℕ) (b : Bool) (k : ℕ) (star : Star) : Type 0 where
+pub record Found (c q : Bytes) (cells₀ parts ts labels : List ℕ) (b : Bool) (k : ℕ) (star : std.Option ℕ) : Type 0 where
   pub left : chosen b (columns_of c q ts labels) (drop k (items_at c q cells₀ parts))
       ≡ new_items star (entry_item c q cells₀ parts k) (columns_of c q ts labels)
       ++ chosen b (columns_of c q ts labels) (drop (suc k) (items_at c q cells₀ parts))
@@ -137,10 +136,10 @@ wide-behind xs n m l e h w = record {
   line = w.line;
 }
 
-new-length : (y : Star) (i : Item) (ls : List Label) → length (new_items y i ls) ≡ width_of y (length ls)
+new-length : (y : std.Option ℕ) (i : Item) (ls : List Label) → length (new_items y i ls) ≡ width_of y (length ls)
 unfolding new_items width_of
-new-length S.Missing i ls = refl
-new-length (S.At l) i ls = length-map ls (starred_column l)
+new-length std.None i ls = refl
+new-length (std.Some l) i ls = length-map ls (starred_column l)
 
 star-line : (l : ℕ) (x : Label) → (starred_column l x).line ≡ l
 unfolding starred_column
@@ -170,13 +169,13 @@ stars-wide l (suc m) (x ∷ ls) rest h =
       line = w.line;
     }
 
-new-wide : (y : Star) (i : Item) (ls : List Label) (rest : List Item) (m l : ℕ) → l ≡ limit_line y i.line
+new-wide : (y : std.Option ℕ) (i : Item) (ls : List Label) (rest : List Item) (m l : ℕ) → l ≡ limit_line y i.line
     → m < length (new_items y i ls) → Wide m l (new_items y i ls ++ rest)
 unfolding new_items limit_line
-new-wide S.Missing i ls rest zero l e h =
+new-wide std.None i ls rest zero l e h =
     record { first = []; item = i; rest = rest; parts = refl; size = refl; line = sym e }
-new-wide S.Missing i ls rest (suc m) l e h = absurd (omega arith)
-new-wide (S.At k) i ls rest m l e h = rw e (stars-wide k m ls rest h)
+new-wide std.None i ls rest (suc m) l e h = absurd (omega arith)
+new-wide (std.Some k) i ls rest m l e h = rw e (stars-wide k m ls rest h)
 
 -- what is left behind one more part
 joined-lists : {A : Type 0} (xs new rest all : List A) (left : List A) → left ≡ new ++ rest → xs ++ left ≡ all
@@ -184,9 +183,9 @@ joined-lists : {A : Type 0} (xs new rest all : List A) (left : List A) → left 
 joined-lists xs new rest all left e f = append_assoc xs new rest ∙ ap (λ r. xs ++ r) (sym e) ∙ f
 
 module _ {cells₀ parts ts labels : List ℕ} {b : Bool} {k n s : ℕ} {cells items : List ℕ}
-    (h : Listing cells₀ parts ts labels b k n s cells items) (star : Star) {total : ℕ} (j : k < total)
+    (h : Listing cells₀ parts ts labels b k n s cells items) (star : std.Option ℕ) {total : ℕ} (j : k < total)
     (m : (c q : Bytes) (x : List ℕ) → total ≡ length (section_at c q x parts item_kind))
-    (t : (c q : Bytes) → star_of star ≡ sought b (entry_item c q cells parts k)) where
+    (t : (c q : Bytes) → option_of star ≡ sought b (entry_item c q cells parts k)) where
   found : (c q : Bytes) → Ready c q cells₀ parts ts labels → Found c q cells₀ parts ts labels b k star
   found c q r =
       let l : k < length (section_at c q cells₀ parts item_kind) = omega (arith, m c q cells₀) in
@@ -197,7 +196,7 @@ module _ {cells₀ parts ts labels : List ℕ} {b : Bool} {k n s : ℕ} {cells i
       }
 
   -- an entry that is no star
-  entry_more : ((c q : Bytes) → Ready c q cells₀ parts ts labels → Found c q cells₀ parts ts labels b k S.Missing)
+  entry_more : ((c q : Bytes) → Ready c q cells₀ parts ts labels → Found c q cells₀ parts ts labels b k std.None)
       → n + 1 ≤ most_columns → Listing cells₀ parts ts labels b (suc k) (n + 1) (s + 0) cells (set items n k)
   unfolding new_items
   entry_more f d =
@@ -225,7 +224,7 @@ module _ {cells₀ parts ts labels : List ℕ} {b : Bool} {k n s : ℕ} {cells i
 
   -- the columns that a star stands for
   star-more : (l : ℕ)
-      → ((c q : Bytes) → Ready c q cells₀ parts ts labels → Found c q cells₀ parts ts labels b k (S.At l))
+      → ((c q : Bytes) → Ready c q cells₀ parts ts labels → Found c q cells₀ parts ts labels b k (std.Some l))
       → n + length labels ≤ most_columns
       → Listing cells₀ parts ts labels b (suc k) (n + length labels) (s + length labels)
       (with_columns cells ts s l labels) (sets items n (up_to (starred_row s) (length labels)))
@@ -256,38 +255,36 @@ module _ {cells₀ parts ts labels : List ℕ} {b : Bool} {k n s : ℕ} {cells i
             (h.holds c q r x below v));
       }
 
-  module _ {line : ℕ} {cells' items' : List ℕ} {r : Step}
-      (a : ItemListed cells cells' ts labels items items' k line star n s r) where
-    -- one entry more
-    pub listing-more : (n' s' : ℕ) → r ≡ T.Listed n' s'
-        → Listing cells₀ parts ts labels b (k + 1) n' s' cells' items'
-    listing-more n' s' e =
-        let w = listed-told star n s (length labels) line n' s' (sym e ∙ a.answer) in
-        rw (w.1, w.2, a.rows w.0, a.numbers w.0, add-one k) (by-star star found w.0)
-      where
-        by-star : (y : Star) → ((c q : Bytes) → Ready c q cells₀ parts ts labels → Found c q cells₀ parts ts labels b k y)
-            → n + width_of y (length labels) ≤ most_columns
-            → Listing cells₀ parts ts labels b (suc k) (n + width_of y (length labels)) (s + starred_of y (length labels))
-            (cells_with y cells ts s labels) (sets items n (numbers_for y k s (length labels)))
-        by-star S.Missing f d = unfold width_of starred_of cells_with numbers_for in entry_more f d
-        by-star (S.At l) f d = unfold width_of starred_of cells_with numbers_for in star-more l f d
+  -- one entry more
+  pub listing-more : {line : ℕ} {cells' items' : List ℕ} {x : Listed}
+      → ItemListed cells cells' ts labels items items' k line star n s (std.Ok x)
+      → Listing cells₀ parts ts labels b (k + 1) x.count x.starred cells' items'
+  listing-more a = rw (a.is.count, a.is.starred, a.is.rows, a.is.numbers, add-one k) (by-star star found a.is.within)
+    where
+      by-star : (y : std.Option ℕ) → ((c q : Bytes) → Ready c q cells₀ parts ts labels → Found c q cells₀ parts ts labels b k y)
+          → n + width_of y (length labels) ≤ most_columns
+          → Listing cells₀ parts ts labels b (suc k) (n + width_of y (length labels)) (s + starred_of y (length labels))
+          (cells_with y cells ts s labels) (sets items n (numbers_for y k s (length labels)))
+      by-star std.None f d = unfold width_of starred_of cells_with numbers_for in entry_more f d
+      by-star (std.Some l) f d = unfold width_of starred_of cells_with numbers_for in star-more l f d
 
-    -- one too many: the item behind the most, with its line
-    pub listing-limit : (l : ℕ) → r ≡ T.Limit l → line ≡ (numbers_at parts item_kind k).line
-        → (c q : Bytes) → Ready c q cells₀ parts ts labels
-        → Wide most_columns l (chosen b (columns_of c q ts labels) (items_at c q cells₀ parts))
-    unfolding entry_item numbers_at
-    listing-limit l e g c q d =
-        let w = limit-told star n s (length labels) line l (sym e ∙ a.answer) in
-        let all = h.holds c q d cells (kept-all 0 _ cells) h.room in
-        let f = (found c q d).left in
-        let ls = columns_of c q ts labels in
-        let i = entry_item c q cells₀ parts k in
-        let xs = map (item_of c q cells parts) (take n items) in
-        let z : length xs ≡ n = length-map (take n items) (item_of c q cells parts) ∙ length-take-le n items (omega (arith, h.most, h.space)) in
-        rw (← (ap (λ r. xs ++ r) (sym f) ∙ all)) (wide-behind xs n most_columns l z h.most
-        (new-wide star i ls _ (most_columns - n) l (w.1 ∙ ap (limit_line star) g)
-        (omega (arith, w.0, new-length star i ls, columns-length c q ts labels, ap (width_of star) (columns-length c q ts labels)))))
+  -- one too many: the item behind the most, with its line
+  pub listing-limit : {line : ℕ} {cells' items' : List ℕ} {x : Refusal}
+      → ItemListed cells cells' ts labels items items' k line star n s (std.Err x)
+      → line ≡ (numbers_at parts item_kind k).line
+      → (c q : Bytes) → Ready c q cells₀ parts ts labels
+      → Wide most_columns (limit_line star line) (chosen b (columns_of c q ts labels) (items_at c q cells₀ parts))
+  unfolding entry_item numbers_at
+  listing-limit {line} a g c q d =
+      let all = h.holds c q d cells (kept-all 0 _ cells) h.room in
+      let f = (found c q d).left in
+      let ls = columns_of c q ts labels in
+      let i = entry_item c q cells₀ parts k in
+      let xs = map (item_of c q cells parts) (take n items) in
+      let z : length xs ≡ n = length-map (take n items) (item_of c q cells parts) ∙ length-take-le n items (omega (arith, h.most, h.space)) in
+      rw (← (ap (λ r. xs ++ r) (sym f) ∙ all)) (wide-behind xs n most_columns (limit_line star line) z h.most
+      (new-wide star i ls _ (most_columns - n) (limit_line star line) (ap (limit_line star) g)
+      (omega (arith, a.is.beyond, new-length star i ls, columns-length c q ts labels, ap (width_of star) (columns-length c q ts labels)))))
 
 -- all are listed
 pub listing-end : {cells₀ parts ts labels : List ℕ} {b : Bool} {k n s total : ℕ} {cells items : List ℕ}

@@ -3,131 +3,88 @@ use Prim.Native.Nat.{ℕ, suc, ◌+◌, ◌-◌, ◌≤◌, ◌<◌}
 use native.Mathlib.Omega.{arith}
 use Rattle.std.proofs.Math.Path.{◌≡◌, refl}
 use Rattle.std.proofs.Common.{◌∙◌}
+use Rattle.std.specs.Prelude as std
 use Rattle.std.specs.Prelude.{Bool, List, [], ◌∷◌, length, set}
-use Rattle.std.proofs.Math.Bool.{true, false}
-use Rattle.std.proofs.Math.Dec.{ltb}
 use Rattle.std.proofs.Math.ListN.{length-set}
 use Rattle.std.proofs.lemmas.List.Edits.{sets}
-use borrow.Author.Tests.{lt-ltb, le-ltb, ltb-true, ltb-false}
+use Rattle.rules.specs.Refusals.{limit_passed}
 use Rattle.rules.specs.Limits.{most_columns}
 use Rattle.read_expression.specs.Starred.{starred_row}
 use Rattle.scope.specs.Scopes.{up_to}
+use Rattle.numbers.specs.Reasons.{named}
+use Rattle.numbers.specs.declared.refusals.Reason.TheVariants.{LimitPassed}
+use Rattle.numbers.specs.declared.refusals.Refusal.{Refusal}
 use Rattle.build_projection.specs.Stars.{with_columns}
-use Rattle.build_projection.specs.declared.items.Star.{Star}
-use Rattle.build_projection.specs.declared.items.Star.TheVariants as S
-use Rattle.build_projection.specs.declared.items.Step.{Step}
-use Rattle.build_projection.specs.declared.items.Step.TheVariants as T
+use Rattle.build_projection.specs.declared.items.Listed.{Listed}
 
 -- how many items it is over w columns, and how many of them are starred
-unfoldable pub width_of : Star → ℕ → ℕ
-width_of S.Missing w = 1
-width_of (S.At l) w = w
+unfoldable pub width_of : std.Option ℕ → ℕ → ℕ
+width_of std.None w = 1
+width_of (std.Some l) w = w
 
-unfoldable pub starred_of : Star → ℕ → ℕ
-starred_of S.Missing w = 0
-starred_of (S.At l) w = w
+unfoldable pub starred_of : std.Option ℕ → ℕ → ℕ
+starred_of std.None w = 0
+starred_of (std.Some l) w = w
 
 -- the line at which 3 is said
-unfoldable pub limit_line : Star → ℕ → ℕ
-limit_line S.Missing line = line
-limit_line (S.At l) line = l
+unfoldable pub limit_line : std.Option ℕ → ℕ → ℕ
+limit_line std.None line = line
+limit_line (std.Some l) line = l
 
 -- the items' numbers, and the rows with the starred columns
-unfoldable pub numbers_for : Star → (k s w : ℕ) → List ℕ
-numbers_for S.Missing k s w = k ∷ []
-numbers_for (S.At l) k s w = up_to (starred_row s) w
+unfoldable pub numbers_for : std.Option ℕ → (k s w : ℕ) → List ℕ
+numbers_for std.None k s w = k ∷ []
+numbers_for (std.Some l) k s w = up_to (starred_row s) w
 
-unfoldable pub cells_with : Star → (cells ts : List ℕ) → ℕ → List ℕ → List ℕ
-cells_with S.Missing cells ts s labels = cells
-cells_with (S.At l) cells ts s labels = with_columns cells ts s l labels
+unfoldable pub cells_with : std.Option ℕ → (cells ts : List ℕ) → ℕ → List ℕ → List ℕ
+cells_with std.None cells ts s labels = cells
+cells_with (std.Some l) cells ts s labels = with_columns cells ts s l labels
 
-unfoldable pub step_of : Star → (n s w line : ℕ) → Step
-step_of star n s w line = elim (ltb most_columns (n + width_of star w)) [
-  | true ↦ T.Limit (limit_line star line)
-  | false ↦ T.Listed (n + width_of star w) (s + starred_of star w)
-]
-
-pub record ItemListed (cells cells' ts labels items items' : List ℕ) (k line : ℕ) (star : Star) (n s : ℕ) (r : Step)
+-- listed behind n items and s starred columns: there is room for it
+pub record Listable (cells cells' ts labels items items' : List ℕ) (k : ℕ) (star : std.Option ℕ) (n s : ℕ) (x : Listed)
     : Type 0 where
-  pub answer : r ≡ step_of star n s (length labels) line
-  pub rows : n + width_of star (length labels) ≤ most_columns → cells' ≡ cells_with star cells ts s labels
-  pub numbers : n + width_of star (length labels) ≤ most_columns
-      → items' ≡ sets items n (numbers_for star k s (length labels))
+  pub within : n + width_of star (length labels) ≤ most_columns
+  pub count : x.count ≡ n + width_of star (length labels)
+  pub starred : x.starred ≡ s + starred_of star (length labels)
+  pub rows : cells' ≡ cells_with star cells ts s labels
+  pub numbers : items' ≡ sets items n (numbers_for star k s (length labels))
 
-module _ (star : Star) (n s w line : ℕ) where
-  pub step-limit : most_columns < n + width_of star w → T.Limit (limit_line star line) ≡ step_of star n s w line
-  unfolding step_of
-  step-limit h = rw (step_of, lt-ltb most_columns (n + width_of star w) h)
+-- one too many
+pub record TooMany (w line : ℕ) (star : std.Option ℕ) (n : ℕ) (x : Refusal) : Type 0 where
+  pub beyond : most_columns < n + width_of star w
+  pub is : x ≡ record { reason = named limit_passed; line = limit_line star line }
 
-  pub step-listed : n + width_of star w ≤ most_columns
-      → T.Listed (n + width_of star w) (s + starred_of star w) ≡ step_of star n s w line
-  unfolding step_of
-  step-listed h = rw (step_of, le-ltb most_columns (n + width_of star w) h)
-
-  -- what an answer tells
-  pub listed-told : (n' s' : ℕ) → T.Listed n' s' ≡ step_of star n s w line
-      → (n + width_of star w ≤ most_columns) × (n' ≡ n + width_of star w) × (s' ≡ s + starred_of star w)
-  unfolding step_of
-  listed-told n' s' e = go (ltb most_columns (n + width_of star w)) refl
-    where
-      go : (b : Bool) → ltb most_columns (n + width_of star w) ≡ b
-          → (n + width_of star w ≤ most_columns) × (n' ≡ n + width_of star w) × (s' ≡ s + starred_of star w)
-      go true z = absurd (let y : T.Listed n' s' ≡ T.Limit (limit_line star line) = e ∙ rw (step_of, z) in
-          let v : ◌≡◌ {A = ℕ} 0 1 = cc in omega arith)
-      go false z =
-          let y : T.Listed n' s' ≡ T.Listed (n + width_of star w) (s + starred_of star w) = e ∙ rw (step_of, z) in
-          (ltb-false _ _ z, cc, cc)
-
-  pub limit-told : (l : ℕ) → T.Limit l ≡ step_of star n s w line
-      → (most_columns < n + width_of star w) × (l ≡ limit_line star line)
-  unfolding step_of
-  limit-told l e = go (ltb most_columns (n + width_of star w)) refl
-    where
-      go : (b : Bool) → ltb most_columns (n + width_of star w) ≡ b
-          → (most_columns < n + width_of star w) × (l ≡ limit_line star line)
-      go true z =
-          let y : T.Limit l ≡ T.Limit (limit_line star line) = e ∙ rw (step_of, z) in
-          (ltb-true _ _ z, cc)
-      go false z = absurd (let y : T.Limit l ≡ T.Listed (n + width_of star w) (s + starred_of star w) = e ∙ rw (step_of, z) in
-          let v : ◌≡◌ {A = ℕ} 0 1 = cc in omega arith)
+pub record ItemListed (cells cells' ts labels items items' : List ℕ) (k line : ℕ) (star : std.Option ℕ) (n s : ℕ)
+    (r : std.Result Listed Refusal) : Type 0 where
+  pub is : std.MatchResult r (Listable cells cells' ts labels items items' k star n s)
+      (TooMany (length labels) line star n)
 
 module _ (cells ts labels items : List ℕ) (k line n s : ℕ) where
-  pub entry-limit : most_columns ≤ n → ItemListed cells cells ts labels items items k line S.Missing n s (T.Limit line)
-  unfolding width_of limit_line
-  entry-limit h = record {
-    answer = step-limit S.Missing n s (length labels) line (omega arith);
-    rows = λ g. absurd (omega arith);
-    numbers = λ g. absurd (omega arith);
-  }
+  pub entry-limit : most_columns ≤ n → ItemListed cells cells ts labels items items k line std.None n s
+      (std.Err (record { reason = LimitPassed; line = line }))
+  unfolding width_of limit_line named
+  entry-limit h = record { is = record { beyond = omega arith; is = refl } }
 
-  pub entry_listed : n < most_columns
-      → ItemListed cells cells ts labels items (set items n k) k line S.Missing n s (T.Listed (n + 1) s)
+  pub entry_listed : n < most_columns → ItemListed cells cells ts labels items (set items n k) k line std.None n s
+      (std.Ok (record { count = n + 1; starred = s }))
   unfolding width_of starred_of cells_with numbers_for
-  entry_listed h =
-      let z : s + 0 ≡ s = omega arith in
-      record {
-        answer = rw z at (step-listed S.Missing n s (length labels) line (omega arith));
-        rows = λ g. refl;
-        numbers = λ g. refl;
-      }
+  entry_listed h = record {
+    is = record { within = omega arith; count = refl; starred = omega arith; rows = refl; numbers = refl };
+  }
 
   pub star-limit : (l : ℕ) → most_columns < n + length labels
-      → ItemListed cells cells ts labels items items k line (S.At l) n s (T.Limit l)
-  unfolding width_of limit_line
-  star-limit l h = record {
-    answer = step-limit (S.At l) n s (length labels) line h;
-    rows = λ g. absurd (omega arith);
-    numbers = λ g. absurd (omega arith);
-  }
+      → ItemListed cells cells ts labels items items k line (std.Some l) n s
+      (std.Err (record { reason = LimitPassed; line = l }))
+  unfolding width_of limit_line named
+  star-limit l h = record { is = record { beyond = h; is = refl } }
 
   pub star-listed : (l : ℕ) (cells' items' : List ℕ) → n + length labels ≤ most_columns
       → cells' ≡ with_columns cells ts s l labels → items' ≡ sets items n (up_to (starred_row s) (length labels))
-      → ItemListed cells cells' ts labels items items' k line (S.At l) n s (T.Listed (n + length labels) (s + length labels))
+      → ItemListed cells cells' ts labels items items' k line (std.Some l) n s
+      (std.Ok (record { count = n + length labels; starred = s + length labels }))
   unfolding width_of starred_of cells_with numbers_for
   star-listed l cells' items' h e f = record {
-    answer = step-listed (S.At l) n s (length labels) line h;
-    rows = λ g. e;
-    numbers = λ g. f;
+    is = record { within = h; count = refl; starred = refl; rows = e; numbers = f };
   }
 
 -- NUMBERS ONE AFTER THE OTHER

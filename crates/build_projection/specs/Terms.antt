@@ -1,6 +1,6 @@
 -- The contract of the items: what is asked of the rows, the labels and the parts, and what the listed numbers stand for.
-use Rattle.std.specs.Prelude.{ℕ, ◌*◌, ◌≤◌, ◌≡◌, Bool, true, false, List, map, length, take}
-use Rattle.rules.specs.Refusals.{Answer, ok, refused, refusal_number, ◌>>=◌, at_most}
+use Rattle.std.specs.Prelude.{ℕ, ◌*◌, ◌≤◌, ◌≡◌, Bool, true, false, List, map, length, take, Result, Ok, Err}
+use Rattle.rules.specs.Refusals.{Answer, ok, refused, ◌>>=◌, at_most}
 use Rattle.rules.specs.Limits.{most_columns, most_entries}
 use Rattle.rules.specs.Lists.{Bytes}
 use Rattle.rules.specs.Ast.{Item, Select}
@@ -9,14 +9,14 @@ use Rattle.rules.specs.Items.{expand_stars, build_items}
 use Rattle.claims.specs.Answers.{All}
 use Rattle.claims.specs.Refused.Qualified.{IsQualified}
 use Rattle.ast.specs.Table.{row_size, statement_rows, table_size}
+use Rattle.numbers.specs.Reasons.{noted}
+use Rattle.numbers.specs.declared.refusals.Refusal.{Refusal}
 use Rattle.numbers.specs.Kept.{Kept}
 use Rattle.scope.specs.Labels.{columns_of}
 use Rattle.sections.specs.Layout.{section_at}
 use Rattle.sections.specs.Access.{item_kind, group_kind, limit_kind}
 use Rattle.statement.specs.Layout.{map_entries, to_group}
 use Rattle.build_projection.specs.Items.{items_at, item_of}
-use Rattle.build_projection.specs.declared.items.Outcome.{Outcome}
-use Rattle.build_projection.specs.declared.items.Outcome.TheVariants as O
 
 -- What holds of a SELECT that was read: the rows behind the statement's change nothing of its sections, and it has no
 -- more items than may be. And of FROM: all its columns have a table.
@@ -34,23 +34,23 @@ chosen b ls is' = elim b [ true ↦ expand_stars ls is' | false ↦ is' ]
 unfoldable pub counted : List Item → Answer (List Item)
 counted is' = at_most most_columns (λ (i : Item). i.line) is' >>= λ u. ok is'
 
--- the numbers of an answer
-unfoldable pub outcome_of : Answer (List Item) → Outcome
-outcome_of (ok is') = O.Done (length is')
-outcome_of (refused w) = O.Refused (refusal_number w.reason) w.line
+-- how many an answer has
+unfoldable pub outcome_of : Answer (List Item) → Result ℕ Refusal
+outcome_of (ok is') = Ok (length is')
+outcome_of (refused w) = Err (noted w)
 
 -- what is answered; where it is accepted, the listed numbers are the items, and the statement's rows are as they were
-pub record Answers (c q : Bytes) (cells cells' parts items' : List ℕ) (a : Answer (List Item)) (r : Outcome) : Type 0 where
+pub record Answers (c q : Bytes) (cells cells' parts items' : List ℕ) (a : Answer (List Item)) (r : Result ℕ Refusal) : Type 0 where
   pub answer : r ≡ outcome_of a
   pub kept : (is' : List Item) → a ≡ ok is' → Kept 0 (row_size * statement_rows) cells cells'
   pub items : (is' : List Item) → a ≡ ok is' → map (item_of c q cells' parts) (take (length is') items') ≡ is'
 
-pub record ItemsExpanded (cells cells' parts ts labels items' : List ℕ) (b : Bool) (r : Outcome) : Type 0 where
+pub record ItemsExpanded (cells cells' parts ts labels items' : List ℕ) (b : Bool) (r : Result ℕ Refusal) : Type 0 where
   pub is : (c q : Bytes) → Ready c q cells parts ts labels
       → Answers c q cells cells' parts items' (counted (chosen b (columns_of c q ts labels) (items_at c q cells parts))) r
 
 -- of a SELECT d over FROM's node m
-pub record ItemsBuilt (cells cells' parts ts labels' items' : List ℕ) (r : Outcome) : Type 0 where
+pub record ItemsBuilt (cells cells' parts ts labels' items' : List ℕ) (r : Result ℕ Refusal) : Type 0 where
   pub is : (c q : Bytes) → Ready c q cells parts ts labels' → (d : Select) (m : Node Built)
       → d.items ≡ items_at c q cells parts
       → d.group ≡ map_entries to_group (section_at c q cells parts group_kind)

@@ -31,9 +31,7 @@ pub fn put_columns(cells: &mut [u32], tables: &[u32], labels: &[u32], k: u32, li
     requires { k + length labels.now ≤ starred_rows }
     ensures { cells.new ≡ with_columns cells.old tables.now k line labels.now }
 {
-    let mut i: usize = 0;
-    while i < labels.len() {
-        put_column(cells, tables, k + i as u32, line, labels[i]);
-        i += 1;
+    for (i, &x) in labels.iter().enumerate() {
+        put_column(cells, tables, k + i as u32, line, x);
     }
 }

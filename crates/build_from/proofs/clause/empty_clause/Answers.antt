@@ -1,7 +1,6 @@
 -- `clause::empty_clause`: one record, and the empty scope.
-use mathlib.Core.Path.{refl}
 use Rattle.build_from.specs.Clause.{clause-none}
 use Rattle.build_from.proofs.clause.empty_clause.Goals as goal
 
 pub returns : goal.returns
-returns c = λ b q ts cells area. clause-none b q ts cells area _ c.new.ensures refl refl refl c.empty_row-k.ensures
+returns c = λ b q ts cells area. clause-none b q ts cells area c.new.ensures c.empty_row-k.ensures

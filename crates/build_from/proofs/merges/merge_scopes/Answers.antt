@@ -1,13 +1,12 @@
 -- `merges::merge_scopes`, by what `may_merge` told.
 use Rattle.build_from.specs.Merges.{mergeable, merges-refused, merges-allowed}
-use mathlib.Core.Path.{refl}
 use Rattle.build_from.proofs.merges.merge_scopes.Goals as goal
 
 pub merge-requires : goal.merge-requires
 merge-requires c = mergeable _ _ _ _ c.requires c.may_merge-may.ensures c.in-Ok.is
 
 pub returns-in-Ok : goal.returns-in-Ok
-returns-in-Ok c = merges-allowed _ _ _ _ c.requires c.may_merge-may.ensures _ c.in-Ok.is refl c.merge.ensures
+returns-in-Ok c = merges-allowed _ _ _ _ c.requires c.may_merge-may.ensures c.in-Ok.is _ c.merge.ensures
 
 pub returns-in-Err : goal.returns-in-Err
-returns-in-Err c = merges-refused _ _ _ _ c.requires c.may_merge-may.ensures _ _ c.in-Err.is c.number.ensures
+returns-in-Err c = merges-refused _ _ _ _ c.requires c.may_merge-may.ensures _ c.in-Err.is

@@ -6,12 +6,12 @@ use Rattle.build_hidden.proofs.later.later_rows.Goals as goal
 pub order_rows-requires : goal.order_rows-requires
 order_rows-requires c = none-fits c.requires c.clause_at-having.ensures c.in-Missing.is
 
-pub visit_rows-walked-requires : goal.visit_rows-walked-requires
-visit_rows-walked-requires c = having-fits c.requires c.clause_at-having.ensures c.in-Stands.is
+pub visit_rows-requires : goal.visit_rows-requires
+visit_rows-requires c = having-fits c.requires c.clause_at-having.ensures c.in-Stands.is
 
 pub order_rows-requires-in-Stands : goal.order_rows-requires-in-Stands
 order_rows-requires-in-Stands c = some_fits c.requires c.clause_at-having.ensures c.in-Stands.is
-    c.visit_rows-walked.ensures
+    c.visit_rows.ensures
 
 pub shape_of-rows-in-Missing : goal.shape_of-rows-in-Missing
 shape_of-rows-in-Missing c = c.order_rows.ensures.appended.all
@@ -21,8 +21,8 @@ returns-in-Missing c = none-visited c.requires c.clause_at-having.ensures c.in-M
     c.order_rows.ensures
 
 pub shape_of-rows-in-Stands : goal.shape_of-rows-in-Stands
-shape_of-rows-in-Stands c = c.order_rows-in-Stands.ensures.appended.all ∙ c.visit_rows-walked.ensures.appended.all
+shape_of-rows-in-Stands c = c.order_rows-in-Stands.ensures.appended.all ∙ c.visit_rows.ensures.appended.all
 
 pub returns-in-Stands : goal.returns-in-Stands
 returns-in-Stands c = some-visited c.requires c.clause_at-having.ensures c.in-Stands.is
-    c.visit_rows-walked.ensures c.order_rows-in-Stands.ensures
+    c.visit_rows.ensures c.order_rows-in-Stands.ensures

@@ -5,14 +5,14 @@ use Rattle.build_hidden.proofs.later.order_rows.Goals as goal
 pub loop-k-init : goal.loop-k-init
 loop-k-init c = keys-begin c.requires
 
-pub visit_rows-walked-requires : goal.visit_rows-walked-requires
-visit_rows-walked-requires c = keys-fits c.requires c.loop-k.invariant _ c.count-total.ensures c.loop-k-test.true
+pub visit_rows-requires : goal.visit_rows-requires
+visit_rows-requires c = keys-fits c.requires c.loop-k.invariant _ c.count-total.ensures c.loop-k-test.true
     c.entry_at-e.ensures c.first_row.ensures
 
 pub loop-k-preserved : goal.loop-k-preserved
 loop-k-preserved c = keys-more c.requires c.loop-k.invariant _ c.count-total.ensures c.loop-k-test.true
     c.entry_at-e.ensures c.first_row.ensures
-    c.visit_rows-walked.ensures
+    c.visit_rows.ensures
 
 pub shape_of-rows : goal.shape_of-rows
 shape_of-rows c = c.loop-k.invariant.appended.all

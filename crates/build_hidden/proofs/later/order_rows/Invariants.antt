@@ -1,10 +1,6 @@
 -- `later::order_rows`: the rows of the keys so far, and the keys that are left.
-use Prim.Native.Nat.{◌-◌}
 use Rattle.build_hidden.specs.Later.{KeysVisiting}
 use Rattle.build_hidden.proofs.later.order_rows.Given as goal
 
 abbrev pub invariant-loop-k : goal.invariant-loop-k
 invariant-loop-k l = KeysVisiting l.cells l.parts l.initial.rows l.n l.rows l.m l.k
-
-abbrev pub decreases-loop-k : goal.decreases-loop-k
-decreases-loop-k l = l.total - l.k

@@ -1,7 +1,8 @@
 -- `walk::visit_rows`: what is left of the table falls with each call; the rows so far are those of the walk up to the
 -- operands left.
 use native.Mathlib.Omega.{arith}
-use mathlib.Core.Path.{◌∙◌}
+use mathlib.Core.Path.{◌≡◌, ◌∙◌}
+use Prim.Native.Nat.{◌+◌, ◌-◌}
 use Rattle.ast.specs.Operands.{operands-inside}
 use Rattle.build_hidden.specs.Rows.{first_fits, visiting-begin, visiting-fits, visiting-kept}
 use Rattle.build_hidden.specs.Rows.{visiting-end, visiting-stop, visiting-more}
@@ -17,37 +18,38 @@ returns-then-left-eq0 t c = visiting-end c.requires (visiting-begin _ _ _ _ _ _ 
 pub overflow_add-p : goal.overflow_add-p
 overflow_add-p t c = omega (arith, operands-inside _ _ (λ e. c.if-left-eq0.false (c.operands-left.ensures ∙ e)))
 
-pub loop-left-init : goal.loop-left-init
-loop-left-init t c = (
+pub loop-i-init : goal.loop-i-init
+loop-i-init t c = (
   omega arith,
   operands-inside _ _ (λ e. c.if-left-eq0.false (c.operands-left.ensures ∙ e)),
-  visiting-begin _ _ _ _ _ _ c.requires c.kind-any.ensures c.operands-left.ensures,
+  let z : c.operands-left.result - 0 ≡ c.operands-left.result = omega arith in
+  rw z (visiting-begin _ _ _ _ _ _ c.requires c.kind-any.ensures c.operands-left.ensures),
 )
 
-pub visit_rows-walked-requires : goal.visit_rows-walked-requires
-visit_rows-walked-requires t c = (
-  omega (arith, c, c.loop-left.invariant.0, c.loop-left.invariant.1),
+pub visit_rows-answer-requires : goal.visit_rows-answer-requires
+visit_rows-answer-requires t c = (
+  omega (arith, c, c.loop-i.invariant.0, c.loop-i.invariant.1),
   visiting-fits c.requires
-      c.loop-left.invariant.2 c.loop-left-test.true,
+      c.loop-i.invariant.2 (omega (arith, c.loop-i-test.true)),
 )
 
-pub shape_of-rows-then-walked-any : goal.shape_of-rows-then-walked-any
-shape_of-rows-then-walked-any t c = c.visit_rows-walked.ensures.appended.all ∙ visiting-kept c.requires c.loop-left.invariant.2
+pub shape_of-rows-then-answer-any : goal.shape_of-rows-then-answer-any
+shape_of-rows-then-answer-any t c = c.visit_rows-answer.ensures.appended.all ∙ visiting-kept c.requires c.loop-i.invariant.2
 
-pub returns-then-walked-any : goal.returns-then-walked-any
-returns-then-walked-any t c = visiting-stop c.requires c.loop-left.invariant.2 c.loop-left-test.true
-    c.visit_rows-walked.ensures c.if-walked-any.true
+pub returns-then-answer-any : goal.returns-then-answer-any
+returns-then-answer-any t c = visiting-stop c.requires c.loop-i.invariant.2 (omega (arith, c.loop-i-test.true))
+    c.visit_rows-answer.ensures c.if-answer-any.true
 
-pub loop-left-preserved : goal.loop-left-preserved
-loop-left-preserved t c = rw c.next-p.ensures (
+pub loop-i-preserved : goal.loop-i-preserved
+loop-i-preserved t c = let z : c.operands-left.result - (c.loop-i.i + 1) ≡ c.operands-left.result - c.loop-i.i - 1 = omega arith in rw (z, c.next-p.ensures) (
   omega arith,
-  c.loop-left.invariant.1,
-  visiting-more c.requires c.loop-left.invariant.2 c.loop-left-test.true
-      c.visit_rows-walked.ensures c.if-walked-any.false,
+  c.loop-i.invariant.1,
+  visiting-more c.requires c.loop-i.invariant.2 (omega (arith, c.loop-i-test.true))
+      c.visit_rows-answer.ensures c.if-answer-any.false,
 )
 
 pub shape_of-rows : goal.shape_of-rows
-shape_of-rows t c = visiting-kept c.requires c.loop-left.invariant.2
+shape_of-rows t c = visiting-kept c.requires c.loop-i.invariant.2
 
 pub returns : goal.returns
-returns t c = visiting-end c.requires c.loop-left.invariant.2 c.loop-left-test.false
+returns t c = visiting-end c.requires c.loop-i.invariant.2 (omega (arith, c.loop-i-test.false))

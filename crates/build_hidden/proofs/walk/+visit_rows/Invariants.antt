@@ -9,9 +9,7 @@ use Rattle.build_hidden.proofs.walk.+visit_rows.Given as goal
 abbrev pub decreases-visit_rows : goal.decreases-visit_rows
 decreases-visit_rows l = length l.table.now - l.r
 
-abbrev pub invariant-loop-left : goal.invariant-loop-left
-invariant-loop-left l =
-    (l.r < l.p) × (row_size * l.r < length l.table) × Visiting l.table l.r l.initial.rows l.initial.n l.any l.rows l.left l.p l.n
-
-abbrev pub decreases-loop-left : goal.decreases-loop-left
-decreases-loop-left l = l.left
+abbrev pub invariant-loop-i : goal.invariant-loop-i
+invariant-loop-i l =
+    (l.r < l.p) × (row_size * l.r < length l.table)
+    × Visiting l.table l.r l.initial.rows l.initial.count l.any l.rows (l.left - l.i) l.p l.count

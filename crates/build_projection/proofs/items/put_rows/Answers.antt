@@ -1,14 +1,13 @@
 -- `items::put_rows`: numbers that rise, stored one after the other.
 use mathlib.Core.Path.{refl}
 use Rattle.build_projection.specs.Steps.{filling-begin, filling-more, filling-end}
-use borrow.Author.Rules.{rules}
 use Rattle.build_projection.proofs.items.put_rows.Goals as goal
 
 pub loop-j-init : goal.loop-j-init
-loop-j-init c = (search rules, search rules, search rules, filling-begin _ _ _ _)
+loop-j-init c = filling-begin _ _ _ _
 
 pub loop-j-preserved : goal.loop-j-preserved
-loop-j-preserved c = (search rules, search rules, search rules, filling-more c.loop-j.invariant.3 refl refl c.loop-j-test.true)
+loop-j-preserved c = filling-more c.loop-j.invariant refl refl c.loop-j-test.true
 
 pub returns : goal.returns
-returns c = filling-end c.loop-j.invariant.3 c.loop-j-test.false
+returns c = filling-end c.loop-j.invariant c.loop-j-test.false
