@@ -102,20 +102,18 @@ pub record LaterBuilds (c q : Bytes) (ts cells : List ℕ) (f : From) (a : Sourc
       (StoppedWith (later_item (catalog_at c q ts) f (scope_of (tree_at c q cells) c q a.scope)) a.cell a.node)
 
 -- THE RETURNS
-module _ {c q : Bytes} {ts cells : List ℕ} {f : From} {a : Source} {area nodes : List ℕ}
-    (h : LaterRoom c q ts f a area nodes) {area₁ nodes₁ : List ℕ} where
-  abbrev scopes : Scope → rules.Scope
-  scopes s = scope_of (tree_at c q cells) c q s
-
-  pub later-unbuilt : {w : code.Refusal} → Builds c q ts cells f a.cell a.node a.used area nodes area₁ nodes₁ (Err w)
+module _ {c q : Bytes} {ts : List ℕ} {f : From} {a : Source} {area nodes : List ℕ}
+    (h : LaterRoom c q ts f a area nodes) where
+  pub later-unbuilt : {cells area₁ nodes₁ : List ℕ} {w : code.Refusal} → Builds c q ts cells f a.cell a.node a.used area nodes area₁ nodes₁ (Err w)
       → LaterBuilds c q ts cells f a area nodes area₁ nodes₁ (Err w)
-  later-unbuilt d = record {
+  later-unbuilt {cells} d = record {
     kept = d.kept;
     kept-nodes = d.kept-nodes;
-    is = λ n cs rs l. refused-on d.is (later-refused (catalog_at c q ts) n (scopes a.scope) 0 0 cs rs a.cell a.node l f []);
+    is = λ n cs rs l. refused-on d.is (later-refused (catalog_at c q ts) n (scope_of (tree_at c q cells) c q a.scope) 0 0 cs rs a.cell a.node l f []);
   }
 
-  module _ {b : Source} (d : Builds c q ts cells f a.cell a.node a.used area nodes area₁ nodes₁ (Ok b)) where
+  module _ {cells area₁ nodes₁ : List ℕ} {b : Source}
+      (d : Builds c q ts cells f a.cell a.node a.used area nodes area₁ nodes₁ (Ok b)) where
     abbrev built : Accepted c q ts cells f a.cell a.node a.used area nodes area₁ nodes₁ b
     built = d.is
 
@@ -145,8 +143,8 @@ module _ {c q : Bytes} {ts cells : List ℕ} {f : From} {a : Source} {area nodes
       kept = d.kept;
       kept-nodes = d.kept-nodes;
       is = λ n cs rs l. refused-on (g.is (tree_at c q cells))
-          (later-merge (catalog_at c q ts) n (scopes a.scope) 0 0 cs rs a.cell a.node l f []
-          (scopes b.scope) b.line built.laid.cells built.laid.records b.cell b.node built.laid.is);
+          (later-merge (catalog_at c q ts) n (scope_of (tree_at c q cells) c q a.scope) 0 0 cs rs a.cell a.node l f []
+          (scope_of (tree_at c q cells) c q b.scope) b.line built.laid.cells built.laid.records b.cell b.node built.laid.is);
     }
 
     module _ {s : Scope} (g : Merges c q a.scope b.scope b.line (Ok s)) {v : ℕ} {nodes' : List ℕ}
@@ -159,7 +157,7 @@ module _ {c q : Bytes} {ts cells : List ℕ} {f : From} {a : Source} {area nodes
       joined-in-use : v ≡ b.used + join_size
       joined-in-use = laid_join.next ∙ ap (λ n. b.used + n) (join-size _ _ _ _)
 
-      later-taken : Taken (λ n. stage_of n (scopes s)) (later_item (catalog_at c q ts) f (scopes a.scope))
+      later-taken : Taken (λ n. stage_of n (scope_of (tree_at c q cells) c q s)) (later_item (catalog_at c q ts) f (scope_of (tree_at c q cells) c q a.scope))
           a.cell a.node a.used area nodes b.cell (b.node + 1) v area₁ nodes'
       later-taken = record {
         cells = built.laid.cells;
@@ -172,19 +170,19 @@ module _ {c q : Bytes} {ts cells : List ℕ} {f : From} {a : Source} {area nodes
       }
         where
           lies : (n : Node Built) (cs : List Cell) (rs : List NodeRecord) → Lays 0 0 n cs rs a.cell a.node
-              → Lies (λ n. stage_of n (scopes s)) (later_item (catalog_at c q ts) f (scopes a.scope) n)
+              → Lies (λ n. stage_of n (scope_of (tree_at c q cells) c q s)) (later_item (catalog_at c q ts) f (scope_of (tree_at c q cells) c q a.scope) n)
               (cs ++ built.laid.cells)
               (rs ++ (built.laid.records ++ (join (pred a.node) (pred b.node) none false ∷ []))) b.cell (b.node + 1)
           lies n cs rs l =
               let cat = catalog_at c q ts in
               let o = built.laid in
-              let e = later-end cat (P.join n o.is.node none false) (scopes s) 0 0 _ _ b.cell (b.node + 1)
-              (later-lays cat n (scopes a.scope) 0 0 cs rs a.cell a.node l f [] (scopes b.scope) b.line
+              let e = later-end cat (P.join n o.is.node none false) (scope_of (tree_at c q cells) c q s) 0 0 _ _ b.cell (b.node + 1)
+              (later-lays cat n (scope_of (tree_at c q cells) c q a.scope) 0 0 cs rs a.cell a.node l f [] (scope_of (tree_at c q cells) c q b.scope) b.line
               o.cells o.records b.cell b.node o.is) in
               record {
                 node = e.node;
-                answer = later-step cat n (scopes a.scope) 0 0 cs rs a.cell a.node l f [] (scopes b.scope) b.line
-                    o.cells o.records b.cell b.node o.is (scopes s)
+                answer = later-step cat n (scope_of (tree_at c q cells) c q a.scope) 0 0 cs rs a.cell a.node l f [] (scope_of (tree_at c q cells) c q b.scope) b.line
+                    o.cells o.records b.cell b.node o.is (scope_of (tree_at c q cells) c q s)
                     (g.is.is (tree_at c q cells) b.line) ∙ e.answer;
                 lays = e.lays;
               }

@@ -72,39 +72,6 @@ pub record Merges (c q : Bytes) (s t : Scope) (l : ℕ) (r : Result Scope Refusa
   pub is : MatchResult r (MergedScope c q s t)
       (λ w. (e : ℕ → Expr) → RefusedWith (merge_at (scope_of e c q s) (scope_of e c q t) l) w)
 
--- no refusal has the number 0
-numbered : (reason : Reason) → refusal_number (reason_of reason) ≡ 0 → ⊥
-unfolding reason_of refusal_number
-numbered Re.ShortArea e = absurd (omega (arith, e))
-numbered Re.WrongRecord e = absurd (omega (arith, e))
-numbered Re.LimitPassed e = absurd (omega (arith, e))
-numbered Re.OtherStatement e = absurd (omega (arith, e))
-numbered Re.UnknownTable e = absurd (omega (arith, e))
-numbered Re.DuplicateTable e = absurd (omega (arith, e))
-numbered Re.UnknownQualifier e = absurd (omega (arith, e))
-numbered Re.UnknownColumn e = absurd (omega (arith, e))
-numbered Re.AmbiguousColumn e = absurd (omega (arith, e))
-numbered Re.ConstantOnly e = absurd (omega (arith, e))
-numbered Re.NotAggregated e = absurd (omega (arith, e))
-numbered Re.UnsupportedStar e = absurd (omega (arith, e))
-numbered Re.UnknownFunction e = absurd (omega (arith, e))
-numbered Re.ArgumentCount e = absurd (omega (arith, e))
-numbered Re.NestedAggregate e = absurd (omega (arith, e))
-numbered Re.StarWithoutFrom e = absurd (omega (arith, e))
-numbered Re.HavingWithoutAggregate e = absurd (omega (arith, e))
-numbered Re.InvalidOffset e = absurd (omega (arith, e))
-numbered Re.InvalidLimit e = absurd (omega (arith, e))
-numbered Re.NoPrimaryKey e = absurd (omega (arith, e))
-numbered Re.MultiplePrimaryKeys e = absurd (omega (arith, e))
-numbered Re.UnknownInsertColumn e = absurd (omega (arith, e))
-numbered Re.RepeatedInsertColumn e = absurd (omega (arith, e))
-numbered Re.NoDefault e = absurd (omega (arith, e))
-numbered Re.IntegerOverflow e = absurd (omega (arith, e))
-numbered Re.DivisionByZero e = absurd (omega (arith, e))
-numbered Re.WrongOperand e = absurd (omega (arith, e))
-numbered Re.NotWorkedOut e = absurd (omega (arith, e))
-numbered Re.InvalidIs e = absurd (omega (arith, e))
-
 -- what was told, of the rules' merge
 module _ (c q : Bytes) (s t : Scope) (h : TwoScopes s t) {m : Result ⊤ Reason}
     (g : MayMerge c q (take s.count s.tables) s.width (take t.count t.tables) t.width m) where

@@ -2,6 +2,7 @@
 use Rattle.std.specs.Prelude.{ℕ, ◌-◌, ◌<◌, ◌≤◌, ◌≡◌, Bool, List, Option, Some, None, MatchOption}
 use Rattle.std.proofs.Common.{arith, ap, ◌∙◌}
 use Rattle.std.proofs.Math.Path.{refl, sym}
+use mathlib.Core.Logic.{◌⊎◌, inl, inr}
 use Rattle.std.proofs.Math.Bool.{true, false}
 use Rattle.rules.specs.Lists.{Bytes}
 use Rattle.rules.specs.Ast.{Join, cross, inner, left, right, From}
@@ -92,6 +93,19 @@ no_table k h e = let z : ◌≡◌ {A = Bool} false true = sym (ap is_join e) �
   where
     true-false : ◌≡◌ {A = Bool} false true → ⊥
     true-false z = absurd (let y : ◌≡◌ {A = ℕ} 0 1 = cc in omega arith)
+
+-- joins whose left side is built first
+pub in-order : {k : Kind} → (k ≡ K.Cross) ⊎ ((k ≡ K.Inner) ⊎ (k ≡ K.Left)) → (is_join k ≡ true) × (right_kind k ≡ false)
+in-order (inl e) = (rw e, rw e)
+in-order (inr (inl e)) = (rw e, rw e)
+in-order (inr (inr e)) = (rw e, rw e)
+
+-- neither outer nor right
+pub plain-kind : {k : Kind} → (k ≡ K.Table) ⊎ ((k ≡ K.Cross) ⊎ (k ≡ K.Inner))
+    → (false ≡ outer_kind k) × (false ≡ right_kind k)
+plain-kind (inl e) = (rw e, rw e)
+plain-kind (inr (inl e)) = (rw e, rw e)
+plain-kind (inr (inr e)) = (rw e, rw e)
 
 module _ (froms : List ℕ) (r : ℕ) {k : Kind} (e : k ≡ kind_at froms r) where
   pub table-row : k ≡ K.Table → SidesAt froms r None

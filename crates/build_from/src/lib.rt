@@ -13,7 +13,7 @@ ghost use Rattle.from.specs.Layout.{from_at};
 ghost use Rattle.build_from.specs.Sources.{ItemRoom, Builds};
 
 use numbers::refusals::Refusal;
-use rows::sides;
+use rows::rows_of;
 use scope::Scope;
 
 // A FROM item, or the clause: its scope and its line, and with them the next cell, the next node and how many numbers of the
@@ -48,7 +48,7 @@ pub fn build_from<'t>(
         (from_at catalog.now statement.now cells.now froms.now r) n m k
         area.old nodes.old area.new nodes.new result }
 {
-    let rows = sides(froms, r);
+    let rows = rows_of(froms, r);
     match rows {
         None => tables::build_table(
             catalog, statement, tables, cells, froms, r, area, nodes, n, m, k,

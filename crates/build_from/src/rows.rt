@@ -20,7 +20,7 @@ pub struct Joining {
 }
 
 // The sides of the item in row r, none of a table. A right join's right side is built first.
-pub fn sides(froms: &[u32], r: u32) -> Option<Sides>
+pub fn rows_of(froms: &[u32], r: u32) -> Option<Sides>
     ensures { SidesAt froms.now r result }
 {
     let l = left(froms, r);
@@ -43,8 +43,18 @@ pub fn join_kind(froms: &[u32], r: u32) -> Joining
     ensures { (result.outer ≡ is_outer (join_at froms.now r)) × (result.right ≡ is_right (join_at froms.now r)) }
 {
     let kind = kind_of(froms, r);
-    Joining {
-        outer: matches!(kind, Kind::Left | Kind::Right),
-        right: matches!(kind, Kind::Right),
+    match kind {
+        Kind::Table | Kind::Cross | Kind::Inner => Joining {
+            outer: false,
+            right: false,
+        },
+        Kind::Left => Joining {
+            outer: true,
+            right: false,
+        },
+        Kind::Right => Joining {
+            outer: true,
+            right: true,
+        },
     }
 }

@@ -1,17 +1,20 @@
 -- `joins::build_join`: refused by the merge or the predicate, or laid in order or swapped back.
 use Rattle.build_from.specs.Joins.{join-unmerged, join-unbuilt, join-swappable, join-remap-room, join-ordered, join-swapped}
+use Rattle.std.proofs.lemmas.Result.{err_from_is_err_and}
 use mathlib.Core.Path.{sym, ◌∙◌}
 use native.Mathlib.Omega.{arith}
 use Rattle.build_from.proofs.joins.build_join.Goals as goal
 
-pub merge_scopes-s-requires : goal.merge_scopes-s-requires
-merge_scopes-s-requires c = c.requires.scopes
+pub merge_scopes-requires : goal.merge_scopes-requires
+merge_scopes-requires c = c.requires.scopes
 
 pub returns-in_err-s : goal.returns-in_err-s
-returns-in_err-s c = join-unmerged c.requires c.in_err-s.ensures
+returns-in_err-s c = let p = err_from_is_err_and c.from_residual.result c.from_residual.ensures.1 in rw (p.1, p.2)
+    (join-unmerged c.requires c.in_err-s.ensures)
 
 pub returns-in_err-p : goal.returns-in_err-p
-returns-in_err-p c = join-unbuilt c.requires c.in_ok-s.ensures c.in_err-p.ensures
+returns-in_err-p c = let p = err_from_is_err_and c.from_residual-in_err-p.result c.from_residual-in_err-p.ensures.1 in rw (p.1, p.2)
+    (join-unbuilt c.requires c.in_ok-s.ensures c.in_err-p.ensures)
 
 pub overflow_sub-a : goal.overflow_sub-a
 overflow_sub-a c = omega (arith, c.requires.first)
