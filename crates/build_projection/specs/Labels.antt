@@ -1,6 +1,6 @@
 -- The labels of a projection's items: by their aliases, or by what their expressions pass on. Where nothing is matched, what
 -- a column name passes on is the label at the position that stands in its cell.
-use Rattle.std.specs.Prelude.{ℕ, ◌+◌, ◌≤◌, true, false, eqb, length, take}
+use Rattle.std.specs.Prelude.{ℕ, ◌+◌, ◌≤◌, true, false, eqb, length, take, Ok}
 use Rattle.std.proofs.Common.{arith, ◌∙◌, get_or-take, get_or-append-add, length-take-le}
 use Rattle.std.proofs.Math.Path.{◌≡◌, refl, sym, ap}
 use mathlib.Core.List.{List, [], ◌∷◌, ◌++◌}
@@ -32,9 +32,8 @@ use Rattle.plan.specs.Layout.{cells_end}
 use Rattle.build_expression.specs.Rows.{column_step, column-is}
 use Rattle.build_expression.specs.Builds.{scope_at}
 use Rattle.build_projection.specs.Aliases.{row_of, alias_address, alias_length, item-tree}
-use Rattle.build_projection.specs.Pushes.{PutAs, ItemPut}
-use Rattle.build_projection.specs.declared.projection.Pushed.{Pushed}
-use Rattle.build_projection.specs.declared.projection.Pushed.TheVariants as P
+use Rattle.plan.specs.declared.steps.Part.{Part}
+use Rattle.build_projection.specs.Pushes.{ItemPut}
 
 -- the label of item x over the labels xs, to whose columns ms are matched, and the tables ts
 unfoldable pub label_number : Bytes → Bytes → List ℕ → List ℕ → List ℕ → List ℕ → List ℕ → ℕ → ℕ
@@ -77,16 +76,15 @@ pub record ItemStands (c q : Bytes) (t parts xs ms ts : List ℕ) (x n : ℕ) (a
   pub stand : take (cells_end next) area ≡ take (cells_end n) before ++ cells_numbers cells
 
 pub stands-put : {c q : Bytes} {t parts xs ms ts : List ℕ} {x n : ℕ} {area area' : List ℕ} {k : ℕ} {nodes nodes' : List ℕ}
-    {r : Pushed} {m j : ℕ} → cells_end n ≤ length area
-    → ItemPut c q t parts xs ms ts x n area area' k nodes nodes' r → r ≡ P.Done m j
+    {y : Part} → cells_end n ≤ length area
+    → ItemPut c q t parts xs ms ts x n area area' k nodes nodes' (Ok y)
     → ItemStands c q t parts xs ms ts x n area'
-unfolding PutAs
-stands-put {c} {q} {t} {parts} {xs} {ms} {ts} {x} {n} {area} {m = m} l p e =
-    let o = rw e at (p.is 0) in
+stands-put {c} {q} {t} {parts} {x = x} {area = area} {y = y} l p =
+    let o = p.is 0 in
     record {
       before = area;
       cells = o.cells;
-      next = m;
+      next = y.cell;
       room = l;
       is = rw (← item-tree c q t parts x) o.is;
       stand = o.stand;

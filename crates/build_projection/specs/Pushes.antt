@@ -1,5 +1,5 @@
 -- The items of a projection one after the other: their cells, and their parts of its node record.
-use Rattle.std.specs.Prelude.{ℕ, suc, pred, ◌+◌, ◌-◌, ◌*◌, ◌≤◌, ◌<◌, ◌≡◌, refl, length, take, drop, get_or, set}
+use Rattle.std.specs.Prelude.{ℕ, suc, pred, ◌+◌, ◌-◌, ◌*◌, ◌≤◌, ◌<◌, ◌≡◌, refl, length, take, drop, get_or, set, Result, MatchResult, OnOk, Ok, Err}
 use Rattle.std.proofs.Common.{arith, add-one, sym, ◌∙◌, drop_of_length-le, drop-cons}
 use Rattle.std.proofs.Math.Numerals.{sub-one}
 use Rattle.std.proofs.Math.Path.{ap}
@@ -20,23 +20,21 @@ use Rattle.appends.specs.Lists.Each.{Entries, after, after_none}
 use Rattle.appends.specs.Lists.Kinds.{emit_firsts}
 use Rattle.appends.specs.Lists.Entry.{item-step, item_refused}
 use Rattle.appends.specs.Lists.Loops.{firsts-step, firsts-stop, firsts-done}
+use Rattle.numbers.specs.declared.refusals.Refusal.{Refusal}
 use Rattle.numbers.specs.Kept.{Kept, kept-part, kept_on, kept_set}
 use Rattle.scope.specs.UsedMatches.{used_matches}
 use Rattle.plan.specs.Layout.{cells_end, item_size}
 use Rattle.plan.specs.Cells.{Room}
-use Rattle.plan.specs.Emits.{Emitting, Emits, accepted}
+use Rattle.plan.specs.Emits.{Emitting, Written, Emits, accepted}
 use Rattle.plan.specs.Appended.{Appended, appended-none}
 use Rattle.plan.specs.Parts.{items-on}
 use Rattle.plan.specs.Room.{items-size}
-use Rattle.plan.specs.Steps.{Refuses, emits-refused}
-use Rattle.plan.specs.declared.cells.Written.{Written}
-use Rattle.plan.specs.declared.cells.Written.TheVariants as W
+use Rattle.plan.specs.Steps.{RefusedWith, refused-on, emits-refused}
+use Rattle.plan.specs.declared.steps.Part.{Part}
 use Rattle.build_expression.specs.Rows.{emit-within}
 use Rattle.build_expression.specs.Builds.{scope_at, Builds, used-at}
 use Rattle.build_projection.specs.Items.{item_of}
 use Rattle.build_projection.specs.Aliases.{row_of, item-tree}
-use Rattle.build_projection.specs.declared.projection.Pushed.{Pushed}
-use Rattle.build_projection.specs.declared.projection.Pushed.TheVariants as P
 
 -- CONTRACTS
 -- one item: its expression's cells and its part of the record, or its refusal
@@ -47,18 +45,15 @@ pub record One (a : Emitting) (alias : Option Word) (n : ℕ) (area area' : List
   pub stand : take (cells_end m) area' ≡ take (cells_end n) area ++ cells_numbers cells
   pub part : Appended (item_numbers ((pred m, alias) ∷ [])) k nodes j nodes'
 
-unfoldable pub PutAs : Emitting → Option Word → ℕ → List ℕ → List ℕ → ℕ → List ℕ → List ℕ → Pushed → Type 0
-PutAs a w n area area' k nodes nodes' (P.Done m j) = One a w n area area' k nodes nodes' m j
-PutAs a w n area area' k nodes nodes' (P.Refused x y) = Refuses a x y
-
 pub record ItemPut (c q : Bytes) (t parts xs ms ts : List ℕ) (x n : ℕ) (area area' : List ℕ) (k : ℕ)
-    (nodes nodes' : List ℕ) (r : Pushed) : Type 0 where
-  pub is : (h : ℕ) → PutAs (emit (scope_at c q t xs ms ts h) n (item_of c q t parts x).expr) (item_of c q t parts x).alias
-      n area area' k nodes nodes' r
+    (nodes nodes' : List ℕ) (r : Result Part Refusal) : Type 0 where
+  pub is : (h : ℕ) → MatchResult r (λ y. One (emit (scope_at c q t xs ms ts h) n (item_of c q t parts x).expr)
+      (item_of c q t parts x).alias n area area' k nodes nodes' y.cell y.used)
+      (RefusedWith (emit (scope_at c q t xs ms ts h) n (item_of c q t parts x).expr))
 
 -- the matches us are those that ms has, or none where nothing is matched
 pub used-put : {c q : Bytes} {t parts xs us ts : List ℕ} {x n : ℕ} {area area' : List ℕ} {k : ℕ} {nodes nodes' : List ℕ}
-    {r : Pushed} (w : ℕ) (ms : List ℕ) → us ≡ used_matches (take w ms)
+    {r : Result Part Refusal} (w : ℕ) (ms : List ℕ) → us ≡ used_matches (take w ms)
     → ItemPut c q t parts xs (take w us) ts x n area area' k nodes nodes' r
     → ItemPut c q t parts xs (take w ms) ts x n area area' k nodes nodes' r
 used-put {c} {q} {t} {xs = xs} {us} {ts} w ms e p = record { is = λ h. rw (used-at c q t xs us ts w ms h e) at (p.is h) }
@@ -72,30 +67,17 @@ pub record All (a : Answer (Entries (ℕ × Option Word))) (n : ℕ) (area area'
   pub stand : take (cells_end m) area' ≡ take (cells_end n) area ++ cells_numbers cells
   pub appended : Appended (item_numbers parts) k nodes j nodes'
 
-unfoldable pub AllAs : Answer (Entries (ℕ × Option Word)) → ℕ → List ℕ → List ℕ → ℕ → List ℕ → List ℕ → Pushed → Type 0
-AllAs a n area area' k nodes nodes' (P.Done m j) = All a n area area' k nodes nodes' m j
-AllAs a n area area' k nodes nodes' (P.Refused x y) = Refuses a x y
-
 pub record ItemsPut (c q : Bytes) (t parts xs ms ts items : List ℕ) (n : ℕ) (area area' : List ℕ) (k : ℕ)
-    (nodes nodes' : List ℕ) (r : Pushed) : Type 0 where
-  pub is : (h : ℕ) → AllAs (emit_firsts (item_built (scope_at c q t xs ms ts h)) n (map (item_of c q t parts) items))
-      n area area' k nodes nodes' r
+    (nodes nodes' : List ℕ) (r : Result Part Refusal) : Type 0 where
+  pub is : (h : ℕ) → MatchResult r
+      (λ y. All (emit_firsts (item_built (scope_at c q t xs ms ts h)) n (map (item_of c q t parts) items))
+      n area area' k nodes nodes' y.cell y.used)
+      (RefusedWith (emit_firsts (item_built (scope_at c q t xs ms ts h)) n (map (item_of c q t parts) items)))
 
 -- the labels that are stored: where the items are put, the first are those that f gives each; behind them all is as it was
-pub record Labelled (f : ℕ → ℕ) (items labels labels' : List ℕ) (r : Pushed) : Type 0 where
-  pub is : (m j : ℕ) → r ≡ P.Done m j → take (length items) labels' ≡ map f items
+pub record Labelled (f : ℕ → ℕ) (items labels labels' : List ℕ) (r : Result Part Refusal) : Type 0 where
+  pub is : OnOk r (take (length items) labels' ≡ map f items)
   pub kept : Kept (length items) most_columns labels labels'
-
-pub labelled-done : {f : ℕ → ℕ} {items labels labels' : List ℕ} (m j : ℕ) → take (length items) labels' ≡ map f items
-    → Kept (length items) most_columns labels labels' → Labelled f items labels labels' (P.Done m j)
-labelled-done m j h k = record { is = λ n i e. h; kept = k }
-
-pub labelled-refused : (f : ℕ → ℕ) {items labels labels' : List ℕ} (x y : ℕ)
-    → Kept (length items) most_columns labels labels' → Labelled f items labels labels' (P.Refused x y)
-labelled-refused f x y k = record {
-  is = λ m j e. absurd (let z : ◌≡◌ {A = ℕ} 0 1 = cc in omega arith);
-  kept = k;
-}
 
 pub kept_next : {i b : ℕ} (v : ℕ) {s s' : List ℕ} → Kept i b s s' → Kept (i + 1) b s (set s' i v)
 kept_next {i} {b} v {s} {s'} k =
@@ -111,31 +93,31 @@ pub record ItemsFit (c q : Bytes) (t parts items : List ℕ) (n : ℕ) (area : L
   pub space : k + item_size * length items ≤ length nodes
 
 -- ONE ITEM
-module _ {c q : Bytes} {t xs ms ts : List ℕ} {r n : ℕ} {area area' : List ℕ} {w : Written}
-    (b : Builds c q t xs ms ts r n area area' w) (parts : List ℕ) (x : ℕ) (g : r ≡ row_of parts x) where
-  emits-item : (h : ℕ) → Emits (emit (scope_at c q t xs ms ts h) n (item_of c q t parts x).expr) n area area' w
-  emits-item h = rw (item-tree c q t parts x, ← g) (b.is h)
+module _ {c q : Bytes} {t xs ms ts : List ℕ} {r n : ℕ} {area area' : List ℕ} (parts : List ℕ) (x : ℕ)
+    (g : r ≡ row_of parts x) where
+  emits-item : {w : Written} → Builds c q t xs ms ts r n area area' w → (h : ℕ)
+      → Emits (emit (scope_at c q t xs ms ts h) n (item_of c q t parts x).expr) n area area' w
+  emits-item b h = rw (item-tree c q t parts x, ← g) (b.is h)
 
-  pub put_refused : (k : ℕ) (nodes nodes' : List ℕ) (y l : ℕ) → w ≡ W.Refused y l
-      → ItemPut c q t parts xs ms ts x n area area' k nodes nodes' (P.Refused y l)
-  unfolding PutAs
-  put_refused k nodes nodes' y l e = record { is = λ h. emits-refused y l (emits-item h) e }
+  pub put_refused : {w : Refusal} → Builds c q t xs ms ts r n area area' (Err w) → (k : ℕ) (nodes nodes' : List ℕ)
+      → ItemPut c q t parts xs ms ts x n area area' k nodes nodes' (Err w)
+  put_refused {w} b k nodes nodes' = record { is = λ h. emits-refused w (emits-item b h) refl }
 
-  -- the next cell is behind the n-th, and there is room up to it
-  pub put_some : (m : ℕ) → w ≡ W.Done m → n < m
-  put_some m e =
-      let o = accepted m (emits-item 0) e in
-      (emit-within (scope_at c q t xs ms ts 0) n (item_of c q t parts x).expr o.cells m o.is).some'
+  module _ {m : ℕ} (b : Builds c q t xs ms ts r n area area' (Ok m)) where
+    -- the next cell is behind the n-th, and there is room up to it
+    pub put_some : n < m
+    put_some =
+        let o = accepted m (emits-item b 0) refl in
+        (emit-within (scope_at c q t xs ms ts 0) n (item_of c q t parts x).expr o.cells m o.is).some'
 
-  pub put-done : {k j : ℕ} {nodes nodes' : List ℕ} (m : ℕ) → w ≡ W.Done m
-      → Appended (item_numbers ((m - 1, (item_of c q t parts x).alias) ∷ [])) k nodes j nodes'
-      → ItemPut c q t parts xs ms ts x n area area' k nodes nodes' (P.Done m j)
-  unfolding PutAs
-  put-done m e a = record {
-    is = λ h.
-        let o = accepted m (emits-item h) e in
-        record { cells = o.cells; is = o.is; stand = (emits-item h).cells o.cells m o.is; part = rw (← sub-one m) a };
-  }
+    pub put-done : {k j : ℕ} {nodes nodes' : List ℕ}
+        → Appended (item_numbers ((m - 1, (item_of c q t parts x).alias) ∷ [])) k nodes j nodes'
+        → ItemPut c q t parts xs ms ts x n area area' k nodes nodes' (Ok (record { cell = m; used = j }))
+    put-done a = record {
+      is = λ h.
+          let o = accepted m (emits-item b h) refl in
+          record { cells = o.cells; is = o.is; stand = (emits-item b h).cells o.cells m o.is; part = rw (← sub-one m) a };
+    }
 
 -- ALL ITEMS
 -- of the items, i are put: their cells up to the m-th, their parts up to the j-th number
@@ -213,29 +195,22 @@ module _ {c q : Bytes} {t parts xs ms ts items : List ℕ} {n : ℕ} {area₀ ar
         ≡ item_of c q t parts here ∷ map (item_of c q t parts) (drop (suc i) items)
     item-here = ap (map (item_of c q t parts)) (drop-cons items i 0 l)
 
-    module _ {area' nodes' : List ℕ} {r : Pushed}
-        (a : ItemPut c q t parts xs ms ts here m area area' j nodes nodes' r) where
-      pub pushing-refused : (y w : ℕ) → r ≡ P.Refused y w
-          → ItemsPut c q t parts xs ms ts items n area₀ area' k nodes₀ nodes' (P.Refused y w)
-      unfolding AllAs PutAs
-      pushing-refused y w e = record {
+    module _ {area' nodes' : List ℕ} where
+      pub pushing-refused : {w : Refusal} → ItemPut c q t parts xs ms ts here m area area' j nodes nodes' (Err w)
+          → ItemsPut c q t parts xs ms ts items n area₀ area' k nodes₀ nodes' (Err w)
+      pushing-refused a = record {
         is = λ h.
             let s = p.sofar h in
-            let b : Refuses (emit (scope_at c q t xs ms ts h) m (item_of c q t parts here).expr) y w = rw e at (a.is h) in
-            record {
-              why = b.why;
-              is = s.is ∙ rw item-here (firsts-stop (item_built (scope_at c q t xs ms ts h)) (s.cells, s.entries, m) _ _
-                  b.why (item_refused _ m _ b.why b.is));
-              number = b.number;
-              line = b.line;
-            };
+            refused-on (a.is h) λ v e. s.is ∙ rw item-here
+            (firsts-stop (item_built (scope_at c q t xs ms ts h)) (s.cells, s.entries, m) _ _ v (item_refused _ m _ v e));
       }
 
-      pub pushing-more : (m' j' : ℕ) → r ≡ P.Done m' j' → length area' ≡ length area
-          → Pushing c q t parts xs ms ts items n area₀ area' k nodes₀ nodes' (i + 1) m' j'
-      pushing-more m' j' e f =
-          let o = one 0 in
-          let w = emit-within (scope_at c q t xs ms ts 0) m (item_of c q t parts here).expr o.cells m' o.is in
+      pub pushing-more : {y : Part} → ItemPut c q t parts xs ms ts here m area area' j nodes nodes' (Ok y)
+          → length area' ≡ length area
+          → Pushing c q t parts xs ms ts items n area₀ area' k nodes₀ nodes' (i + 1) y.cell y.used
+      pushing-more {y} a f =
+          let o = a.is 0 in
+          let w = emit-within (scope_at c q t xs ms ts 0) m (item_of c q t parts here).expr o.cells y.cell o.is in
           rw (add-one i) (record {
             within = omega arith;
             area-kept = f ∙ p.area-kept;
@@ -244,30 +219,26 @@ module _ {c q : Bytes} {t parts xs ms ts items : List ℕ} {n : ℕ} {area₀ ar
               counted = omega (arith, size-here, w.most, p.room.counted);
               held = omega (arith, size-here, w.most, p.room.held, f);
             };
-            space = omega (arith, p.space, o.part.next, item-three (pred m') (item_of c q t parts here).alias, o.part.all);
+            space = omega (arith, p.space, o.part.next, item-three (pred y.cell) (item_of c q t parts here).alias, o.part.all);
             sofar = λ h.
                 let s = p.sofar h in
-                let b = one h in
+                let b = a.is h in
                 record {
                   cells = s.cells ++ b.cells;
-                  entries = s.entries ++ ((pred m', (item_of c q t parts here).alias) ∷ []);
+                  entries = s.entries ++ ((pred y.cell, (item_of c q t parts here).alias) ∷ []);
                   is = s.is ∙ rw item-here (firsts-step (item_built (scope_at c q t xs ms ts h)) (s.cells, s.entries, m)
-                      _ _ b.cells _ m' (item-step _ m _ b.cells m' b.is));
+                      _ _ b.cells _ y.cell (item-step _ m _ b.cells y.cell b.is));
                   stand = b.stand ∙ rw (s.stand, cells-numbers-append s.cells b.cells)
                       (append_assoc (take (cells_end n) area₀) (cells_numbers s.cells) (cells_numbers b.cells));
                   appended = items-on s.entries _ s.appended b.part;
                 };
           })
         where
-          one : (h : ℕ) → One (emit (scope_at c q t xs ms ts h) m (item_of c q t parts here).expr)
-              (item_of c q t parts here).alias m area area' j nodes nodes' m' j'
-          one h = unfold PutAs in rw e at (a.is h)
-
           item-three : (x : ℕ) (v : Option Word) → length (item_numbers ((x, v) ∷ [])) ≡ item_size
           item-three x v = items-size ((x, v) ∷ [])
 
-  pub pushing-end : length items ≤ i → ItemsPut c q t parts xs ms ts items n area₀ area k nodes₀ nodes (P.Done m j)
-  unfolding AllAs
+  pub pushing-end : length items ≤ i
+      → ItemsPut c q t parts xs ms ts items n area₀ area k nodes₀ nodes (Ok (record { cell = m; used = j }))
   pushing-end l = record {
     is = λ h.
         let s = p.sofar h in

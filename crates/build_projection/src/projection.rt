@@ -12,19 +12,13 @@ ghost use Rattle.build_projection.specs.Pushes.{ItemPut, ItemsFit, ItemsPut, Lab
 use crate::labels::item_label;
 use ast::rows::STATEMENT_ROWS;
 use build_expression::build_item;
-use plan::cells::Written;
+use numbers::refusals::Refusal;
 use plan::parts::item;
+use plan::steps::Part;
 use scope::lookup::used_matches;
 use sections::entry::{ITEM, entry_at, first_row};
 use statement::access::name_start;
 use text::lengths::length_at;
-
-// The next cell and how many numbers of the nodes are in use; or a refusal's number and line.
-#[derive(Clone, Copy)]
-pub enum Pushed {
-    Done(u32, usize),
-    Refused(u32, u32),
-}
 
 // The row of item x.
 pub fn item_row(parts: &[u32], x: u32) -> usize
@@ -75,7 +69,7 @@ fn put_item<'t, 'a>(
     n: u32,
     nodes: &mut [u32],
     k: usize,
-) -> Pushed
+) -> Result<Part, Refusal>
     requires room { Room n (3 * size (item_of catalog.now statement.now cells.now parts.now x).expr) area.old }
     requires item_size_in_bounds { k + item_size ≤ length nodes.old }
     ensures { ItemPut catalog.now statement.now cells.now parts.now
@@ -85,16 +79,11 @@ fn put_item<'t, 'a>(
     let row = item_row(parts, x);
     let built = build_item(
         catalog, statement, cells, row, labels, matches, width, tables, count, area, n,
-    );
-    match built {
-        Written::Refused(y, l) => Pushed::Refused(y, l),
-        Written::Done(m) => {
-            let a = alias_address(parts, x);
-            let b = alias_length(catalog, statement, parts, x);
-            let j = item(nodes, k, m - 1, a, b);
-            Pushed::Done(m, j)
-        }
-    }
+    )?;
+    let a = alias_address(parts, x);
+    let b = alias_length(catalog, statement, parts, x);
+    let used = item(nodes, k, built - 1, a, b);
+    Ok(Part { cell: built, used })
 }
 
 // All items, one after the other, and the label of each.
@@ -114,7 +103,7 @@ pub fn put_items<'t, 'a>(
     nodes: &mut [u32],
     k: usize,
     projected: &mut [u32],
-) -> Pushed
+) -> Result<Part, Refusal>
     requires projected_len { length projected.old ≡ most_columns }
     requires items_fit { ItemsFit catalog.now statement.now cells.now parts.now items.now n area.old k nodes.old }
     ensures items_put { ItemsPut catalog.now statement.now cells.now parts.now
@@ -127,26 +116,17 @@ pub fn put_items<'t, 'a>(
     let used = used_matches(matches, width);
     let mut m = n;
     let mut j = k;
-    let mut i: usize = 0;
-    while i < items.len() {
-        let step = put_item(
-            catalog, statement, cells, parts, items[i], labels, used, width, tables, count, area,
-            m, nodes, j,
+    for (i, &x) in items.iter().enumerate() {
+        let part = put_item(
+            catalog, statement, cells, parts, x, labels, used, width, tables, count, area, m,
+            nodes, j,
+        )?;
+        projected[i] = item_label(
+            catalog, statement, cells, parts, x, labels, matches, used, width, tables, count, area,
+            m,
         );
-        match step {
-            Pushed::Refused(y, l) => {
-                return Pushed::Refused(y, l);
-            }
-            Pushed::Done(m2, j2) => {
-                projected[i] = item_label(
-                    catalog, statement, cells, parts, items[i], labels, matches, used, width,
-                    tables, count, area, m,
-                );
-                m = m2;
-                j = j2;
-                i += 1;
-            }
-        }
+        m = part.cell;
+        j = part.used;
     }
-    Pushed::Done(m, j)
+    Ok(Part { cell: m, used: j })
 }

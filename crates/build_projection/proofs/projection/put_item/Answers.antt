@@ -1,21 +1,22 @@
 -- `projection::put_item`: the cells of an item's expression, then its part of the record.
 use native.Mathlib.Omega.{arith}
+use Rattle.std.proofs.lemmas.Result.{err_from_is_err_and}
 use Rattle.build_projection.specs.Items.{item_of}
 use Rattle.build_projection.specs.Aliases.{item-tree, alias-span}
 use Rattle.build_projection.specs.Pushes.{put_refused, put_some, put-done}
 use Rattle.build_projection.proofs.projection.put_item.Goals as goal
 
-pub build_item-built-requires : goal.build_item-built-requires
-build_item-built-requires c = rw (c.item_row-row.ensures, ← item-tree c.args.catalog.now c.args.statement.now c.args.cells.now c.args.parts.now c.args.x) c.requires.room
+pub build_item-requires : goal.build_item-requires
+build_item-requires c = rw (c.item_row-row.ensures, ← item-tree c.args.catalog.now c.args.statement.now c.args.cells.now c.args.parts.now c.args.x) c.requires.room
 
-pub overflow_sub-m : goal.overflow_sub-m
-overflow_sub-m c = let l = put_some c.build_item-built.ensures c.args.parts.now c.args.x c.item_row-row.ensures _ c.in-Done.is in
-    omega arith
+pub overflow_sub-built : goal.overflow_sub-built
+overflow_sub-built c = let l = put_some _ _ c.item_row-row.ensures c.in_ok-built.ensures in omega arith
 
-pub returns-in-Refused : goal.returns-in-Refused
-returns-in-Refused c = put_refused c.build_item-built.ensures _ _ c.item_row-row.ensures _ _ _ _ _ c.in-Refused.is
+pub returns-in_err-built : goal.returns-in_err-built
+returns-in_err-built c = let p = err_from_is_err_and c.from_residual.result c.from_residual.ensures.1 in rw (p.1, p.2)
+    (put_refused _ _ c.item_row-row.ensures c.in_err-built.ensures _ _ _)
 
-pub returns-in-Done : goal.returns-in-Done
-returns-in-Done c = put-done c.build_item-built.ensures _ _ c.item_row-row.ensures _ c.in-Done.is
-    (c.item-j.ensures (item_of c.args.catalog.now c.args.statement.now c.args.cells.now c.args.parts.now c.args.x).alias
+pub returns : goal.returns
+returns c = put-done _ _ c.item_row-row.ensures c.in_ok-built.ensures
+    (c.item-used.ensures (item_of c.args.catalog.now c.args.statement.now c.args.cells.now c.args.parts.now c.args.x).alias
     (rw (c.alias_address-a.ensures, c.alias_length-b.ensures) (alias-span c.args.catalog.now c.args.statement.now c.args.cells.now c.args.parts.now c.args.x)))

@@ -1,50 +1,37 @@
 -- `projection::put_items`: the cells, parts and labels of the items so far, and the items that are left.
+use Rattle.std.proofs.lemmas.Result.{err_from_is_err_and}
 use native.Mathlib.Omega.{arith}
 use mathlib.Core.Path.{refl, sym, ◌∙◌}
 use lib.ListN.{take, length-map}
 use Rattle.numbers.specs.Kept.{kept-all, kept-part}
 use Rattle.scope.specs.Copies.{copying-begin, copying-map, stored}
 use Rattle.build_projection.specs.Labels.{label_number, stands-put}
-use Rattle.build_projection.specs.Pushes.{used-put, pushing-begin, cells-before, room-here, space-here, pushing-refused, pushing-more, pushing-end, labelled-done, labelled-refused, kept_next}
+use Rattle.build_projection.specs.Pushes.{used-put, pushing-begin, cells-before, room-here, space-here, pushing-refused, pushing-more, pushing-end, kept_next}
 use Rattle.build_projection.proofs.projection.put_items.Goals as goal
 
 pub loop-i-init : goal.loop-i-init
 loop-i-init c = (pushing-begin _ _ _ c.requires.items_fit, copying-begin _ c.requires.projected_len refl, kept-all _ _ _)
 
-pub put_item-step-requires : goal.put_item-step-requires
-put_item-step-requires c = record { room = room-here c.loop-i.invariant.0 c.loop-i-test.true; item_size_in_bounds = space-here c.loop-i.invariant.0 c.loop-i-test.true }
+pub put_item-requires : goal.put_item-requires
+put_item-requires c = record { room = room-here c.loop-i.invariant.0 c.loop-i-test.true; item_size_in_bounds = space-here c.loop-i.invariant.0 c.loop-i-test.true }
 
-pub shape_of-area-in-Refused : goal.shape_of-area-in-Refused
-shape_of-area-in-Refused c = c.put_item-step.auto.area ∙ c.loop-i.invariant.0.area-kept
-
-pub shape_of-nodes-in-Refused : goal.shape_of-nodes-in-Refused
-shape_of-nodes-in-Refused c = c.put_item-step.auto.nodes ∙ c.loop-i.invariant.0.nodes-kept
-
-pub shape_of-projected-in-Refused : goal.shape_of-projected-in-Refused
-shape_of-projected-in-Refused c = c.loop-i.invariant.1.room ∙ sym c.requires.projected_len
-
-pub returns-in-Refused : goal.returns-in-Refused
-returns-in-Refused c = record { items_put = pushing-refused c.loop-i.invariant.0 c.loop-i-test.true (used-put c.args.width c.args.matches.now c.used_matches-used.ensures c.put_item-step.ensures) _ _ c.in-Refused.is; labelled = labelled-refused _ _ _ (kept-part _ _ c.loop-i.invariant.2 c.loop-i.invariant.0.within (omega arith)) }
-
-pub offset_bounds-items-i-in-Done : goal.offset_bounds-items-i-in-Done
-offset_bounds-items-i-in-Done c = record { fits = omega (arith, c.requires.items_fit.few, c.loop-i-test.true) }
+pub returns-in_err-part : goal.returns-in_err-part
+returns-in_err-part c = let p = err_from_is_err_and c.from_residual.result c.from_residual.ensures.1 in rw (p.1, p.2)
+    (record {
+      items_put = pushing-refused c.loop-i.invariant.0 c.loop-i-test.true
+          (used-put c.args.width c.args.matches.now c.used_matches-used.ensures c.in_err-part.ensures);
+      labelled = record { is = tt; kept = kept-part _ _ c.loop-i.invariant.2 c.loop-i.invariant.0.within (omega arith) };
+    })
 
 pub item_label-requires : goal.item_label-requires
-item_label-requires c = record { used_value = c.used_matches-used.ensures; item_stands = stands-put (cells-before c.loop-i.invariant.0) (used-put c.args.width c.args.matches.now c.used_matches-used.ensures c.put_item-step.ensures) c.in-Done.is }
-
-pub offset_bounds-projected-i : goal.offset_bounds-projected-i
-offset_bounds-projected-i c = record { fits = omega (arith, c.requires.items_fit.few, c.loop-i-test.true) }
+item_label-requires c = record { used_value = c.used_matches-used.ensures; item_stands = stands-put (cells-before c.loop-i.invariant.0) (used-put c.args.width c.args.matches.now c.used_matches-used.ensures c.in_ok-part.ensures) }
 
 pub bounds-projected-i : goal.bounds-projected-i
 bounds-projected-i c = omega (arith, c.requires.items_fit.few, c.loop-i-test.true, c.loop-i.invariant.1.room)
 
-pub overflow_add-i : goal.overflow_add-i
-overflow_add-i c = record { fits = omega (arith, c.requires.items_fit.few, c.loop-i-test.true) }
-
 pub loop-i-preserved : goal.loop-i-preserved
 loop-i-preserved c = (
-  pushing-more c.loop-i.invariant.0 c.loop-i-test.true (used-put c.args.width c.args.matches.now c.used_matches-used.ensures c.put_item-step.ensures) _ _ c.in-Done.is
-      c.put_item-step.auto.area,
+  pushing-more c.loop-i.invariant.0 c.loop-i-test.true (used-put c.args.width c.args.matches.now c.used_matches-used.ensures c.in_ok-part.ensures) c.put_item.auto.area,
   copying-map (label_number c.args.catalog.now c.args.statement.now c.args.cells.now c.args.parts.now
       (take c.args.width c.args.labels.now) (take c.args.width c.args.matches.now)
       (take c.args.count c.args.tables.now)) c.args.items.now _ c.loop-i.invariant.1 (omega (arith, c.requires.items_fit.few, c.loop-i-test.true))
@@ -64,7 +51,7 @@ shape_of-projected c = c.loop-i.invariant.1.room ∙ sym c.requires.projected_le
 pub returns : goal.returns
 returns c = record {
   items_put = pushing-end c.loop-i.invariant.0 c.loop-i-test.false;
-  labelled = labelled-done _ _ (stored c.loop-i.invariant.1 refl (length-map c.args.items.now (label_number c.args.catalog.now c.args.statement.now c.args.cells.now c.args.parts.now
+  labelled = record { is = stored c.loop-i.invariant.1 refl (length-map c.args.items.now (label_number c.args.catalog.now c.args.statement.now c.args.cells.now c.args.parts.now
       (take c.args.width c.args.labels.now) (take c.args.width c.args.matches.now)
-      (take c.args.count c.args.tables.now))) c.loop-i.invariant.0.within c.loop-i-test.false) (kept-part _ _ c.loop-i.invariant.2 c.loop-i.invariant.0.within (omega arith));
+      (take c.args.count c.args.tables.now))) c.loop-i.invariant.0.within c.loop-i-test.false; kept = kept-part _ _ c.loop-i.invariant.2 c.loop-i.invariant.0.within (omega arith) };
 }

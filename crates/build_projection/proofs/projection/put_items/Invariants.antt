@@ -1,7 +1,6 @@
 -- `projection::put_items`: the cells, parts and labels of the items so far, and the items that are left.
 use mathlib.Core.List.{[], map}
-use Prim.Native.Nat.{◌-◌}
-use lib.ListN.{length, take}
+use lib.ListN.{take}
 use Rattle.rules.specs.Limits.{most_columns}
 use Rattle.numbers.specs.Kept.{Kept}
 use Rattle.scope.specs.Copies.{Copying}
@@ -16,7 +15,3 @@ invariant-loop-i l =
     × Copying [] 0 (map (label_number l.catalog l.statement l.cells l.parts (take l.width l.labels) (take l.width l.matches)
     (take l.count l.tables)) l.items) l.i l.projected
     × Kept l.i most_columns l.initial.projected l.projected
-
-abbrev pub decreases-loop-i : goal.decreases-loop-i
-decreases-loop-i l =
-    length l.items - l.i
