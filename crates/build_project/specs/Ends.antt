@@ -1,11 +1,10 @@
 -- The end of a projection whose items are pushed: the projected scope, the hidden columns, and the record's length.
-use Rattle.std.specs.Prelude.{ℕ, ◌+◌, ◌-◌, ◌*◌, ◌≤◌, ◌<◌, ◌≡◌, refl, true, false, length, take, set}
+use Rattle.std.specs.Prelude.{ℕ, ◌+◌, ◌-◌, ◌*◌, ◌≤◌, ◌<◌, ◌≡◌, refl, length, take, set, Result, MatchResult, Ok, Err}
 use Rattle.std.proofs.Common.{arith, sym, ◌∙◌, length-set, length-take-le}
 use Rattle.std.proofs.Math.Path.{ap}
 use mathlib.Core.List.{List, [], ◌++◌, map}
 use Rattle.std.proofs.Math.Option.{Option}
 use Rattle.std.proofs.lemmas.List.{length-map}
-use Rattle.rules.specs.Refusals.{refusal_number, limit_passed}
 use Rattle.rules.specs.Limits.{most_columns}
 use Rattle.rules.specs.Lists.{Bytes}
 use Rattle.rules.specs.Lines.{Word}
@@ -16,6 +15,7 @@ use Rattle.rules.specs.Scope as rules
 use Rattle.rules.specs.Hidden.{HiddenColumn, Hidden, hidden_of, projected}
 use Rattle.rules.specs.BuildSelect.{later_of}
 use Rattle.appends.specs.Area.{cells_numbers}
+use Rattle.numbers.specs.declared.refusals.Refusal.{Refusal}
 use Rattle.ast.specs.Table.{tree_at}
 use Rattle.scope.specs.Scopes.{scope_from, scope_of, labels_of, table_numbers, Valid}
 use Rattle.scope.specs.declared.Scope.{Scope}
@@ -27,7 +27,6 @@ use Rattle.plan.specs.Records.{opened, ended}
 use Rattle.plan.specs.Parts.{project-items}
 use Rattle.stage.specs.declared.Stage.{Stage}
 use Rattle.build_hidden.specs.Terms.{Hideable, Hides, Exceeds, HiddenAs, HiddenBuilt, shown_of}
-use Rattle.build_hidden.specs.declared.Hiding.{Hiding}
 use Rattle.build_expression.specs.Builds.{scope_at}
 use Rattle.build_projection.specs.Items.{item_of}
 use Rattle.build_project.specs.Ready.{ItemsReady, LaterFew}
@@ -50,22 +49,17 @@ abbrev pub hidden_at : Bytes → Bytes → (cells parts items : List ℕ) → Sc
 hidden_at c q cells parts items s froms = projected (scope_of (tree_at c q cells) c q s) (map (item_of c q cells parts) items)
     (later_of (select_at c q cells froms parts))
 
--- 3 at a line, where there are more than there is room for behind w items
-pub record TooWide (g : Hidden) (w x l : ℕ) : Type 0 where
-  pub number : x ≡ refusal_number limit_passed
-  pub exceeds : Exceeds g w l
-
 -- the scope with them, their cells from the n-th on, and the whole record with their parts
 pub record Widened (c q : Bytes) (t : List ℕ) (g : Hidden) (w n m start k : ℕ) (area nodes area' nodes' : List ℕ)
     (x : Stage) : Type 0 where
   pub scope-is : scope_of (tree_at c q t) c q x.scope ≡ g.scope
   pub few : length g.columns ≤ most_columns - w
-  pub next : x.n ≡ n + length g.columns
-  pub node : x.m ≡ m + 1
-  pub stand : take (cells_end x.n) area' ≡ take (cells_end n) area ++ cells_numbers (map column (positions_of g.columns))
+  pub next : x.cell ≡ n + length g.columns
+  pub node : x.node ≡ m + 1
+  pub stand : take (cells_end x.cell) area' ≡ take (cells_end n) area ++ cells_numbers (map column (positions_of g.columns))
   pub whole : (source : ℕ) (as' : List (ℕ × Option Word)) (nodes₀ : List ℕ)
       → Appended (opened (project source as')) start nodes₀ k nodes
-      → Appended (record_numbers (project source (as' ++ column_parts n (positions_of g.columns)))) start nodes₀ x.k nodes'
+      → Appended (record_numbers (project source (as' ++ column_parts n (positions_of g.columns)))) start nodes₀ x.used nodes'
 
 pub record EndAccepted (c q : Bytes) (cells parts items : List ℕ) (s : Scope) (n m start k : ℕ)
     (area nodes area' nodes' : List ℕ) (x : Stage) : Type 0 where
@@ -75,12 +69,11 @@ pub record EndAccepted (c q : Bytes) (cells parts items : List ℕ) (s : Scope) 
       area nodes area' nodes' x
 
 pub record ProjectionEnded (c q : Bytes) (cells parts items : List ℕ) (s : Scope) (n m start k : ℕ)
-    (area nodes area' nodes' : List ℕ) (x : Stage) : Type 0 where
+    (area nodes area' nodes' : List ℕ) (r : Result Stage Refusal) : Type 0 where
   pub kept : length area' ≡ length area
   pub kept-nodes : length nodes' ≡ length nodes
-  pub refused : (x.number ≡ 0 → ⊥) → (froms : List ℕ)
-      → TooWide (hidden_at c q cells parts items s froms) (length items) x.number x.line
-  pub accepted : x.number ≡ 0 → EndAccepted c q cells parts items s n m start k area nodes area' nodes' x
+  pub is : MatchResult r (EndAccepted c q cells parts items s n m start k area nodes area' nodes')
+      (λ w. (froms : List ℕ) → Exceeds (hidden_at c q cells parts items s froms) (length items) w)
 
 -- ROOM
 module _ {c q : Bytes} {t parts items : List ℕ} {s : Scope} {n m start k : ℕ} {area nodes : List ℕ}
@@ -124,84 +117,82 @@ module _ {c q : Bytes} {t parts items : List ℕ} {s : Scope} (f : ItemsReady c 
       ap (λ (y : rules.Scope). hidden_of (scope_of (tree_at c q t) c q s) (later_of (select_at c q t froms parts))
       (record { scope = y; columns = [] })) p.is
 
-  module _ {positions positions' : List ℕ} {r : Hiding} (b : HiddenBuilt c q t parts (labels_of s)
-      (take s.width s.matches) (table_numbers s) child positions positions' r) where
-    hidden-as : (froms : List ℕ) → HiddenAs c q t child (hidden_at c q t parts items s froms) positions positions' r
-    hidden-as froms = rw (← hidden-same froms) (b.is froms s.hidden)
+  abbrev Built : List ℕ → List ℕ → Result Scope Refusal → Type 0
+  Built positions positions' r = HiddenBuilt c q t parts (labels_of s) (take s.width s.matches) (table_numbers s) child
+      positions positions' r
 
-    pub end-wide : (n m start k : ℕ) (area nodes : List ℕ) (x : Stage) → r.full ≡ true
-        → x.number ≡ 3 → x.line ≡ r.line
-        → ProjectionEnded c q t parts items s n m start k area nodes area nodes x
-    unfolding refusal_number
-    end-wide n m start k area nodes x e f g = record {
-      kept = refl;
-      kept-nodes = refl;
-      refused = λ h froms. record {
-        number = f;
-        exceeds = rw (g, ← p.width) ((hidden-as froms).exceeds e);
-      };
-      accepted = λ z. absurd (omega (arith, z, f));
-    }
+  hidden-as : {positions positions' : List ℕ} (r : Result Scope Refusal) → Built positions positions' r → (froms : List ℕ)
+      → HiddenAs c q t child (hidden_at c q t parts items s froms) positions positions' r
+  hidden-as r b froms = rw (← hidden-same froms) (b.is froms s.hidden)
 
-    module _ (e : r.full ≡ false) where
-      pub hidden-few : r.scope.hidden ≤ most_columns - length items
-      hidden-few =
-          let a = hidden-as [] in
-          omega (arith, a.width e, (a.valid e).width, p.width)
+  pub end-wide : {positions positions' : List ℕ} {w : Refusal} → Built positions positions' (Err w)
+      → (n m start k : ℕ) (area nodes : List ℕ)
+      → ProjectionEnded c q t parts items s n m start k area nodes area nodes (Err w)
+  end-wide {w = w} b n m start k area nodes = record {
+    kept = refl;
+    kept-nodes = refl;
+    is = λ froms. rw (← p.width) ((hidden-as (Err w) b froms).is);
+  }
 
-      pub hidden-within : length positions ≡ most_columns → r.scope.hidden ≤ length positions'
-      hidden-within l = omega (arith, hidden-few, (hidden-as []).kept, l)
+  module _ {positions positions' : List ℕ} {r : Scope} (b : Built positions positions' (Ok r)) where
+    pub hidden-few : r.hidden ≤ most_columns - length items
+    hidden-few =
+        let a = (hidden-as (Ok r) b []).is in
+        omega (arith, a.width, a.valid.width, p.width)
 
-      pub hidden-count : length positions ≡ most_columns → r.scope.hidden ≡ length (take r.scope.hidden positions')
-      hidden-count l = sym (length-take-le r.scope.hidden positions' (hidden-within l))
+    pub hidden-within : length positions ≡ most_columns → r.hidden ≤ length positions'
+    hidden-within l = omega (arith, hidden-few, (hidden-as (Ok r) b []).kept, l)
 
-      module _ {n m start k : ℕ} {area nodes : List ℕ} (g : EndReady c q t parts items s n m start k area nodes) where
-        pub put-ready : length positions ≡ most_columns
-            → Room n (length (take r.scope.hidden positions')) area
-            × (k + item_size * length (take r.scope.hidden positions') ≤ length nodes)
-        put-ready l = rw (← hidden-count l) (
+    pub hidden-count : length positions ≡ most_columns → r.hidden ≡ length (take r.hidden positions')
+    hidden-count l = sym (length-take-le r.hidden positions' (hidden-within l))
+
+    module _ {n m start k : ℕ} {area nodes : List ℕ} (g : EndReady c q t parts items s n m start k area nodes) where
+      pub put-ready : length positions ≡ most_columns
+          → Room n (length (take r.hidden positions')) area
+          × (k + item_size * length (take r.hidden positions') ≤ length nodes)
+      put-ready l = rw (← hidden-count l) (
+        record {
+          counted = omega (arith, hidden-few, g.room.counted);
+          held = omega (arith, hidden-few, g.room.held);
+        },
+        omega (arith, hidden-few, g.space),
+      )
+
+      pub next-cell : n + r.hidden < 4294967296
+      next-cell = omega (arith, hidden-few, g.room.counted)
+
+    module _ {n m start k : ℕ} {area nodes area' nodes₁ nodes' ps : List ℕ} {j : ℕ}
+        (ex : ps ≡ take r.hidden positions') (put : ColumnsPut ps n area area' k nodes nodes₁ j)
+        (en : nodes' ≡ set nodes₁ (start + length_place) (j - (start + record_head))) where
+      widen : (g : Hidden) → Hides c q t g positions' r
+          → Widened c q t g (length items) n m start k area nodes area' nodes'
+          (record { scope = r; cell = n + r.hidden; node = m + 1; used = j })
+      widen g d =
+          let ep : positions_of g.columns ≡ ps = d.numbers ∙ sym ex in
+          let l : length ps ≡ length g.columns =
+          ap length (sym ep) ∙ length-map g.columns (λ (h : HiddenColumn). h.position) in
+          let z = length-map ps column in
+          let y : n + length (map column ps) ≡ n + r.hidden = omega (arith, z, l, d.count) in
           record {
-            counted = omega (arith, hidden-few, g.room.counted);
-            held = omega (arith, hidden-few, g.room.held);
-          },
-          omega (arith, hidden-few, g.space),
-        )
+            scope-is = d.is;
+            few = omega (arith, d.count, hidden-few);
+            next = omega (arith, d.count);
+            node = refl;
+            stand = rw (ep, ← y) put.cells.cells;
+            whole = λ source as' nodes₀ o. rw ep (ended (project source (as' ++ column_parts n ps))
+                (project-items source as' (column_parts n ps) o put.parts) en);
+          }
 
-        pub next-cell : n + r.scope.hidden < 4294967296
-        next-cell = omega (arith, hidden-few, g.room.counted)
-
-      module _ {n m start k : ℕ} {area nodes area' nodes₁ nodes' ps : List ℕ} {j : ℕ} (x : Stage)
-          (ex : ps ≡ take r.scope.hidden positions') (put : ColumnsPut ps n area area' k nodes nodes₁ j)
-          (en : nodes' ≡ set nodes₁ (start + length_place) (j - (start + record_head))) (es : x.scope ≡ r.scope)
-          (exn : x.n ≡ n + r.scope.hidden) (exm : x.m ≡ m + 1) (exk : x.k ≡ j) where
-        widen : (g : Hidden) → Hides c q t g positions' r.scope
-            → Widened c q t g (length items) n m start k area nodes area' nodes' x
-        widen g d =
-            let ep : positions_of g.columns ≡ ps = d.numbers ∙ sym ex in
-            let l : length ps ≡ length g.columns =
-            ap length (sym ep) ∙ length-map g.columns (λ (h : HiddenColumn). h.position) in
-            let z = length-map ps column in
-            let y : n + length (map column ps) ≡ x.n = omega (arith, z, l, d.count, exn) in
-            record {
-              scope-is = rw es d.is;
-              few = omega (arith, d.count, hidden-few);
-              next = omega (arith, exn, d.count);
-              node = exm;
-              stand = rw (ep, ← y) put.cells.cells;
-              whole = λ source as' nodes₀ o. rw (ep, exk) (ended (project source (as' ++ column_parts n ps))
-                  (project-items source as' (column_parts n ps) o put.parts) en);
-            }
-
-        pub end-done : x.number ≡ 0 → ProjectionEnded c q t parts items s n m start k area nodes area' nodes' x
-        end-done ez =
-            let a = hidden-as [] in
-            record {
-              kept = put.cells.kept;
-              kept-nodes = rw en (length-set nodes₁ _ _ ∙ put.parts.all);
-              refused = λ h froms. absurd (h ez);
-              accepted = λ z. record {
-                valid = rw es (a.valid e);
-                hidden = rw es (omega (arith, a.width e));
-                widened = λ froms. widen _ ((hidden-as froms).hides e);
-              };
-            }
+      pub end-done : ProjectionEnded c q t parts items s n m start k area nodes area' nodes'
+          (Ok (record { scope = r; cell = n + r.hidden; node = m + 1; used = j }))
+      end-done =
+          let a = (hidden-as (Ok r) b []).is in
+          record {
+            kept = put.cells.kept;
+            kept-nodes = rw en (length-set nodes₁ _ _ ∙ put.parts.all);
+            is = record {
+              valid = a.valid;
+              hidden = omega (arith, a.width);
+              widened = λ froms. widen _ (hidden-as (Ok r) b froms).is.hides;
+            };
+          }

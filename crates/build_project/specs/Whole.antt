@@ -1,5 +1,5 @@
 -- The projection as a stage: the node before it, the items, the hidden columns.
-use Rattle.std.specs.Prelude.{ℕ, pred, ◌+◌, ◌-◌, ◌*◌, ◌≤◌, ◌≡◌, true, false, List, [], ◌∷◌, ◌++◌, map, length, take}
+use Rattle.std.specs.Prelude.{ℕ, pred, ◌+◌, ◌-◌, ◌*◌, ◌≤◌, ◌≡◌, true, false, List, [], ◌∷◌, ◌++◌, map, length, take, Result, Ok, Err}
 use Rattle.std.proofs.Common.{arith, sub-one, sym, ap, ◌∙◌, append_assoc}
 use Rattle.std.proofs.Math.Path.{refl}
 use Rattle.std.proofs.Math.Option.{Option}
@@ -25,6 +25,8 @@ use Rattle.appends.specs.Room.Entries.{entries-within}
 use Rattle.appends.specs.Room.Written.{written-whole}
 use Rattle.appends.specs.Room.Select.{written-three}
 use Rattle.appends.specs.Select.Projection.{project-refused, project-wide, project-step}
+use Rattle.numbers.specs.Reasons.{named}
+use Rattle.numbers.specs.declared.refusals.Refusal.{Refusal}
 use Rattle.ast.specs.Table.{tree_at}
 use Rattle.scope.specs.Scopes.{scope_of, labels_of, table_numbers}
 use Rattle.scope.specs.declared.Scope.{Scope}
@@ -35,15 +37,14 @@ use Rattle.plan.specs.Appended.{Appended}
 use Rattle.plan.specs.Records.{opened}
 use Rattle.plan.specs.Parts.{project-items}
 use Rattle.plan.specs.Room.{items-size, project-in-use}
-use Rattle.plan.specs.Steps.{Refuses, refusal-some, refuses-at, stands_one, stage-lies, step-none, taken}
+use Rattle.plan.specs.Steps.{refused-at, refused-on, stands_one, stage-lies, step-none, taken}
+use Rattle.plan.specs.declared.steps.Part.{Part}
 use Rattle.stage.specs.Stages.{StageBuilt}
 use Rattle.stage.specs.declared.Stage.{Stage}
 use Rattle.build_expression.specs.Builds.{scope_at}
 use Rattle.build_projection.specs.Items.{item_of}
-use Rattle.build_projection.specs.Pushes.{items_size, ItemsFit, AllAs, ItemsPut}
+use Rattle.build_projection.specs.Pushes.{items_size, ItemsFit, ItemsPut}
 use Rattle.build_projection.specs.Pushes as pushes
-use Rattle.build_projection.specs.declared.projection.Pushed.{Pushed}
-use Rattle.build_projection.specs.declared.projection.Pushed.TheVariants as P
 use Rattle.build_project.specs.Ready.{ProjectionReady}
 use Rattle.build_project.specs.Hidden.{column_parts, positions_of, hidden-emits}
 use Rattle.build_project.specs.Ends.{EndReady, hidden_at, ProjectionEnded}
@@ -106,17 +107,17 @@ module _ {c q : Bytes} {t parts items : List ℕ} {s : Scope} {n m k : ℕ} {are
   unfolding build_projection
   lone e froms d = rw (e, build_projection)
 
-  pub stage-lone : (x : Stage) → ((c q : Bytes) → true ≡ is_lone (map (item_of c q t parts) items)) → x.scope ≡ s
-      → x.number ≡ 0 → x.n ≡ n → x.m ≡ m → x.k ≡ k
-      → (froms : List ℕ) → StageBuilt c q t (step froms) n m k area nodes area nodes x
-  stage-lone x e es ez en em ek froms = record {
+  pub stage-lone : ((c q : Bytes) → true ≡ is_lone (map (item_of c q t parts) items))
+      → (froms : List ℕ) → StageBuilt c q t (step froms) n m k area nodes area nodes
+      (Ok (record { scope = s; cell = n; node = m; used = k }))
+  stage-lone e froms = record {
     kept = refl;
     kept-nodes = refl;
-    refused = λ h. absurd (h ez);
-    accepted = λ z. record {
-      valid = rw es f.items-ready.valid;
-      hidden = rw es (omega (arith, f.items-ready.shown));
-      taken = rw (es, en, em, ek) (taken n m k (step-none (omega (arith, f.space)) (lone (sym (e c q)) froms)) refl);
+    is = record {
+      valid = f.items-ready.valid;
+      hidden = omega (arith, f.items-ready.shown);
+      taken = taken (record { cell = n; node = m; used = k })
+          (step-none (omega (arith, f.space)) (lone (sym (e c q)) froms)) refl;
     };
   }
 
@@ -130,90 +131,84 @@ module _ {c q : Bytes} {t parts items : List ℕ} {s : Scope} {n m k : ℕ} {are
       space = omega (arith, f.space, project-in-use (m - 1) o, o.all, f.items-ready.few);
     }
 
-    module _ {area₁ nodes₂ : List ℕ} {r : Pushed} (ps : ItemsPut c q t parts (labels_of s) (take s.width s.matches)
-        (table_numbers s) items n area area₁ j nodes₁ nodes₂ r) where
-      pub stage-refused : (x : Stage) (y l : ℕ) → r ≡ P.Refused y l → length area₁ ≡ length area
-          → length nodes₂ ≡ length nodes₁ → x.number ≡ y → x.line ≡ l
-          → (froms : List ℕ) → StageBuilt c q t (step froms) n m k area nodes area₁ nodes₂ x
-      unfolding AllAs
-      stage-refused x y l g ka kn ey el froms =
-          let a : Refuses (emit_firsts (item_built lent_scope) n items_here) y l =
-          rw g at (ps.is s.hidden) in
+    abbrev Put : List ℕ → List ℕ → Result Part Refusal → Type 0
+    Put area₁ nodes₂ r = ItemsPut c q t parts (labels_of s) (take s.width s.matches) (table_numbers s) items n area area₁
+        j nodes₁ nodes₂ r
+
+    pub stage-refused : {area₁ nodes₂ : List ℕ} {w : Refusal} → Put area₁ nodes₂ (Err w) → length area₁ ≡ length area
+        → length nodes₂ ≡ length nodes₁
+        → (froms : List ℕ) → StageBuilt c q t (step froms) n m k area nodes area₁ nodes₂ (Err w)
+    stage-refused ps ka kn froms = record {
+      kept = ka;
+      kept-nodes = kn ∙ o.all;
+      is = λ d cs rs v. refused-on (rw same-scope (ps.is s.hidden)) λ y i.
+          project-refused 0 0 d cs rs n m v items_here (later_of (select_at c q t froms parts)) scope_here (sym (e c q)) y i;
+    }
+
+    module _ {area₁ nodes₂ : List ℕ} {y : Part} (ps : Put area₁ nodes₂ (Ok y)) (ka : length area₁ ≡ length area) where
+      all : pushes.All (emit_firsts (item_built scope_here) n items_here) n area area₁ j nodes₁ nodes₂ y.cell y.used
+      all = rw same-scope (ps.is s.hidden)
+
+      pushed : Pushes n y.cell (length items) (3 * items_size c q t parts items) (length all.parts)
+      pushed = items-pushed scope_here c q t parts items n all.cells all.parts y.cell all.is
+
+      pub end-ready : EndReady c q t parts items s y.cell m k y.used area₁ nodes₂
+      end-ready =
+          let b = project-in-use (m - 1) o in
+          let d = items-size all.parts in
           record {
-            kept = ka;
-            kept-nodes = kn ∙ o.all;
-            refused = λ h d cs rs v. rw (ey, el) (record {
-              why = a.why;
-              is = project-refused 0 0 d cs rs n m v items_here (later_of (select_at c q t froms parts)) scope_here (sym (e c q))
-                  a.why (rw same-scope a.is);
-              number = a.number;
-              line = a.line;
-            });
-            accepted = λ z. absurd (omega (arith, z, ey, a.number, refusal-some a.why.reason));
+            items-ready = f.items-ready;
+            later = f.later;
+            room = record {
+              counted = omega (arith, pushed.most, f.room.counted);
+              held = omega (arith, pushed.most, f.room.held, ka);
+            };
+            begun = omega (arith, b, all.appended.next);
+            space = omega (arith, b, all.appended.next, d, pushed.parts_are, all.appended.all, o.all, f.space, f.items-ready.few);
+            most = omega (arith, all.appended.all, o.all, f.most);
+            few-nodes = f.few-nodes;
           }
 
-      module _ (n₂ j₂ : ℕ) (g : r ≡ P.Done n₂ j₂) (ka : length area₁ ≡ length area) where
-        all : pushes.All (emit_firsts (item_built scope_here) n items_here) n area area₁ j nodes₁ nodes₂ n₂ j₂
-        unfolding AllAs
-        all = rw same-scope (rw g at (ps.is s.hidden))
-
-        pushed : Pushes n n₂ (length items) (3 * items_size c q t parts items) (length all.parts)
-        pushed = items-pushed scope_here c q t parts items n all.cells all.parts n₂ all.is
-
-        pub end-ready : EndReady c q t parts items s n₂ m k j₂ area₁ nodes₂
-        end-ready =
-            let b = project-in-use (m - 1) o in
-            let d = items-size all.parts in
-            record {
-              items-ready = f.items-ready;
-              later = f.later;
-              room = record {
-                counted = omega (arith, pushed.most, f.room.counted);
-                held = omega (arith, pushed.most, f.room.held, ka);
+      pub stage-ended : {area₂ nodes₃ : List ℕ} (r : Result Stage Refusal)
+          → ProjectionEnded c q t parts items s y.cell m k y.used area₁ nodes₂ area₂ nodes₃ r
+          → (froms : List ℕ) → StageBuilt c q t (step froms) n m k area nodes area₂ nodes₃ r
+      unfolding named
+      stage-ended (Err z) p froms =
+          let l : length items_here ≡ length items = length-map items (item_of c q t parts) in
+          let w = p.is froms in
+          record {
+            kept = p.kept ∙ ka;
+            kept-nodes = p.kept-nodes ∙ all.appended.all ∙ o.all;
+            is = λ d cs rs v. rw w.is (refused-at limit_passed w.one.line _ _
+                (project-wide 0 0 d cs rs n m v items_here (later_of (select_at c q t froms parts)) scope_here (sym (e c q))
+                all.cells all.parts y.cell all.is w.before w.one w.behind w.columns (rw l w.room)) refl refl);
+          }
+      stage-ended (Ok x) p froms =
+          let later = later_of (select_at c q t froms parts) in
+          let h = hidden_at c q t parts items s froms in
+          let l : length items_here ≡ length items = length-map items (item_of c q t parts) in
+          let w = p.is.widened froms in
+          let ys = map column (positions_of h.columns) in
+          let bs = column_parts y.cell (positions_of h.columns) in
+          let u : Appended (opened (project (m - 1) all.parts)) k nodes y.used nodes₂ =
+          project-items (m - 1) [] all.parts o all.appended in
+          let v = w.whole (m - 1) all.parts nodes u in
+          record {
+            kept = p.kept ∙ ka;
+            kept-nodes = p.kept-nodes ∙ all.appended.all ∙ o.all;
+            is = record {
+              valid = p.is.valid;
+              hidden = p.is.hidden;
+              taken = record {
+                cells = all.cells ++ ys;
+                records = project (pred m) (all.parts ++ bs) ∷ [];
+                lies = λ d cs rs b. stage-lies (rw (w.scope-is, w.node, w.next) (project-step 0 0 d cs rs n m b items_here
+                    later scope_here (sym (e c q)) all.cells all.parts y.cell all.is ys bs (y.cell + length h.columns)
+                    (rw l w.few) (hidden-emits h.columns y.cell)));
+                stands = stands_one _
+                    (w.stand ∙ rw (all.stand, cells-numbers-append all.cells ys)
+                    (append_assoc (take (cells_end n) area) (cells_numbers all.cells) (cells_numbers ys)))
+                    (rw (← sub-one m) v);
               };
-              begun = omega (arith, b, all.appended.next);
-              space = omega (arith, b, all.appended.next, d, pushed.parts_are, all.appended.all, o.all, f.space, f.items-ready.few);
-              most = omega (arith, all.appended.all, o.all, f.most);
-              few-nodes = f.few-nodes;
-            }
-
-        pub stage-ended : {area₂ nodes₃ : List ℕ} (x : Stage)
-            → ProjectionEnded c q t parts items s n₂ m k j₂ area₁ nodes₂ area₂ nodes₃ x
-            → (froms : List ℕ) → StageBuilt c q t (step froms) n m k area nodes area₂ nodes₃ x
-        stage-ended x p froms =
-            let later = later_of (select_at c q t froms parts) in
-            let h = hidden_at c q t parts items s froms in
-            let l : length items_here ≡ length items = length-map items (item_of c q t parts) in
-            record {
-              kept = p.kept ∙ ka;
-              kept-nodes = p.kept-nodes ∙ all.appended.all ∙ o.all;
-              refused = λ z d cs rs v.
-                  let w = p.refused z froms in
-                  let y = w.exceeds in
-                  refuses-at limit_passed y.one.line x.number x.line
-                  (project-wide 0 0 d cs rs n m v items_here later scope_here (sym (e c q)) all.cells all.parts n₂ all.is
-                  y.before y.one y.behind y.columns (rw l y.room)) w.number y.line;
-              accepted = λ z.
-                  let a = p.accepted z in
-                  let w = a.widened froms in
-                  let ys = map column (positions_of h.columns) in
-                  let bs = column_parts n₂ (positions_of h.columns) in
-                  let u : Appended (opened (project (m - 1) all.parts)) k nodes j₂ nodes₂ =
-                  project-items (m - 1) [] all.parts o all.appended in
-                  let v = w.whole (m - 1) all.parts nodes u in
-                  record {
-                    valid = a.valid;
-                    hidden = a.hidden;
-                    taken = record {
-                      cells = all.cells ++ ys;
-                      records = project (pred m) (all.parts ++ bs) ∷ [];
-                      lies = λ d cs rs b. stage-lies (rw (w.scope-is, w.node, w.next) (project-step 0 0 d cs rs n m b items_here
-                          later scope_here (sym (e c q)) all.cells all.parts n₂ all.is ys bs (n₂ + length h.columns)
-                          (rw l w.few) (hidden-emits h.columns n₂)));
-                      stands = stands_one _
-                          (w.stand ∙ rw (all.stand, cells-numbers-append all.cells ys)
-                          (append_assoc (take (cells_end n) area) (cells_numbers all.cells) (cells_numbers ys)))
-                          (rw (← sub-one m) v);
-                    };
-                  };
-            }
+            };
+          }

@@ -8,7 +8,7 @@ ghost use Rattle.build_project.specs.Ends.{EndReady, ProjectionEnded};
 
 use super::projected::project_scope;
 use build_hidden::build_select_hidden;
-use numbers::refusals::LIMIT_PASSED;
+use numbers::refusals::Refusal;
 use plan::cells::column;
 use plan::parts::{end, item};
 use scope::{COLUMNS, Scope};
@@ -23,17 +23,16 @@ fn put_columns(positions: &[u32], area: &mut [u32], n: u32, nodes: &mut [u32], k
         nodes.new result }
 {
     let mut j = k;
-    let mut i: usize = 0;
-    while i < positions.len() {
+    for (i, &x) in positions.iter().enumerate() {
         let at = n + i as u32;
-        column(area, at, positions[i]);
+        column(area, at, x);
         j = item(nodes, j, at, 0, 0);
-        i += 1;
     }
     j
 }
 
-// The projection that starts at a place, its items pushed, by their labels: with its hidden columns it ends; 3 where they are too many.
+// The projection that starts at a place, its items pushed, by their labels: with its hidden columns it ends. Refused where
+// they are too many.
 pub fn end_projection<'t>(
     catalog: &'t [u8],
     statement: &'t [u8],
@@ -48,7 +47,7 @@ pub fn end_projection<'t>(
     m: u32,
     start: usize,
     k: usize,
-) -> Stage
+) -> Result<Stage, Refusal>
     requires end_ready { EndReady catalog.now statement.now cells.now parts.now items.now scope n m start k area.old
         nodes.old }
     requires labels_value { labels.now ≡ item_labels catalog.now statement.now cells.now parts.now scope items.now }
@@ -58,7 +57,7 @@ pub fn end_projection<'t>(
 {
     let child = project_scope(catalog, statement, cells, parts, items, labels, scope);
     let mut positions = [0u32; COLUMNS];
-    let hiding = build_select_hidden(
+    let widened = build_select_hidden(
         catalog,
         statement,
         cells,
@@ -70,27 +69,14 @@ pub fn end_projection<'t>(
         scope.count,
         child,
         &mut positions,
-    );
-    let widened = hiding.scope;
-    if hiding.full {
-        return Stage {
-            scope: widened,
-            number: LIMIT_PASSED,
-            line: hiding.line,
-            n: n,
-            m: m,
-            k: k,
-        };
-    }
+    )?;
     let hidden = widened.hidden;
     let j = put_columns(&positions[..hidden as usize], area, n, nodes, k);
     end(nodes, start, j);
-    Stage {
+    Ok(Stage {
         scope: widened,
-        number: 0,
-        line: 0,
-        n: n + hidden,
-        m: m + 1,
-        k: j,
-    }
+        cell: n + hidden,
+        node: m + 1,
+        used: j,
+    })
 }

@@ -17,9 +17,10 @@ ghost use Rattle.stage.specs.Stages.{StageBuilt};
 ghost use Rattle.build_projection.specs.Items.{item_of};
 ghost use Rattle.build_project.specs.Ready.{ProjectionReady};
 
-use build_projection::projection::{Pushed, put_items};
+use build_projection::projection::put_items;
 use hidden::end_projection;
 use lone::is_lone;
+use numbers::refusals::Refusal;
 use plan::parts::begin_project;
 use scope::{COLUMNS, Scope};
 use stage::Stage;
@@ -38,7 +39,7 @@ pub fn build_projection<'t>(
     nodes: &mut [u32],
     m: u32,
     k: usize,
-) -> Stage
+) -> Result<Stage, Refusal>
     requires { ProjectionReady catalog.now statement.now cells.now parts.now items.now scope n m k area.old
         nodes.old }
     ensures { (froms : List ℕ) → StageBuilt catalog.now statement.now cells.now
@@ -51,18 +52,16 @@ pub fn build_projection<'t>(
         parts.now))) n m k area.old nodes.old area.new nodes.new result }
 {
     if is_lone(cells, parts, items) {
-        return Stage {
-            scope: scope,
-            number: 0,
-            line: 0,
-            n: n,
-            m: m,
-            k: k,
-        };
+        return Ok(Stage {
+            scope,
+            cell: n,
+            node: m,
+            used: k,
+        });
     }
     let j = begin_project(nodes, k, m - 1);
     let mut labels = [0u32; COLUMNS];
-    let pushed = put_items(
+    let part = put_items(
         catalog,
         statement,
         cells,
@@ -78,30 +77,20 @@ pub fn build_projection<'t>(
         nodes,
         j,
         &mut labels,
-    );
-    match pushed {
-        Pushed::Refused(x, l) => Stage {
-            scope: scope,
-            number: x,
-            line: l,
-            n: n,
-            m: m,
-            k: k,
-        },
-        Pushed::Done(n2, j2) => end_projection(
-            catalog,
-            statement,
-            cells,
-            parts,
-            items,
-            &labels[..items.len()],
-            scope,
-            area,
-            n2,
-            nodes,
-            m,
-            k,
-            j2,
-        ),
-    }
+    )?;
+    end_projection(
+        catalog,
+        statement,
+        cells,
+        parts,
+        items,
+        &labels[..items.len()],
+        scope,
+        area,
+        part.cell,
+        nodes,
+        m,
+        k,
+        part.used,
+    )
 }

@@ -4,7 +4,7 @@ ghost use Rattle.rules.specs.Lists.{Bytes};
 ghost use Rattle.rules.specs.Items.{is_lone};
 ghost use Rattle.build_projection.specs.Items.{item_of};
 
-use build_projection::items::{Star, plain_item};
+use build_projection::items::plain_item;
 
 // Whether there is one item, a star with no alias.
 pub fn is_lone(cells: &[u32], parts: &[u32], items: &[u32]) -> bool
@@ -13,9 +13,5 @@ pub fn is_lone(cells: &[u32], parts: &[u32], items: &[u32]) -> bool
     if items.len() != 1 {
         return false;
     }
-    let star = plain_item(cells, parts, items[0]);
-    match star {
-        Star::Missing => false,
-        Star::At(_) => true,
-    }
+    plain_item(cells, parts, items[0]).is_some()
 }

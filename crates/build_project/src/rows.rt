@@ -10,9 +10,7 @@ pub fn item_rows(parts: &[u32], items: &[u32], rows: &mut [usize])
     requires { (length items.now ≤ most_columns) × (length rows.old ≡ most_columns) }
     ensures { take (length items.now) rows.new ≡ map (row_of parts.now) items.now }
 {
-    let mut i: usize = 0;
-    while i < items.len() {
-        rows[i] = item_row(parts, items[i]);
-        i += 1;
+    for (i, &x) in items.iter().enumerate() {
+        rows[i] = item_row(parts, x);
     }
 }

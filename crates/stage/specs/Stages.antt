@@ -1,14 +1,15 @@
 -- A clause of a SELECT that makes a new scope: what it appends behind the node before it and the scope it leaves, or its
 -- refusal.
-use Rattle.std.specs.Prelude.{ℕ, ◌≤◌, ◌≡◌, List, length}
+use Rattle.std.specs.Prelude.{ℕ, ◌≤◌, ◌≡◌, List, length, Result, MatchResult}
 use Rattle.rules.specs.Refusals.{Answer}
 use Rattle.rules.specs.Lists.{Bytes}
 use Rattle.rules.specs.Plan.{Built, Node}
 use Rattle.rules.specs.Stage as rules
 use Rattle.appends.specs.From.Laid.{stage_of}
+use Rattle.numbers.specs.declared.refusals.Refusal.{Refusal}
 use Rattle.ast.specs.Table.{tree_at}
 use Rattle.scope.specs.Scopes.{scope_of, Valid}
-use Rattle.plan.specs.Steps.{Taken, NotTaken}
+use Rattle.plan.specs.Steps.{Taken, StoppedWith}
 use Rattle.stage.specs.declared.Stage.{Stage}
 
 -- accepted: the scope that is left, and what is appended
@@ -16,13 +17,12 @@ pub record Accepted (c q : Bytes) (cells : List ℕ) (a : Node Built → Answer 
     (area' nodes' : List ℕ) (x : Stage) : Type 0 where
   pub valid : Valid x.scope
   pub hidden : x.scope.hidden ≤ x.scope.width
-  pub taken : Taken (λ d. stage_of d (scope_of (tree_at c q cells) c q x.scope)) a n m k area nodes x.n x.m x.k
-      area' nodes'
+  pub taken : Taken (λ d. stage_of d (scope_of (tree_at c q cells) c q x.scope)) a n m k area nodes x.cell x.node
+      x.used area' nodes'
 
 -- the clause a behind n cells, m nodes and k numbers of the nodes
 pub record StageBuilt (c q : Bytes) (cells : List ℕ) (a : Node Built → Answer rules.Stage) (n m k : ℕ)
-    (area nodes area' nodes' : List ℕ) (x : Stage) : Type 0 where
+    (area nodes area' nodes' : List ℕ) (r : Result Stage Refusal) : Type 0 where
   pub kept : length area' ≡ length area
   pub kept-nodes : length nodes' ≡ length nodes
-  pub refused : (x.number ≡ 0 → ⊥) → NotTaken a n m x.number x.line
-  pub accepted : x.number ≡ 0 → Accepted c q cells a n m k area nodes area' nodes' x
+  pub is : MatchResult r (Accepted c q cells a n m k area nodes area' nodes') (StoppedWith a n m)

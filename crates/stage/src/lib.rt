@@ -3,14 +3,11 @@
 
 use scope::Scope;
 
-// The scope, and with it the next cell, the next node and how many numbers of the nodes are in use; `number` is 0. Where
-// the clause is refused, document 01's number and line.
+// The scope, and with it the next cell, the next node and how many numbers of the nodes are in use.
 #[derive(Clone, Copy)]
 pub struct Stage {
     pub scope: Scope,
-    pub number: u32,
-    pub line: u32,
-    pub n: u32,
-    pub m: u32,
-    pub k: usize,
+    pub cell: u32,
+    pub node: u32,
+    pub used: usize,
 }

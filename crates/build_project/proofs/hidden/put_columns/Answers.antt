@@ -20,9 +20,6 @@ column-requires c = room-here c.loop-i.invariant c.loop-i-test.true refl
 pub item-j-requires : goal.item-j-requires
 item-j-requires c = space-here c.loop-i.invariant c.loop-i-test.true
 
-pub overflow_add-i : goal.overflow_add-i
-overflow_add-i c = record { fits = omega (arith, c.loop-i.invariant.room.counted, c.loop-i-test.true) }
-
 pub loop-i-preserved : goal.loop-i-preserved
 loop-i-preserved c = putting-more c.loop-i.invariant c.loop-i-test.true refl c.column.ensures (c.item-j.ensures none no-alias)
 

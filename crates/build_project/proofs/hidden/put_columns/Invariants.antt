@@ -1,12 +1,7 @@
 -- `hidden::put_columns`: the columns put so far.
-use Prim.Native.Nat.{◌-◌}
-use lib.ListN.{length}
 use Rattle.build_project.specs.Hidden.{Putting}
 use Rattle.build_project.proofs.hidden.put_columns.Given as goal
 
 abbrev pub invariant-loop-i : goal.invariant-loop-i
 invariant-loop-i l =
     Putting l.positions l.n l.initial.area l.area l.k l.initial.nodes l.nodes l.i l.j
-
-abbrev pub decreases-loop-i : goal.decreases-loop-i
-decreases-loop-i l = length l.positions - l.i
