@@ -2,7 +2,7 @@
 use Prim.Native.Nat.{ℕ, pred, ◌+◌, ◌-◌, ◌≤◌, ◌<◌}
 use Rattle.std.proofs.Common.{arith, sym, ap, ◌∙◌, append-nil, length-append}
 use Rattle.std.proofs.Math.Numerals.{sub-one}
-use Rattle.std.specs.Prelude.{◌≡◌, refl, true, false, List, [], ◌∷◌, ◌++◌, map, length, take}
+use Rattle.std.specs.Prelude.{◌≡◌, refl, true, false, List, [], ◌∷◌, ◌++◌, map, length, take, Result, IfOk, Ok, Err}
 use Rattle.std.proofs.lemmas.Bool.{false≢true}
 use Rattle.std.proofs.lemmas.List.{length-map}
 use Rattle.rules.specs.Refusals.{Answer, ◌>>=◌}
@@ -19,6 +19,7 @@ use Rattle.rules.specs.Sizes.{total}
 use Rattle.claims.specs.Count.Totals.{total-map}
 use Rattle.appends.specs.From.Laid.{stage_of, StageLaid}
 use Rattle.appends.specs.Select.Groups.{groups_none}
+use Rattle.numbers.specs.declared.refusals.Refusal.{Refusal}
 use Rattle.ast.specs.Table.{tree_at}
 use Rattle.scope.specs.Scopes.{scope_of, Valid, labels_of, table_numbers}
 use Rattle.scope.specs.Aggregates.{retain-groups, retain-functions}
@@ -26,9 +27,8 @@ use Rattle.scope.specs.AddAggregates.{AggregatesAdded, added-functions}
 use Rattle.scope.specs.declared.Scope.{Scope}
 use Rattle.sections.specs.Access.{group_kind}
 use Rattle.plan.specs.Appended.{Appended}
-use Rattle.plan.specs.Steps.{refusal-some, Lies, stage-lies, stands-none, stands_one}
-use Rattle.plan.specs.declared.cells.Written.{Written}
-use Rattle.plan.specs.declared.cells.Written.TheVariants as W
+use Rattle.plan.specs.Emits.{Written}
+use Rattle.plan.specs.Steps.{refused-on, Lies, stage-lies, stands-none, stands_one}
 use Rattle.build_aggregate.specs.Functions.{step_of}
 use Rattle.build_aggregate.specs.Entries.{gave, gave-refused}
 use Rattle.build_aggregate.specs.Nodes.{aggregate_step, NodeBuilt}
@@ -57,27 +57,26 @@ groups_stage c q cells s gs fs d = build_groups (stage_of d (scope_of (tree_at c
 
 -- over rows of groups and functions, one at least
 abbrev pub StageOver : Bytes → Bytes → List ℕ → Scope → List ℕ → List ℕ → ℕ → ℕ → ℕ → List ℕ → List ℕ → List ℕ
-    → List ℕ → Stage → Type 0
+    → List ℕ → Result Stage Refusal → Type 0
 StageOver c q cells s gs fs n m k area nodes area' nodes' r = 0 < length gs + length fs
     → StageBuilt c q cells (groups_stage c q cells s (map (tree_at c q cells) gs) (map (tree_at c q cells) fs)) n m k area
     nodes area' nodes' r
 
 -- the stage, and where nothing is aggregated the scope as it was
 pub record GroupsBuilt (c q : Bytes) (cells : List ℕ) (s : Scope) (gs fs : List Expr) (n m k : ℕ)
-    (area nodes area' nodes' : List ℕ) (r : Stage) : Type 0 where
+    (area nodes area' nodes' : List ℕ) (r : Result Stage Refusal) : Type 0 where
   pub stage : StageBuilt c q cells (groups_stage c q cells s gs fs) n m k area nodes area' nodes' r
-  pub same : aggregated gs fs ≡ false → r.scope ≡ s
+  pub same : aggregated gs fs ≡ false → IfOk r (λ x. x.scope ≡ s)
 
 -- none: all is as it was
-pub none-built : (c q : Bytes) (cells : List ℕ) (s : Scope) (gs fs : List Expr) (n m k l : ℕ) (area nodes : List ℕ)
+pub none-built : (c q : Bytes) (cells : List ℕ) (s : Scope) (gs fs : List Expr) (n m k : ℕ) (area nodes : List ℕ)
     → Valid s → s.hidden ≤ s.width → k ≤ length nodes → length gs + length fs ≡ 0
     → StageBuilt c q cells (groups_stage c q cells s gs fs) n m k area nodes area nodes
-    (record { scope = s; number = 0; line = l; n = n; m = m; k = k })
-none-built c q cells s gs fs n m k l area nodes v h i e = record {
+    (Ok (record { scope = s; cell = n; node = m; used = k }))
+none-built c q cells s gs fs n m k area nodes v h i e = record {
   kept = refl;
   kept-nodes = refl;
-  refused = λ f. absurd (f refl);
-  accepted = λ f. record {
+  is = record {
     valid = v;
     hidden = h;
     taken = record {
@@ -99,13 +98,13 @@ lies-as rs as' bs e f h = rw (e, f) (stage-lies h)
 
 -- an accepted node has at most the most columns
 pub built-few : {c q : Bytes} {cells : List ℕ} (s : Scope) {xs ys : List ℕ} {source n k k' : ℕ}
-    {area nodes area' nodes' : List ℕ} {x : Written} (p : ℕ)
+    {area nodes area' nodes' : List ℕ} {p : ℕ}
     → NodeBuilt c q cells (labels_of s) (take s.width s.matches) (table_numbers s) xs ys source n k k' area area'
-    nodes nodes' x → x ≡ W.Done p → length xs + length ys ≤ most_columns
+    nodes nodes' (Ok p) → length xs + length ys ≤ most_columns
 unfolding scope_of
-built-few {c} {q} {cells} s {xs} {ys} {n = n} p b e =
+built-few {c} {q} {cells} s {xs} {ys} {n = n} {p = p} b =
     let tree = tree_at c q cells in
-    let o = gave p (b.is s.hidden) e in
+    let o = gave p (b.is s.hidden) refl in
     let u = step-parts (scope_of tree c q s) n (map tree xs) (map tree ys) o.cells o.entry.0 o.entry.1 p
     o.is in
     omega (arith, u.few, length-append (map tree xs) (map tree ys), length-map xs tree, length-map ys tree)
@@ -136,31 +135,24 @@ module _ {c q : Bytes} {cells : List ℕ} (s : Scope) (gs fs : List ℕ) (t : 0 
         ef,
       )
 
-  pub built-refused : (z l : ℕ) → x ≡ W.Refused z l → (i j h : ℕ)
-      → StageBuilt c q cells (groups_stage c q cells s (map tree gs) (map tree fs)) n m k area nodes area' nodes'
-      (record { scope = s; number = z; line = l; n = i; m = j; k = h })
+  pub built-refused : {z : Refusal} → x ≡ Err z
+      → StageBuilt c q cells (groups_stage c q cells s (map tree gs) (map tree fs)) n m k area nodes area' nodes' (Err z)
   unfolding scope_of
-  built-refused z l e i j h =
+  built-refused {z} e =
       let u = b.is s.hidden in
-      let o = gave-refused z l u e in
       record {
         kept = u.emits.kept;
         kept-nodes = u.all;
-        refused = λ f d cs rs y. record {
-          why = o.why;
-          is = stage-refused over (map tree gs) (map tree fs) some-here d cs rs n m y o.why (sym step-here ∙ o.is);
-          number = o.number;
-          line = o.line;
-        };
-        accepted = λ f. absurd (omega (arith, f, o.number, refusal-some o.why.reason));
+        is = λ d cs rs y. refused-on (gave-refused z u e) λ w i.
+            stage-refused over (map tree gs) (map tree fs) some-here d cs rs n m y w (sym step-here ∙ i);
       }
 
-  pub built-done : (p : ℕ) → x ≡ W.Done p → source ≡ m - 1 → (rows : List ℕ) (r : Scope) (l k'' : ℕ) → k'' ≡ k'
+  pub built-done : {p : ℕ} → x ≡ Ok p → source ≡ m - 1 → {rows : List ℕ} {r : Scope} {k'' : ℕ} → k'' ≡ k'
       → rows ≡ retained_groups tree gs ++ retained_functions tree gs fs → AggregatesAdded c q cells s rows r
       → StageBuilt c q cells (groups_stage c q cells s (map tree gs) (map tree fs)) n m k area nodes area' nodes'
-      (record { scope = r; number = 0; line = l; n = p; m = m + 1; k = k'' })
+      (Ok (record { scope = r; cell = p; node = m + 1; used = k'' }))
   unfolding scope_of step_of ◌>>=◌
-  built-done p e es rows r l k'' ek er a =
+  built-done {p} e es ek er a =
       let u = b.is s.hidden in
       let o = gave p u e in
       let z : source ≡ pred m = es ∙ sub-one m in
@@ -168,8 +160,7 @@ module _ {c q : Bytes} {cells : List ℕ} (s : Scope) (gs fs : List ℕ) (t : 0 
       rw ek (record {
         kept = u.emits.kept;
         kept-nodes = u.all;
-        refused = λ f. absurd (f refl);
-        accepted = λ f. record {
+        is = record {
           valid = a.valid;
           hidden = omega (arith, a.shown);
           taken = record {
@@ -207,11 +198,11 @@ module _ {c q : Bytes} {cells parts : List ℕ} {s : Scope} {n m k : ℕ} {area 
 
   module _ {g f : ℕ} {gs₀ gs fs₀ fs : List ℕ} (a : Appended (section_rows parts group_kind) 0 gs₀ g gs)
       (b : Appended (function_rows c q cells parts) 0 fs₀ f fs) where
-    pub none-stage : (l : ℕ) → g + f ≡ 0
+    pub none-stage : g + f ≡ 0
         → GroupsBuilt c q cells s (groups_at c q cells parts) (functions_at c q cells parts) n m k area nodes area nodes
-        (record { scope = s; number = 0; line = l; n = n; m = m; k = k })
-    none-stage l e = record {
-      stage = none-built c q cells s _ _ n m k l area nodes h.valid h.hidden
+        (Ok (record { scope = s; cell = n; node = m; used = k }))
+    none-stage e = record {
+      stage = none-built c q cells s _ _ n m k area nodes h.valid h.hidden
           (omega (arith, h.nodes-room)) (omega (arith, e, a.next, b.next, groups-number, functions-number));
       same = λ z. refl;
     }
@@ -244,7 +235,7 @@ module _ {c q : Bytes} {cells parts : List ℕ} {s : Scope} {n m k : ℕ} {area 
       in_use = h.in_use;
     })
 
-    pub some-stage : {area' nodes' : List ℕ} {r : Stage} → (g + f ≡ 0 → ⊥)
+    pub some-stage : {area' nodes' : List ℕ} {r : Result Stage Refusal} → (g + f ≡ 0 → ⊥)
         → StageBuilt c q cells (groups_stage c q cells s (map (tree_at c q cells) (take g gs))
         (map (tree_at c q cells) (take f fs))) n m k area nodes area' nodes' r
         → GroupsBuilt c q cells s (groups_at c q cells parts) (functions_at c q cells parts) n m k area nodes area' nodes' r

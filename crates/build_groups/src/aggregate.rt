@@ -8,7 +8,7 @@ ghost use Rattle.build_groups.specs.Stages.{groups_stage, StageOver};
 use ast::rows::STATEMENT_ROWS;
 use build_aggregate::lists::FUNCTION_SIZE;
 use build_aggregate::node::build_node;
-use plan::cells::Written;
+use numbers::refusals::Refusal;
 use scope::Scope;
 use scope::retain::retain;
 use stage::Stage;
@@ -59,7 +59,7 @@ fn build_retained<'t>(
     nodes: &mut [u32],
     m: u32,
     k: usize,
-) -> Stage
+) -> Result<Stage, Refusal>
     requires { KeptReady catalog.now statement.now cells.now scope kept.now rows n m k area.old nodes.old }
     ensures { (gs fs : List ℕ) → RowsKept (tree_at catalog.now statement.now cells.now)
         gs fs kept.now rows → StageOver catalog.now statement.now cells.now scope gs
@@ -83,28 +83,14 @@ fn build_retained<'t>(
         n,
         nodes,
         k,
-    );
-    match built {
-        Written::Refused(number, line) => Stage {
-            scope: scope,
-            number: number,
-            line: line,
-            n: n,
-            m: m,
-            k: k,
-        },
-        Written::Done(p) => {
-            let child = scope.add_aggregates(catalog, statement, cells, &kept[0..f]);
-            Stage {
-                scope: child,
-                number: 0,
-                line: 0,
-                n: p,
-                m: m + 1,
-                k: k + AGGREGATE_HEAD + g + FUNCTION_SIZE * (f - g),
-            }
-        }
-    }
+    )?;
+    let child = scope.add_aggregates(catalog, statement, cells, &kept[0..f]);
+    Ok(Stage {
+        scope: child,
+        cell: built,
+        node: m + 1,
+        used: k + AGGREGATE_HEAD + g + FUNCTION_SIZE * (f - g),
+    })
 }
 
 // The aggregate stage over the first g rows of groups and the first f of functions, one at least.
@@ -122,7 +108,7 @@ pub fn build_aggregate<'t>(
     nodes: &mut [u32],
     m: u32,
     k: usize,
-) -> Stage
+) -> Result<Stage, Refusal>
     requires g_in_bounds { (g ≤ length groups.now) × (f ≤ length functions.now) }
     requires aggregate_ready { AggregateReady catalog.now statement.now cells.now scope (take g groups.now) (take f functions.now)
         n m k area.old nodes.old }

@@ -9,6 +9,7 @@ ghost use Rattle.build_groups.specs.Terms.{GroupsReady};
 ghost use Rattle.build_groups.specs.Stages.{GroupsBuilt};
 
 use aggregate::{FUNCTIONS, GROUPS, build_aggregate};
+use numbers::refusals::Refusal;
 use rows::{function_rows, group_rows};
 use scope::Scope;
 use stage::Stage;
@@ -25,7 +26,7 @@ pub fn build_groups<'t>(
     nodes: &mut [u32],
     m: u32,
     k: usize,
-) -> Stage
+) -> Result<Stage, Refusal>
     requires { GroupsReady catalog.now statement.now cells.now parts.now scope n m k area.old nodes.old }
     ensures { GroupsBuilt catalog.now statement.now cells.now scope
         (groups_at catalog.now statement.now cells.now parts.now)
@@ -37,14 +38,12 @@ pub fn build_groups<'t>(
     let mut functions = [0usize; FUNCTIONS];
     let f = function_rows(catalog, statement, cells, parts, &mut functions);
     if g + f == 0 {
-        return Stage {
-            scope: scope,
-            number: 0,
-            line: 0,
-            n: n,
-            m: m,
-            k: k,
-        };
+        return Ok(Stage {
+            scope,
+            cell: n,
+            node: m,
+            used: k,
+        });
     }
     build_aggregate(
         catalog, statement, cells, &groups, g, &functions, f, scope, area, n, nodes, m, k,

@@ -11,7 +11,7 @@ pub function_rows-f-requires : goal.function_rows-f-requires
 function_rows-f-requires c = omega (arith, functions-fit c.requires)
 
 pub returns-then-g-f-eq0 : goal.returns-then-g-f-eq0
-returns-then-g-f-eq0 c = none-stage c.requires c.group_rows-g.ensures c.function_rows-f.ensures 0 c.if-g-f-eq0.true
+returns-then-g-f-eq0 c = none-stage c.requires c.group_rows-g.ensures c.function_rows-f.ensures c.if-g-f-eq0.true
 
 pub build_aggregate-requires : goal.build_aggregate-requires
 build_aggregate-requires c = record { g_in_bounds = (search rules, search rules); aggregate_ready = some-ready c.requires c.group_rows-g.ensures c.function_rows-f.ensures c.if-g-f-eq0.false }
