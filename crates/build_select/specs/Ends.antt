@@ -1,5 +1,5 @@
 -- OFFSET, LIMIT, the last remap and the end of a SELECT's plan.
-use Rattle.std.specs.Prelude.{ℕ, ◌+◌, ◌≤◌, ◌≡◌, List, [], length}
+use Rattle.std.specs.Prelude.{ℕ, ◌+◌, ◌≤◌, ◌≡◌, List, [], length, Ok, Err, Result}
 use Rattle.std.proofs.Common.{arith, ap, ◌∙◌}
 use Rattle.std.proofs.Math.Path.{refl}
 use Rattle.std.proofs.Math.Option.{Option, none, some}
@@ -22,11 +22,10 @@ use Rattle.plan.specs.Layout.{most_plan_cells, nodes_size, plan_size, rows_size,
 use Rattle.plan.specs.Appended.{appended-start}
 use Rattle.plan.specs.Finished.{finished}
 use Rattle.plan.specs.Exit.{pieces, select-exit}
-use Rattle.plan.specs.Steps.{refuses-on, Steps}
-use Rattle.plan.specs.declared.cells.Written.{Written}
-use Rattle.plan.specs.declared.cells.Written.TheVariants as W
+use Rattle.numbers.specs.declared.refusals.Refusal.{Refusal}
+use Rattle.plan.specs.Emits.{Written}
+use Rattle.plan.specs.Steps.{refused-on, Steps}
 use Rattle.plan.specs.declared.steps.Step.{Step}
-use Rattle.plan.specs.declared.steps.Step.TheVariants as S
 use Rattle.sections.specs.Access.{offset_kind, limit_kind}
 use Rattle.statement.specs.EntryAccess.{clause_at, clause_of}
 use Rattle.statement.specs.declared.access.Clause.{Clause}
@@ -54,7 +53,7 @@ module _ {q : Select} {d : Node Built} {n m k : ℕ} {area nodes : List ℕ} (h 
       )
 
   pub select-ends : {a : Answer (Plan Built)} {area' : List ℕ} → n ≤ most_plan_cells → a ≡ ok (P.select d)
-      → length area' ≡ length area → area' ≡ finished select_code n m k k nodes area → Plans a area area' (W.Done n)
+      → length area' ≡ length area → area' ≡ finished select_code n m k k nodes area → Plans a area area' (Ok n)
   select-ends {a} {area'} l e f z =
       let s = h.standing in
       let ps = pieces {cs = s.cells} {n = n} {t = area} s.records [] h.area₀ s.kept
@@ -99,40 +98,34 @@ module _ {w g n m k : ℕ} {area nodes : List ℕ} (h : LimitState w g n m k are
   abbrev q : Bytes
   q = h.texts.1
 
-  module _ {nodes' : List ℕ} {r : Step} (s : Steps (λ d. d)
-      (λ d. ok (build_remap d (scope_of (tree_at c q h.cells) c q h.scope))) n m k area nodes area nodes' r) where
-    -- it is not refused
-    pub remap-stop : {A : Type 0} (x l : ℕ) → r ≡ S.Refused x l → A
-    remap-stop x l e =
-        let z = step-stop h.held s x l e in
-        absurd (let y : ◌≡◌ {A = ℕ} 0 1 = ok-not-refused _ z.why z.is in omega arith)
+  module _ {nodes' : List ℕ} {p : Step} (s : Steps (λ d. d)
+      (λ d. ok (build_remap d (scope_of (tree_at c q h.cells) c q h.scope))) n m k area nodes area nodes' (Ok p)) where
+    on : HeldOn h.select (λ d. d) (ok (build_remap h.node (scope_of (tree_at c q h.cells) c q h.scope))) p.cell p.node
+        p.used area nodes'
+    on = step-on h.held s p refl
 
-    module _ {n' m' k' : ℕ} (e : r ≡ S.Done n' m' k') where
-      on : HeldOn h.select (λ d. d) (ok (build_remap h.node (scope_of (tree_at c q h.cells) c q h.scope))) n' m' k' area nodes'
-      on = step-on h.held s n' m' k' e
+    node-is : build_remap h.node h.stage.scope ≡ on.node
+    node-is = ap (build_remap h.node) h.scoped.is ∙ ok_same on.answer
 
-      node-is : build_remap h.node h.stage.scope ≡ on.node
-      node-is = ap (build_remap h.node) h.scoped.is ∙ ok_same on.answer
+    remapped-cells : p.cell ≤ most_plan_cells
+    remapped-cells = omega (
+      arith,
+      end-cells,
+      held-cells h.held,
+      held-cells on.held,
+      remap-cells h.node h.stage.scope,
+      ap cell_count node-is,
+    )
 
-      remapped-cells : n' ≤ most_plan_cells
-      remapped-cells = omega (
-        arith,
-        end-cells,
-        held-cells h.held,
-        held-cells on.held,
-        remap-cells h.node h.stage.scope,
-        ap cell_count node-is,
-      )
+    pub remapped-room : (plan_size ≤ length area) × (p.cell ≤ most_plan_cells) × (p.used ≤ p.used) × (p.used ≤ nodes_size)
+        × (p.used ≤ length nodes')
+    remapped-room = end-room on.held remapped-cells
 
-      pub remapped-room : (plan_size ≤ length area) × (n' ≤ most_plan_cells) × (k' ≤ k') × (k' ≤ nodes_size)
-          × (k' ≤ length nodes')
-      remapped-room = end-room on.held remapped-cells
-
-      pub remapped-plans : {area' : List ℕ} → length area' ≡ length area
-          → area' ≡ finished select_code n' m' k' k' nodes' area
-          → Plans (select_remap h.select h.stage h.node) area area' (W.Done n')
-      unfolding select_remap
-      remapped-plans f z = select-ends on.held remapped-cells (ap (λ (d : Node Built). ok (P.select d)) node-is) f z
+    pub remapped-plans : {area' : List ℕ} → length area' ≡ length area
+        → area' ≡ finished select_code p.cell p.node p.used p.used nodes' area
+        → Plans (select_remap h.select h.stage h.node) area area' (Ok p.cell)
+    unfolding select_remap
+    remapped-plans f z = select-ends on.held remapped-cells (ap (λ (d : Node Built). ok (P.select d)) node-is) f z
 
 -- LIMIT
 module _ {c q : Bytes} {cells parts : List ℕ} {w g n m k : ℕ} {area nodes : List ℕ}
@@ -144,18 +137,21 @@ module _ {c q : Bytes} {cells parts : List ℕ} {w g n m k : ℕ} {area nodes : 
   limit-clause : {z : Clause} → z ≡ clause_at parts limit_kind → h.select.limit ≡ clause_of c q cells z
   limit-clause hz = h.read.limit ∙ clause-read c q cells parts limit_kind h.read.table hz
 
-  module _ {z : Clause} (hz : z ≡ clause_at parts limit_kind) {nodes' : List ℕ} {r : Step}
-      (t : Steps (λ d. d) (λ d. build_rows invalid_limit (λ i t. P.limit t i) d (clause_of c q cells z)) n m k area nodes area nodes' r) where
-    limit-step : Steps (λ d. d) (λ d. build_rows invalid_limit (λ i t. P.limit t i) d h.select.limit) n m k area nodes area nodes' r
-    limit-step = rw (limit-clause hz) t
+  abbrev LimitSteps : Clause → List ℕ → Result Step Refusal → Type 0
+  LimitSteps z nodes' r = Steps (λ d. d) (λ d. build_rows invalid_limit (λ i t. P.limit t i) d (clause_of c q cells z)) n m k area nodes area nodes' r
 
-    pub limit-stop : (x l : ℕ) → r ≡ S.Refused x l → Plans (select_limit h.select h.stage h.node) area area (W.Refused x l)
-    limit-stop x l e = plans-refused
-        (refuses-on (step-stop h.held limit-step x l e) (stages.limit-refused h.select h.stage h.node)) refl
+  limit-step : {z : Clause} → z ≡ clause_at parts limit_kind → {nodes' : List ℕ} (r : Result Step Refusal) → LimitSteps z nodes' r
+      → Steps (λ d. d) (λ d. build_rows invalid_limit (λ i t. P.limit t i) d h.select.limit) n m k area nodes area nodes' r
+  limit-step hz r t = rw (limit-clause hz) t
 
-    pub limit-on : (n' m' k' : ℕ) → r ≡ S.Done n' m' k' → LimitState w g n' m' k' area nodes'
-    limit-on n' m' k' e =
-        let o = step-on h.held limit-step n' m' k' e in
+  module _ {z : Clause} (hz : z ≡ clause_at parts limit_kind) {nodes' : List ℕ} where
+    pub limit-stop : {x : Refusal} → LimitSteps z nodes' (Err x) → Plans (select_limit h.select h.stage h.node) area area (Err x)
+    limit-stop {x} t = plans-refused
+        (refused-on (step-stop h.held (limit-step hz (Err x) t) x refl) (stages.limit-refused h.select h.stage h.node)) refl
+
+    pub limit-on : {p : Step} → LimitSteps z nodes' (Ok p) → LimitState w g p.cell p.node p.used area nodes'
+    limit-on {p} t =
+        let o = step-on h.held (limit-step hz (Ok p) t) p refl in
         record {
           texts = (c, q);
           cells = cells;
@@ -175,12 +171,12 @@ module _ {c q : Bytes} {cells parts : List ℕ} {w g n m k : ℕ} {area nodes : 
           held = o.held;
         }
 
-    pub limit-plans : (n' m' k' : ℕ) (e : r ≡ S.Done n' m' k') {area' : List ℕ} {x : Written}
-        → Plans (select_remap (limit-on n' m' k' e).select (limit-on n' m' k' e).stage (limit-on n' m' k' e).node) area area' x
+    pub limit-plans : {p : Step} (t : LimitSteps z nodes' (Ok p)) {area' : List ℕ} {x : Written}
+        → Plans (select_remap (limit-on t).select (limit-on t).stage (limit-on t).node) area area' x
         → Plans (select_limit h.select h.stage h.node) area area' x
     unfolding limit-on
-    limit-plans n' m' k' e p = plans-after refl
-        (stages.limit-step h.select h.stage h.node (limit-on n' m' k' e).node (limit-on n' m' k' e).is) p
+    limit-plans t p = plans-after refl
+        (stages.limit-step h.select h.stage h.node (limit-on t).node (limit-on t).is) p
 
 -- OFFSET
 module _ {c q : Bytes} {cells parts : List ℕ} {w g n m k : ℕ} {area nodes : List ℕ}
@@ -192,19 +188,21 @@ module _ {c q : Bytes} {cells parts : List ℕ} {w g n m k : ℕ} {area nodes : 
   offset-clause : {z : Clause} → z ≡ clause_at parts offset_kind → h.select.offset ≡ clause_of c q cells z
   offset-clause hz = h.read.offset ∙ clause-read c q cells parts offset_kind h.read.table hz
 
-  module _ {z : Clause} (hz : z ≡ clause_at parts offset_kind) {nodes' : List ℕ} {r : Step}
-      (t : Steps (λ d. d) (λ d. build_rows invalid_offset (λ i t. P.offset t i) d (clause_of c q cells z)) n m k area nodes area nodes' r) where
-    offset_step : Steps (λ d. d) (λ d. build_rows invalid_offset (λ i t. P.offset t i) d h.select.offset) n m k area nodes area nodes' r
-    offset_step = rw (offset-clause hz) t
+  abbrev OffsetSteps : Clause → List ℕ → Result Step Refusal → Type 0
+  OffsetSteps z nodes' r = Steps (λ d. d) (λ d. build_rows invalid_offset (λ i t. P.offset t i) d (clause_of c q cells z)) n m k area nodes area nodes' r
 
-    pub offset-stop : (x l : ℕ) → r ≡ S.Refused x l
-        → Plans (select_offset h.select h.stage h.node) area area (W.Refused x l)
-    offset-stop x l e = plans-refused
-        (refuses-on (step-stop h.held offset_step x l e) (stages.offset-refused h.select h.stage h.node)) refl
+  offset_step : {z : Clause} → z ≡ clause_at parts offset_kind → {nodes' : List ℕ} (r : Result Step Refusal) → OffsetSteps z nodes' r
+      → Steps (λ d. d) (λ d. build_rows invalid_offset (λ i t. P.offset t i) d h.select.offset) n m k area nodes area nodes' r
+  offset_step hz r t = rw (offset-clause hz) t
 
-    pub offset-on : (n' m' k' : ℕ) → r ≡ S.Done n' m' k' → OffsetState c q cells parts w g n' m' k' area nodes'
-    offset-on n' m' k' e =
-        let o = step-on h.held offset_step n' m' k' e in
+  module _ {z : Clause} (hz : z ≡ clause_at parts offset_kind) {nodes' : List ℕ} where
+    pub offset-stop : {x : Refusal} → OffsetSteps z nodes' (Err x) → Plans (select_offset h.select h.stage h.node) area area (Err x)
+    offset-stop {x} t = plans-refused
+        (refused-on (step-stop h.held (offset_step hz (Err x) t) x refl) (stages.offset-refused h.select h.stage h.node)) refl
+
+    pub offset-on : {p : Step} → OffsetSteps z nodes' (Ok p) → OffsetState c q cells parts w g p.cell p.node p.used area nodes'
+    offset-on {p} t =
+        let o = step-on h.held (offset_step hz (Ok p) t) p refl in
         record {
           catalog = h.catalog;
           select = h.select;
@@ -221,9 +219,9 @@ module _ {c q : Bytes} {cells parts : List ℕ} {w g n m k : ℕ} {area nodes : 
           held = o.held;
         }
 
-    pub offset-plans : (n' m' k' : ℕ) (e : r ≡ S.Done n' m' k') {area' : List ℕ} {x : Written}
-        → Plans (select_limit (offset-on n' m' k' e).select (offset-on n' m' k' e).stage (offset-on n' m' k' e).node) area area' x
+    pub offset-plans : {p : Step} (t : OffsetSteps z nodes' (Ok p)) {area' : List ℕ} {x : Written}
+        → Plans (select_limit (offset-on t).select (offset-on t).stage (offset-on t).node) area area' x
         → Plans (select_offset h.select h.stage h.node) area area' x
     unfolding offset-on
-    offset-plans n' m' k' e p = plans-after refl
-        (stages.offset_step h.select h.stage h.node (offset-on n' m' k' e).node (offset-on n' m' k' e).is) p
+    offset-plans t p = plans-after refl
+        (stages.offset_step h.select h.stage h.node (offset-on t).node (offset-on t).is) p

@@ -1,5 +1,5 @@
 -- Groups and the projection of a SELECT, behind WHERE.
-use Rattle.std.specs.Prelude.{ℕ, zero, suc, ◌+◌, ◌*◌, ◌≤◌, ◌≡◌, Bool, true, false, ◌⊎◌, length}
+use Rattle.std.specs.Prelude.{ℕ, zero, suc, ◌+◌, ◌*◌, ◌≤◌, ◌≡◌, Bool, true, false, ◌⊎◌, length, Result, IfOk, Ok, Err}
 use Rattle.std.proofs.Common.{arith, ◌∙◌, inl, inr}
 use Rattle.std.proofs.Math.Path.{refl, sym, ap}
 use Rattle.std.proofs.lemmas.Bool.{false≢true}
@@ -29,10 +29,10 @@ use Rattle.statement.specs.Layout.{select_of}
 use Rattle.statement.specs.Access.{select_at}
 use Rattle.plan.specs.Layout.{aggregate_head, function_size, source_head, item_size}
 use Rattle.plan.specs.Cells.{Room}
-use Rattle.plan.specs.Steps.{refuses-on, Steps, step-done, step-refused}
-use Rattle.plan.specs.declared.cells.Written.{Written}
-use Rattle.plan.specs.declared.cells.Written.TheVariants as W
-use Rattle.plan.specs.declared.steps.Step.TheVariants as S
+use Rattle.numbers.specs.declared.refusals.Refusal.{Refusal}
+use Rattle.plan.specs.Emits.{Written}
+use Rattle.plan.specs.Steps.{refused-on, Steps, step-done, step-refused}
+use Rattle.plan.specs.declared.steps.Step.{Step}
 use Rattle.stage.specs.Stages.{StageBuilt}
 use Rattle.stage.specs.declared.Stage as code
 use Rattle.build_groups.specs.Rows.{groups_at, functions_at, select-groups, select-functions}
@@ -50,15 +50,17 @@ use Rattle.build_select.specs.Held.{plans-refused, plans-after}
 use Rattle.build_select.specs.States.{Read, WhereState, ProjectionState}
 
 -- WHAT A STAGE GAVE, as a step
-module _ {c q : Bytes} {cells : List ℕ} {a : Node Built → Answer Stage} {n m k : ℕ} {area nodes area' nodes' : List ℕ}
-    {x : code.Stage} (h : StageBuilt c q cells a n m k area nodes area' nodes' x) where
-  pub stage-done : x.number ≡ 0 → Steps (λ d. stage_of d (scope_of (tree_at c q cells) c q x.scope)) a n m k area nodes
-      area' nodes' (S.Done x.n x.m x.k)
-  stage-done e = step-done h.kept h.kept-nodes (h.accepted e).taken
+abbrev step_of : code.Stage → Step
+step_of x = record { cell = x.cell; node = x.node; used = x.used }
 
-  pub stage-refused : (x.number ≡ 0 → ⊥) → Steps (λ d. stage_of d (scope_of (tree_at c q cells) c q x.scope)) a n m k area
-      nodes area' nodes' (S.Refused x.number x.line)
-  stage-refused e = step-refused h.kept h.kept-nodes (h.refused e)
+module _ {c q : Bytes} {cells : List ℕ} {a : Node Built → Answer Stage} {n m k : ℕ} {area nodes area' nodes' : List ℕ} where
+  pub stage-done : {x : code.Stage} → StageBuilt c q cells a n m k area nodes area' nodes' (Ok x)
+      → Steps (λ d. stage_of d (scope_of (tree_at c q cells) c q x.scope)) a n m k area nodes area' nodes' (Ok (step_of x))
+  stage-done h = step-done h.kept h.kept-nodes h.is.taken
+
+  pub stage-refused : {w : Refusal} → StageBuilt c q cells a n m k area nodes area' nodes' (Err w) → (t : rules.Scope)
+      → Steps (λ d. stage_of d t) a n m k area nodes area' nodes' (Err w)
+  stage-refused h t = step-refused h.kept h.kept-nodes h.is
 
 -- THE SELECT BY ITS ROWS
 module _ {c q : Bytes} {cells parts : List ℕ} {d : Select} (r : Read c q cells parts d) (froms : List ℕ) where
@@ -200,126 +202,134 @@ module _ {c q : Bytes} {cells parts items : List ℕ} {scope : Scope} {n m k : �
     in_use = held-few h.held;
   }
 
-  module _ {area₁ nodes₁ : List ℕ} {x : code.Stage} (b : GroupsBuilt c q cells scope (groups_at c q cells parts)
-      (functions_at c q cells parts) n m k area nodes area₁ nodes₁ x) where
-    s : StageBuilt c q cells (groups_stage c q cells scope groups_here functions_here) n m k area nodes area₁ nodes₁ x
-    s = rw (select-functions c q cells froms parts, select-groups c q cells froms parts) b.stage
+  abbrev Grouped : List ℕ → List ℕ → Result code.Stage Refusal → Type 0
+  Grouped area₁ nodes₁ r = GroupsBuilt c q cells scope (groups_at c q cells parts) (functions_at c q cells parts) n m k
+      area nodes area₁ nodes₁ r
+
+  built : {area₁ nodes₁ : List ℕ} (r : Result code.Stage Refusal) → Grouped area₁ nodes₁ r
+      → StageBuilt c q cells (groups_stage c q cells scope groups_here functions_here) n m k area nodes area₁ nodes₁ r
+  built r b = rw (select-functions c q cells froms parts, select-groups c q cells froms parts) b.stage
+
+  grouped : {area₁ nodes₁ : List ℕ} (r : Result code.Stage Refusal) → Grouped area₁ nodes₁ r → StageBuilt c q cells
+      (λ d. build_groups (stage_of d h.stage.scope) h.select.group (functions_of items_here (later_of h.select))) n m k
+      area nodes area₁ nodes₁ r
+  grouped r b = rw (h.scoped.is, ← functions-are, ← read-group h.read froms) (built r b)
+
+  pub groups-stop : {area₁ nodes₁ : List ℕ} {w : Refusal} → Grouped area₁ nodes₁ (Err w)
+      → Plans (select_groups h.select items_here h.stage) area area₁ (Err w)
+  groups-stop {w = w} b = plans-refused
+      (refused-on (step-stop h.held (stage-refused (grouped (Err w) b) h.stage.scope) w refl)
+      (stages.groups-refused h.select items_here h.stage)) b.stage.kept
+
+  module _ {area₁ nodes₁ : List ℕ} {x : code.Stage} (b : Grouped area₁ nodes₁ (Ok x)) where
+    s : StageBuilt c q cells (groups_stage c q cells scope groups_here functions_here) n m k area nodes area₁ nodes₁ (Ok x)
+    s = built (Ok x) b
 
     same : aggregated groups_here functions_here ≡ false → x.scope ≡ scope
     same = rw (select-functions c q cells froms parts, select-groups c q cells froms parts) b.same
 
-    grouped : StageBuilt c q cells
-        (λ d. build_groups (stage_of d h.stage.scope) h.select.group (functions_of items_here (later_of h.select))) n m k
-        area nodes area₁ nodes₁ x
-    grouped = rw (h.scoped.is, ← functions-are, ← read-group h.read froms) s
+    on : HeldOn h.select (λ d. stage_of d (scope_of (tree_at c q cells) c q x.scope))
+        (build_groups h.stage h.select.group (functions_of items_here (later_of h.select))) x.cell x.node x.used
+        area₁ nodes₁
+    on = step-on h.held (stage-done (grouped (Ok x) b)) (step_of x) refl
 
-    pub groups-stop : (x.number ≡ 0 → ⊥)
-        → Plans (select_groups h.select items_here h.stage) area area₁ (W.Refused x.number x.line)
-    groups-stop e = plans-refused
-        (refuses-on (step-stop h.held (stage-refused grouped e) x.number x.line refl)
-        (stages.groups-refused h.select items_here h.stage)) s.kept
+    abbrev a : Stage
+    a = stage_of on.node (scope_of (tree_at c q cells) c q x.scope)
 
-    module _ (e : x.number ≡ 0) where
-      on : HeldOn h.select (λ d. stage_of d (scope_of (tree_at c q cells) c q x.scope))
-          (build_groups h.stage h.select.group (functions_of items_here (later_of h.select))) x.n x.m x.k
-          area₁ nodes₁
-      on = step-on h.held (stage-done grouped e) x.n x.m x.k refl
+    after : AfterGroups h.catalog h.select items_here a
+    after = record { before = h.stage; past = h.past; is = on.answer }
 
-      abbrev a : Stage
-      a = stage_of on.node (scope_of (tree_at c q cells) c q x.scope)
+    grouped-shown : x.scope.hidden ≡ 0
+    grouped-shown = shown-scope c q cells x.scope (ensured _ _
+        (groups-shown h.stage h.select.group (functions_of items_here (later_of h.select))
+        (ap (λ (t : rules.Scope). t.hidden) h.scoped.is ∙ scope-shown c q cells scope h.plain.shown)) a on.answer)
 
-      after : AfterGroups h.catalog h.select items_here a
-      after = record { before = h.stage; past = h.past; is = on.answer }
+    -- nothing is matched, or something is
+    grouped-matched : Plain x.scope ⊎ (is_empty (scope_of (tree_at c q cells) c q x.scope).aggregates ≡ false)
+    grouped-matched = go (aggregated groups_here functions_here) refl
+      where
+        go : (b : Bool) → aggregated groups_here functions_here ≡ b
+            → Plain x.scope ⊎ (is_empty (scope_of (tree_at c q cells) c q x.scope).aggregates ≡ false)
+        go false y = inl (rw (same y) h.plain)
+        go true y = inr (ensured _ _ (groups-matched h.stage h.select.group (functions_of items_here (later_of h.select))
+            (sym (ap (λ (us : List Expr). aggregated us (functions_of items_here (later_of h.select))) (read-group h.read froms))
+            ∙ sym (ap (aggregated groups_here) functions-are) ∙ y)) a on.answer)
 
-      grouped-shown : x.scope.hidden ≡ 0
-      grouped-shown = shown-scope c q cells x.scope (ensured _ _
-          (groups-shown h.stage h.select.group (functions_of items_here (later_of h.select))
-          (ap (λ (t : rules.Scope). t.hidden) h.scoped.is ∙ scope-shown c q cells scope h.plain.shown)) a on.answer)
+    projection-few : length items ≤ most_columns
+    projection-few = omega (arith, rooms.items-few after, length-map items (item_of c q cells parts))
 
-      -- nothing is matched, or something is
-      grouped-matched : Plain x.scope ⊎ (is_empty (scope_of (tree_at c q cells) c q x.scope).aggregates ≡ false)
-      grouped-matched = go (aggregated groups_here functions_here) refl
-        where
-          go : (b : Bool) → aggregated groups_here functions_here ≡ b
-              → Plain x.scope ⊎ (is_empty (scope_of (tree_at c q cells) c q x.scope).aggregates ≡ false)
-          go false y = inl (rw (same y) h.plain)
-          go true y = inr (ensured _ _ (groups-matched h.stage h.select.group (functions_of items_here (later_of h.select))
-              (sym (ap (λ (us : List Expr). aggregated us (functions_of items_here (later_of h.select))) (read-group h.read froms))
-              ∙ sym (ap (aggregated groups_here) functions-are) ∙ y)) a on.answer)
+    projection-room : Room x.cell (3 * items_size items_here + most_columns) area₁
+    projection-room = rw (held-cells on.held)
+        at (rooms.items-room after {area = area₁} on.held.free.area_room)
 
-      projection-few : length items ≤ most_columns
-      projection-few = omega (arith, rooms.items-few after, length-map items (item_of c q cells parts))
+    projection-numbers : x.used + source_head + item_size * most_columns ≤ length nodes₁
+    projection-numbers = omega (
+      arith,
+      rooms.items-numbers after on.held.free.fits,
+      held-numbers on.held,
+      on.held.free.later,
+    )
 
-      projection-room : Room x.n (3 * items_size items_here + most_columns) area₁
-      projection-room = rw (held-cells on.held)
-          at (rooms.items-room after {area = area₁} on.held.free.area_room)
+    pub projection-ready : ProjectionReady c q cells parts items x.scope x.cell x.node x.used area₁ nodes₁
+    unfolding pushes.items_size items_size
+    projection-ready = record {
+      items-ready = record {
+        valid = s.is.valid;
+        shown = grouped-shown;
+        matched = grouped-matched;
+        few = projection-few;
+        table = h.read.table;
+        aliases = aliases-fit c q h.select h.past.from.node items_here h.within.short h.within.parts
+            h.past.items;
+      };
+      later = λ gs. omega (arith, ap (total size) (read-later h.read gs), rooms.later-few after);
+      room = rw (total-map (λ (i : Item). size i.expr) (item_of c q cells parts) items) at projection-room;
+      space = projection-numbers;
+      most = on.held.free.most;
+      some-node = held-some on.held;
+      few-nodes = held-few on.held;
+    }
 
-      projection-numbers : x.k + source_head + item_size * most_columns ≤ length nodes₁
-      projection-numbers = omega (
-        arith,
-        rooms.items-numbers after on.held.free.fits,
-        held-numbers on.held,
-        on.held.free.later,
-      )
+    -- THE PROJECTION
+    abbrev Projected : List ℕ → List ℕ → Result code.Stage Refusal → Type 0
+    Projected area₂ nodes₂ r = StageBuilt c q cells
+        (λ d. build_projection (stage_of d (scope_of (tree_at c q cells) c q x.scope)) items_here
+        (later_of (select_at c q cells froms parts))) x.cell x.node x.used area₁ nodes₁ area₂ nodes₂ r
 
-      pub projection-ready : ProjectionReady c q cells parts items x.scope x.n x.m x.k area₁ nodes₁
-      unfolding pushes.items_size items_size
-      projection-ready = record {
-        items-ready = record {
-          valid = (s.accepted e).valid;
-          shown = grouped-shown;
-          matched = grouped-matched;
-          few = projection-few;
-          table = h.read.table;
-          aliases = aliases-fit c q h.select h.past.from.node items_here h.within.short h.within.parts
-              h.past.items;
-        };
-        later = λ gs. omega (arith, ap (total size) (read-later h.read gs), rooms.later-few after);
-        room = rw (total-map (λ (i : Item). size i.expr) (item_of c q cells parts) items) at projection-room;
-        space = projection-numbers;
-        most = on.held.free.most;
-        some-node = held-some on.held;
-        few-nodes = held-few on.held;
+    projected : {area₂ nodes₂ : List ℕ} (r : Result code.Stage Refusal) → Projected area₂ nodes₂ r → StageBuilt c q cells
+        (λ d. build_projection (stage_of d (scope_of (tree_at c q cells) c q x.scope)) items_here (later_of h.select))
+        x.cell x.node x.used area₁ nodes₁ area₂ nodes₂ r
+    projected r t = rw (← read-later h.read froms) t
+
+    groups-on : select_groups h.select items_here h.stage ≡ select_projection h.select items_here a
+    groups-on = stages.groups-step h.select items_here h.stage a on.answer
+
+    pub projection-stop : {area₂ nodes₂ : List ℕ} {w : Refusal} → Projected area₂ nodes₂ (Err w)
+        → Plans (select_groups h.select items_here h.stage) area area₂ (Err w)
+    projection-stop {w = w} t = plans-after {area' = area₁} s.kept groups-on (plans-refused
+        (refused-on (step-stop on.held (stage-refused (projected (Err w) t) h.stage.scope) w refl)
+        (stages.projection-refused h.select items_here a)) t.kept)
+
+    module _ {area₂ nodes₂ : List ℕ} {y : code.Stage} (t : Projected area₂ nodes₂ (Ok y)) where
+      on₂ : HeldOn h.select (λ d. stage_of d (scope_of (tree_at c q cells) c q y.scope))
+          (build_projection a items_here (later_of h.select)) y.cell y.node y.used area₂ nodes₂
+      on₂ = step-on on.held (stage-done (projected (Ok y) t)) (step_of y) refl
+
+      pub projection-state : ProjectionState c q cells parts y.scope y.cell y.node y.used area₂ nodes₂
+      projection-state = record {
+        catalog = h.catalog;
+        select = h.select;
+        stage = stage_of on₂.node (scope_of (tree_at c q cells) c q y.scope);
+        past = record { items = items_here; before = a; past = after; is = on₂.answer };
+        read = h.read;
+        scoped = record { valid = t.is.valid; hidden = t.is.hidden; is = refl };
+        held = on₂.held;
       }
 
-      -- THE PROJECTION
-      module _ {area₂ nodes₂ : List ℕ} {y : code.Stage} (t : StageBuilt c q cells
-          (λ d. build_projection (stage_of d (scope_of (tree_at c q cells) c q x.scope)) items_here
-          (later_of (select_at c q cells froms parts))) x.n x.m x.k area₁ nodes₁ area₂ nodes₂ y) where
-        projected : StageBuilt c q cells
-            (λ d. build_projection (stage_of d (scope_of (tree_at c q cells) c q x.scope)) items_here (later_of h.select))
-            x.n x.m x.k area₁ nodes₁ area₂ nodes₂ y
-        projected = rw (← read-later h.read froms) t
-
-        groups-on : select_groups h.select items_here h.stage ≡ select_projection h.select items_here a
-        groups-on = stages.groups-step h.select items_here h.stage a on.answer
-
-        pub projection-stop : (y.number ≡ 0 → ⊥)
-            → Plans (select_groups h.select items_here h.stage) area area₂ (W.Refused y.number y.line)
-        projection-stop f = plans-after {area' = area₁} s.kept groups-on (plans-refused
-            (refuses-on (step-stop on.held (stage-refused projected f) y.number y.line refl)
-            (stages.projection-refused h.select items_here a)) t.kept)
-
-        module _ (f : y.number ≡ 0) where
-          on₂ : HeldOn h.select (λ d. stage_of d (scope_of (tree_at c q cells) c q y.scope))
-              (build_projection a items_here (later_of h.select)) y.n y.m y.k area₂ nodes₂
-          on₂ = step-on on.held (stage-done projected f) y.n y.m y.k refl
-
-          pub projection-state : ProjectionState c q cells parts y.scope y.n y.m y.k area₂ nodes₂
-          projection-state = record {
-            catalog = h.catalog;
-            select = h.select;
-            stage = stage_of on₂.node (scope_of (tree_at c q cells) c q y.scope);
-            past = record { items = items_here; before = a; past = after; is = on₂.answer };
-            read = h.read;
-            scoped = record { valid = (t.accepted f).valid; hidden = (t.accepted f).hidden; is = refl };
-            held = on₂.held;
-          }
-
-          pub projection-plans : {area₃ : List ℕ} {r : Written}
-              → Plans (select_having projection-state.select projection-state.stage) area₂ area₃ r
-              → Plans (select_groups h.select items_here h.stage) area area₃ r
-          unfolding projection-state
-          projection-plans p = plans-after {area' = area₂} (t.kept ∙ s.kept)
-              (groups-on ∙ stages.projection-step h.select items_here a
-              (stage_of on₂.node (scope_of (tree_at c q cells) c q y.scope)) on₂.answer) p
+      pub projection-plans : {area₃ : List ℕ} {r : Written}
+          → Plans (select_having projection-state.select projection-state.stage) area₂ area₃ r
+          → Plans (select_groups h.select items_here h.stage) area area₃ r
+      unfolding projection-state
+      projection-plans p = plans-after {area' = area₂} (t.kept ∙ s.kept)
+          (groups-on ∙ stages.projection-step h.select items_here a
+          (stage_of on₂.node (scope_of (tree_at c q cells) c q y.scope)) on₂.answer) p

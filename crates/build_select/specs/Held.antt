@@ -1,5 +1,5 @@
 -- What stands of a plan that is being built: the node with all its cells and records, from the header on.
-use Rattle.std.specs.Prelude.{ℕ, ◌+◌, ◌≤◌, ◌<◌, ◌≡◌, List, length}
+use Rattle.std.specs.Prelude.{ℕ, ◌+◌, ◌≤◌, ◌<◌, ◌≡◌, List, length, Ok, Err}
 use Rattle.std.proofs.Common.{arith, sym, ap, ◌∙◌}
 use Rattle.rules.specs.Refusals.{Answer, ok, refused}
 use Rattle.rules.specs.Limits.{least_area}
@@ -13,11 +13,10 @@ use Rattle.claims.specs.Room.Nodes.{most_later_numbers, node_room}
 use Rattle.claims.specs.Room.From.{FromFits}
 use Rattle.plan.specs.Layout.{nodes_size}
 use Rattle.plan.specs.Room.{laid-in-use}
-use Rattle.plan.specs.Steps.{Refuses, Steps, Standing, standing_on, standing-refused}
-use Rattle.plan.specs.declared.cells.Written.{Written}
-use Rattle.plan.specs.declared.cells.Written.TheVariants as W
+use Rattle.numbers.specs.declared.refusals.Refusal.{Refusal}
+use Rattle.plan.specs.Emits.{Written}
+use Rattle.plan.specs.Steps.{RefusedWith, Stepped, Steps, Standing, standing_on, standing-refused}
 use Rattle.plan.specs.declared.steps.Step.{Step}
-use Rattle.plan.specs.declared.steps.Step.TheVariants as S
 use Rattle.build_clauses.specs.Follows.{Follows}
 use Rattle.build_statement.specs.Plans.{planned_of, Plans}
 
@@ -109,11 +108,11 @@ pub record HeldOn {B : Type 0} (q : Select) (view : Node Built → B) (a : Answe
   pub held : Held q node n m k area nodes
 
 module _ {B : Type 0} {view : Node Built → B} {a : Node Built → Answer B} {q : Select} {d : Node Built} {n m k : ℕ}
-    {area nodes area' nodes' : List ℕ} {r : Step} (h : Held q d n m k area nodes)
+    {area nodes area' nodes' : List ℕ} {r : Stepped} (h : Held q d n m k area nodes)
     (s : Steps view a n m k area nodes area' nodes' r) where
-  pub step-on : (n' m' k' : ℕ) → r ≡ S.Done n' m' k' → HeldOn q view (a d) n' m' k' area' nodes'
-  step-on n' m' k' e =
-      let w = standing_on n' m' k' h.standing s e in
+  pub step-on : (p : Step) → r ≡ Ok p → HeldOn q view (a d) p.cell p.node p.used area' nodes'
+  step-on p e =
+      let w = standing_on p h.standing s e in
       record {
         node = w.node;
         answer = w.answer;
@@ -125,15 +124,15 @@ module _ {B : Type 0} {view : Node Built → B} {a : Node Built → Answer B} {q
         };
       }
 
-  pub step-stop : (x l : ℕ) → r ≡ S.Refused x l → Refuses (a d) x l
-  step-stop x l e = standing-refused x l h.standing s e
+  pub step-stop : (w : Refusal) → r ≡ Err w → RefusedWith (a d) w
+  step-stop w e = standing-refused w h.standing s e
 
 -- THE ANSWER
-pub plans-refused : {a : Answer (Plan Built)} {x l : ℕ} {area area' : List ℕ} → Refuses a x l
-    → length area' ≡ length area → Plans a area area' (W.Refused x l)
+pub plans-refused : {a : Answer (Plan Built)} {w : Refusal} {area area' : List ℕ} → RefusedWith a w
+    → length area' ≡ length area → Plans a area area' (Err w)
 unfolding planned_of
 plans-refused h e = record {
-  answer = (λ i. W.Refused (h.number i) (h.line i)) ∙ sym (ap planned_of h.is);
+  answer = rw (h.noted', h.is);
   kept = e;
   exit = λ p g. absurd (let f : ok p ≡ refused h.why = sym g ∙ h.is in let z : ◌≡◌ {A = ℕ} 0 1 = cc in omega arith);
 }

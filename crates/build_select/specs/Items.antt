@@ -1,5 +1,5 @@
 -- The items of a SELECT over FROM's scope, stars expanded into rows behind the statement's, and WHERE.
-use Rattle.std.specs.Prelude.{ℕ, ◌*◌, ◌≡◌, List, map, length, take}
+use Rattle.std.specs.Prelude.{ℕ, ◌*◌, ◌≡◌, List, map, length, take, Result, Ok, Err}
 use Rattle.std.proofs.Common.{arith, sym, ap, ◌∙◌}
 use Rattle.std.proofs.Math.Path.{refl}
 use Rattle.rules.specs.Refusals.{Answer, ok, refused}
@@ -23,18 +23,15 @@ use Rattle.statement.specs.EntryAccess.{clause_at, clause_of, map-length}
 use Rattle.statement.specs.declared.access.Clause.{Clause}
 use Rattle.plan.specs.Layout.{filter_size}
 use Rattle.plan.specs.Cells.{Room}
-use Rattle.plan.specs.Steps.{Refuses, refuses-on, Steps}
-use Rattle.plan.specs.declared.cells.Written.{Written}
-use Rattle.plan.specs.declared.cells.Written.TheVariants as W
+use Rattle.numbers.specs.declared.refusals.Refusal.{Refusal}
+use Rattle.plan.specs.Emits.{Written}
+use Rattle.plan.specs.Steps.{RefusedWith, refused-on, Steps}
 use Rattle.plan.specs.declared.steps.Step.{Step}
-use Rattle.plan.specs.declared.steps.Step.TheVariants as S
 use Rattle.build_expression.specs.Builds.{scope_at}
 use Rattle.build_clauses.specs.Follows.{Follows}
 use Rattle.build_statement.specs.Plans.{Plans}
 use Rattle.build_projection.specs.Items.{items_at, item_of}
 use Rattle.build_projection.specs.Terms.{Ready, Answers, ItemsBuilt, outcome_of}
-use Rattle.build_projection.specs.declared.items.Outcome.{Outcome}
-use Rattle.build_projection.specs.declared.items.Outcome.TheVariants as O
 use Rattle.build_select.specs.Rooms as rooms
 use Rattle.build_select.specs.Held.{HeldOn, held-cells, held-numbers, held-follows, step-on, step-stop}
 use Rattle.build_select.specs.Held.{plans-refused, plans-after}
@@ -42,7 +39,7 @@ use Rattle.build_select.specs.States.{clause-read, read_kept, FromState, ItemsSt
 
 -- THE ITEMS
 -- over the same numbers
-pub built-as : {cells cells' parts ts ts' ls ls' items' : List ℕ} {r : Outcome} → ts ≡ ts' → ls ≡ ls'
+pub built-as : {cells cells' parts ts ts' ls ls' items' : List ℕ} {r : Result ℕ Refusal} → ts ≡ ts' → ls ≡ ls'
     → ItemsBuilt cells cells' parts ts ls items' r → ItemsBuilt cells cells' parts ts' ls' items' r
 built-as e f b = rw (← e, ← f) b
 
@@ -52,19 +49,18 @@ pub record Listed (a : Answer (List Item)) (n : ℕ) : Type 0 where
   pub is : a ≡ ok items
   pub count : n ≡ length items
 
-listed : (a : Answer (List Item)) (n : ℕ) → O.Done n ≡ outcome_of a → Listed a n
+listed : (a : Answer (List Item)) (n : ℕ) → ◌≡◌ {A = Result ℕ Refusal} (Ok n) (outcome_of a) → Listed a n
 unfolding outcome_of
 listed (ok xs) n e = record { items = xs; is = refl; count = cc }
 listed (refused w) n e = absurd (let z : ◌≡◌ {A = ℕ} 0 1 = cc in omega arith)
 
-not_listed : (a : Answer (List Item)) (x l : ℕ) → O.Refused x l ≡ outcome_of a → Refuses a x l
+not_listed : (a : Answer (List Item)) (x : Refusal) → ◌≡◌ {A = Result ℕ Refusal} (Err x) (outcome_of a) → RefusedWith a x
 unfolding outcome_of
-not_listed (ok xs) x l e = absurd (let z : ◌≡◌ {A = ℕ} 0 1 = cc in omega arith)
-not_listed (refused w) x l e = record { why = w; is = refl; number = cc; line = cc }
+not_listed (ok xs) x e = absurd (let z : ◌≡◌ {A = ℕ} 0 1 = cc in omega arith)
+not_listed (refused w) x e = record { why = w; is = refl; noted' = cc }
 
 module _ {c q : Bytes} {cells parts : List ℕ} {scope : Scope} {n m k : ℕ} {area nodes : List ℕ}
-    (h : FromState c q cells parts scope n m k area nodes) {cells' items' : List ℕ} {r : Outcome}
-    (b : ItemsBuilt cells cells' parts (table_numbers scope) (labels_of scope) items' r) where
+    (h : FromState c q cells parts scope n m k area nodes) where
   abbrev d : Select
   d = select_at c q cells h.froms parts
 
@@ -76,24 +72,30 @@ module _ {c q : Bytes} {cells parts : List ℕ} {scope : Scope} {n m k : ℕ} {a
     qualified = h.qualified;
   }
 
-  answers : Answers c q cells cells' parts items' (build_items d h.stage.node) r
+  answers : {cells' items' : List ℕ} {r : Result ℕ Refusal}
+      → ItemsBuilt cells cells' parts (table_numbers scope) (labels_of scope) items' r
+      → Answers c q cells cells' parts items' (build_items d h.stage.node) r
   unfolding select_at select_of items_at
-  answers = b.is c q ready d h.stage.node refl refl h.labels
+  answers b = b.is c q ready d h.stage.node refl refl h.labels
 
-  pub items-stop : (x l : ℕ) → r ≡ O.Refused x l → Plans (select_items d h.stage) area area (W.Refused x l)
-  items-stop x l e = plans-refused
-      (refuses-on (not_listed _ x l (sym e ∙ answers.answer)) (stages.items_refused d h.stage)) refl
+  pub items-stop : {cells' items' : List ℕ} {x : Refusal}
+      → ItemsBuilt cells cells' parts (table_numbers scope) (labels_of scope) items' (Err x)
+      → Plans (select_items d h.stage) area area (Err x)
+  items-stop {x = x} b = plans-refused
+      (refused-on (not_listed _ x (answers b).answer) (stages.items_refused d h.stage)) refl
 
-  module _ {w : ℕ} (e : r ≡ O.Done w) where
+  module _ {cells' items' : List ℕ} {w : ℕ}
+      (b : ItemsBuilt cells cells' parts (table_numbers scope) (labels_of scope) items' (Ok w)) where
+    -- what was listed
     those : Listed (build_items d h.stage.node) w
-    those = listed _ w (sym e ∙ answers.answer)
+    those = listed _ w (answers b).answer
 
     abbrev items_here : List Item
     items_here = map (item_of c q cells' parts) (take w items')
 
     items-are : items_here ≡ those.items
     items-are = ap (λ (j : ℕ). map (item_of c q cells' parts) (take j items')) those.count
-        ∙ answers.items those.items those.is
+        ∙ (answers b).items those.items those.is
 
     listed-is : build_items d h.stage.node ≡ ok items_here
     listed-is = those.is ∙ ap ok (sym items-are)
@@ -105,7 +107,7 @@ module _ {c q : Bytes} {cells parts : List ℕ} {scope : Scope} {n m k : ℕ} {a
       stage = h.stage;
       past = h.past;
       is = listed-is;
-      read = read_kept h.froms h.stay (answers.kept those.items those.is) l;
+      read = read_kept h.froms h.stay ((answers b).kept those.items those.is) l;
       scoped = record {
         valid = h.scoped.valid;
         hidden = h.scoped.hidden;
@@ -143,50 +145,53 @@ module _ {c q : Bytes} {cells parts items : List ℕ} {scope : Scope} {n m k : �
   where-follows = held-follows h.held
       (omega (arith, held-numbers h.held, rooms.where-numbers h.past h.held.free.fits, h.held.free.later))
 
-  module _ {area₁ nodes₁ : List ℕ} {r : Step} (s : Steps (λ d. stage_of d lent)
-      (λ d. build_where (stage_of d lent) (clause_of c q cells w)) n m k area nodes area₁ nodes₁ r) where
-    step : Steps (λ d. stage_of d h.stage.scope) (λ d. build_where (stage_of d h.stage.scope) h.select.filter) n m k
-        area nodes area₁ nodes₁ r
-    step = rw (filter-is, scope-is) s
+  abbrev WhereSteps : List ℕ → List ℕ → Result Step Refusal → Type 0
+  WhereSteps area₁ nodes₁ r = Steps (λ d. stage_of d lent) (λ d. build_where (stage_of d lent) (clause_of c q cells w)) n m k
+      area nodes area₁ nodes₁ r
 
-    abbrev listed_items : List Item
-    listed_items = map (item_of c q cells parts) items
+  step : {area₁ nodes₁ : List ℕ} (r : Result Step Refusal) → WhereSteps area₁ nodes₁ r
+      → Steps (λ d. stage_of d h.stage.scope) (λ d. build_where (stage_of d h.stage.scope) h.select.filter) n m k
+      area nodes area₁ nodes₁ r
+  step r s = rw (filter-is, scope-is) s
 
-    pub where-stop : (x l : ℕ) → r ≡ S.Refused x l
-        → Plans (select_where h.select h.stage listed_items) area area₁ (W.Refused x l)
-    where-stop x l e = plans-refused (refuses-on (step-stop h.held step x l e)
-        (stages.where-refused h.select h.stage listed_items)) s.kept
+  abbrev listed_items : List Item
+  listed_items = map (item_of c q cells parts) items
 
-    module _ {n₁ m₁ k₁ : ℕ} (e : r ≡ S.Done n₁ m₁ k₁) where
-      on : HeldOn h.select (λ d. stage_of d h.stage.scope) (build_where h.stage h.select.filter) n₁ m₁ k₁ area₁ nodes₁
-      on = step-on h.held step n₁ m₁ k₁ e
+  pub where-stop : {area₁ nodes₁ : List ℕ} {x : Refusal} → WhereSteps area₁ nodes₁ (Err x)
+      → Plans (select_where h.select h.stage listed_items) area area₁ (Err x)
+  where-stop {x = x} s = plans-refused (refused-on (step-stop h.held (step (Err x) s) x refl)
+      (stages.where-refused h.select h.stage listed_items)) s.kept
 
-      pub where-state : WhereState c q cells parts items scope n₁ m₁ k₁ area₁ nodes₁
-      where-state = record {
-        catalog = h.catalog;
-        select = h.select;
-        stage = stage_of on.node h.stage.scope;
-        past = record { from = h.stage; past = h.past; items = h.is; is = on.answer };
-        read = h.read;
-        scoped = h.scoped;
-        plain = h.plain;
-        within = h.within;
-        held = on.held;
-      }
+  module _ {area₁ nodes₁ : List ℕ} {p : Step} (s : WhereSteps area₁ nodes₁ (Ok p)) where
+    on : HeldOn h.select (λ d. stage_of d h.stage.scope) (build_where h.stage h.select.filter) p.cell p.node p.used area₁ nodes₁
+    on = step-on h.held (step (Ok p) s) p refl
 
-      pub where-plans : {area₂ : List ℕ} {x : Written}
-          → Plans (select_groups where-state.select listed_items where-state.stage) area₁ area₂ x
-          → Plans (select_where h.select h.stage listed_items) area area₂ x
-      unfolding where-state
-      where-plans p = plans-after {area' = area₁} s.kept
-          (stages.where-step h.select h.stage listed_items (stage_of on.node h.stage.scope) on.answer) p
+    pub where-state : WhereState c q cells parts items scope p.cell p.node p.used area₁ nodes₁
+    where-state = record {
+      catalog = h.catalog;
+      select = h.select;
+      stage = stage_of on.node h.stage.scope;
+      past = record { from = h.stage; past = h.past; items = h.is; is = on.answer };
+      read = h.read;
+      scoped = h.scoped;
+      plain = h.plain;
+      within = h.within;
+      held = on.held;
+    }
 
-      -- by other numbers that are the same
-      pub where-on : {items' : List ℕ} → items' ≡ items → WhereState c q cells parts items' scope n₁ m₁ k₁ area₁ nodes₁
-      where-on z = rw z where-state
+    pub where-plans : {area₂ : List ℕ} {x : Written}
+        → Plans (select_groups where-state.select listed_items where-state.stage) area₁ area₂ x
+        → Plans (select_where h.select h.stage listed_items) area area₂ x
+    unfolding where-state
+    where-plans i = plans-after {area' = area₁} s.kept
+        (stages.where-step h.select h.stage listed_items (stage_of on.node h.stage.scope) on.answer) i
 
-      pub where-goes : {items' area₂ : List ℕ} {x : Written} → items' ≡ items
-          → ((i : WhereState c q cells parts items' scope n₁ m₁ k₁ area₁ nodes₁)
-          → Plans (select_groups i.select (map (item_of c q cells parts) items') i.stage) area₁ area₂ x)
-          → Plans (select_where h.select h.stage listed_items) area area₂ x
-      where-goes z f = where-plans ((rw z at f) where-state)
+    -- by other numbers that are the same
+    pub where-on : {items' : List ℕ} → items' ≡ items → WhereState c q cells parts items' scope p.cell p.node p.used area₁ nodes₁
+    where-on z = rw z where-state
+
+    pub where-goes : {items' area₂ : List ℕ} {x : Written} → items' ≡ items
+        → ((i : WhereState c q cells parts items' scope p.cell p.node p.used area₁ nodes₁)
+        → Plans (select_groups i.select (map (item_of c q cells parts) items') i.stage) area₁ area₂ x)
+        → Plans (select_where h.select h.stage listed_items) area area₂ x
+    where-goes z f = where-plans ((rw z at f) where-state)

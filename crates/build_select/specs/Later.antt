@@ -1,5 +1,5 @@
 -- HAVING and ORDER of a SELECT, over the projected scope.
-use Rattle.std.specs.Prelude.{ℕ, ◌+◌, ◌*◌, ◌≡◌, refl, List, length, take}
+use Rattle.std.specs.Prelude.{ℕ, ◌+◌, ◌*◌, ◌≡◌, refl, List, length, take, Result, Ok, Err}
 use Rattle.std.proofs.Common.{arith, ap, ◌∙◌}
 use Rattle.rules.specs.Lists.{Bytes}
 use Rattle.rules.specs.Sizes.{clause_size, keys_size}
@@ -16,11 +16,10 @@ use Rattle.statement.specs.EntryAccess.{clause_at, clause_of}
 use Rattle.statement.specs.declared.access.Clause.{Clause}
 use Rattle.plan.specs.Layout.{filter_size, source_head, key_size}
 use Rattle.plan.specs.Cells.{Room}
-use Rattle.plan.specs.Steps.{refuses-on, Steps}
-use Rattle.plan.specs.declared.cells.Written.{Written}
-use Rattle.plan.specs.declared.cells.Written.TheVariants as W
+use Rattle.numbers.specs.declared.refusals.Refusal.{Refusal}
+use Rattle.plan.specs.Emits.{Written}
+use Rattle.plan.specs.Steps.{refused-on, Steps}
 use Rattle.plan.specs.declared.steps.Step.{Step}
-use Rattle.plan.specs.declared.steps.Step.TheVariants as S
 use Rattle.build_expression.specs.Builds.{scope_at}
 use Rattle.build_clauses.specs.Follows.{Follows}
 use Rattle.build_statement.specs.Plans.{Plans}
@@ -50,71 +49,78 @@ module _ {c q : Bytes} {cells parts : List ℕ} {scope : Scope} {n m k : ℕ} {a
   having-follows = held-follows h.held
       (omega (arith, held-numbers h.held, rooms.having-numbers h.past h.held.free.fits, h.held.free.later))
 
-  module _ {area₁ nodes₁ : List ℕ} {r : Step}
-      (s : Steps (λ d. d) (λ d. build_having d (clause_of c q cells w) lent) n m k area nodes area₁ nodes₁ r) where
-    step : Steps (λ d. d) (λ d. build_having d h.select.having h.stage.scope) n m k area nodes area₁ nodes₁ r
-    step = rw (having-is, scope-is) s
+  abbrev HavingSteps : List ℕ → List ℕ → Result Step Refusal → Type 0
+  HavingSteps area₁ nodes₁ r =
+      Steps (λ d. d) (λ d. build_having d (clause_of c q cells w) lent) n m k area nodes area₁ nodes₁ r
 
-    pub having-stop : (x l : ℕ) → r ≡ S.Refused x l → Plans (select_having h.select h.stage) area area₁ (W.Refused x l)
-    having-stop x l e = plans-refused
-        (refuses-on (step-stop h.held step x l e) (stages.having-refused h.select h.stage)) s.kept
+  having-step : {area₁ nodes₁ : List ℕ} (r : Result Step Refusal) → HavingSteps area₁ nodes₁ r
+      → Steps (λ d. d) (λ d. build_having d h.select.having h.stage.scope) n m k area nodes area₁ nodes₁ r
+  having-step r s = rw (having-is, scope-is) s
 
-    module _ {n₁ m₁ k₁ : ℕ} (e : r ≡ S.Done n₁ m₁ k₁) where
-      on : HeldOn h.select (λ d. d) (build_having h.stage.node h.select.having h.stage.scope) n₁ m₁ k₁ area₁ nodes₁
-      on = step-on h.held step n₁ m₁ k₁ e
+  pub having-stop : {area₁ nodes₁ : List ℕ} {x : Refusal} → HavingSteps area₁ nodes₁ (Err x)
+      → Plans (select_having h.select h.stage) area area₁ (Err x)
+  having-stop {x = x} s = plans-refused
+      (refused-on (step-stop h.held (having-step (Err x) s) x refl) (stages.having-refused h.select h.stage)) s.kept
 
-      after : AfterHaving h.catalog h.select h.stage on.node
-      after = record { past = h.past; is = on.answer }
+  module _ {area₁ nodes₁ : List ℕ} {p : Step} (s : HavingSteps area₁ nodes₁ (Ok p)) where
+    on : HeldOn h.select (λ d. d) (build_having h.stage.node h.select.having h.stage.scope) p.cell p.node p.used area₁ nodes₁
+    on = step-on h.held (having-step (Ok p) s) p refl
 
-      pub order-room : Room n₁ (3 * keys_size (map_entries to_key (section_at c q cells parts order_kind))) area₁
-      order-room = rw (held-cells on.held, h.read.order) at (rooms.order-room after {area = area₁} on.held.free.area_room)
+    after : AfterHaving h.catalog h.select h.stage on.node
+    after = record { past = h.past; is = on.answer }
 
-      pub order-follows : Follows (source_head + key_size * length (map_entries to_key (section_at c q cells parts order_kind)))
-          m₁ k₁ nodes₁
-      order-follows = held-follows on.held (omega (
-        arith,
-        held-numbers on.held,
-        rooms.order-numbers after on.held.free.fits,
-        ap length h.read.order,
-        on.held.free.later,
-      ))
+    pub order-room : Room p.cell (3 * keys_size (map_entries to_key (section_at c q cells parts order_kind))) area₁
+    order-room = rw (held-cells on.held, h.read.order) at (rooms.order-room after {area = area₁} on.held.free.area_room)
 
-      module _ {area₂ nodes₂ : List ℕ} {y : Step} (t : Steps (λ d. d)
-          (λ d. build_order d (map_entries to_key (section_at c q cells parts order_kind)) lent) n₁ m₁ k₁ area₁ nodes₁ area₂ nodes₂
-          y) where
-        step₂ : Steps (λ d. d) (λ d. build_order d h.select.order h.stage.scope) n₁ m₁ k₁ area₁ nodes₁ area₂ nodes₂ y
-        step₂ = rw (h.read.order, scope-is) t
+    pub order-follows : Follows (source_head + key_size * length (map_entries to_key (section_at c q cells parts order_kind)))
+        p.node p.used nodes₁
+    order-follows = held-follows on.held (omega (
+      arith,
+      held-numbers on.held,
+      rooms.order-numbers after on.held.free.fits,
+      ap length h.read.order,
+      on.held.free.later,
+    ))
 
-        having-on : select_having h.select h.stage ≡ select_order h.select h.stage on.node
-        having-on = stages.having-step h.select h.stage on.node on.answer
+    abbrev OrderSteps : List ℕ → List ℕ → Result Step Refusal → Type 0
+    OrderSteps area₂ nodes₂ r = Steps (λ d. d)
+        (λ d. build_order d (map_entries to_key (section_at c q cells parts order_kind)) lent) p.cell p.node p.used area₁ nodes₁
+        area₂ nodes₂ r
 
-        pub order-stop : (x l : ℕ) → y ≡ S.Refused x l
-            → Plans (select_having h.select h.stage) area area₂ (W.Refused x l)
-        order-stop x l f = plans-after {area' = area₁} s.kept having-on (plans-refused
-            (refuses-on (step-stop on.held step₂ x l f) (stages.order-refused h.select h.stage on.node))
-            t.kept)
+    order-step : {area₂ nodes₂ : List ℕ} (r : Result Step Refusal) → OrderSteps area₂ nodes₂ r
+        → Steps (λ d. d) (λ d. build_order d h.select.order h.stage.scope) p.cell p.node p.used area₁ nodes₁ area₂ nodes₂ r
+    order-step r t = rw (h.read.order, scope-is) t
 
-        module _ {n₂ m₂ k₂ : ℕ} (f : y ≡ S.Done n₂ m₂ k₂) where
-          pub order-state : OrderState c q cells parts scope.width scope.hidden n₂ m₂ k₂ area₂ nodes₂
-          order-state =
-              let o = step-on on.held step₂ n₂ m₂ k₂ f in
-              record {
-                catalog = h.catalog;
-                select = h.select;
-                stage = h.stage;
-                node = o.node;
-                past = record { before = on.node; past = after; is = o.answer };
-                read = h.read;
-                scope = scope;
-                scoped = h.scoped;
-                width = refl;
-                hidden = refl;
-                held = o.held;
-              }
+    having-on : select_having h.select h.stage ≡ select_order h.select h.stage on.node
+    having-on = stages.having-step h.select h.stage on.node on.answer
 
-          pub order-plans : {area₃ : List ℕ} {x : Written}
-              → Plans (select_offset order-state.select order-state.stage order-state.node) area₂ area₃ x
-              → Plans (select_having h.select h.stage) area area₃ x
-          unfolding order-state
-          order-plans p = plans-after {area' = area₂} (t.kept ∙ s.kept)
-              (having-on ∙ stages.order-step h.select h.stage on.node order-state.node order-state.past.is) p
+    pub order-stop : {area₂ nodes₂ : List ℕ} {x : Refusal} → OrderSteps area₂ nodes₂ (Err x)
+        → Plans (select_having h.select h.stage) area area₂ (Err x)
+    order-stop {x = x} t = plans-after {area' = area₁} s.kept having-on (plans-refused
+        (refused-on (step-stop on.held (order-step (Err x) t) x refl) (stages.order-refused h.select h.stage on.node))
+        t.kept)
+
+    module _ {area₂ nodes₂ : List ℕ} {y : Step} (t : OrderSteps area₂ nodes₂ (Ok y)) where
+        pub order-state : OrderState c q cells parts scope.width scope.hidden y.cell y.node y.used area₂ nodes₂
+        order-state =
+            let o = step-on on.held (order-step (Ok y) t) y refl in
+            record {
+              catalog = h.catalog;
+              select = h.select;
+              stage = h.stage;
+              node = o.node;
+              past = record { before = on.node; past = after; is = o.answer };
+              read = h.read;
+              scope = scope;
+              scoped = h.scoped;
+              width = refl;
+              hidden = refl;
+              held = o.held;
+            }
+
+        pub order-plans : {area₃ : List ℕ} {x : Written}
+            → Plans (select_offset order-state.select order-state.stage order-state.node) area₂ area₃ x
+            → Plans (select_having h.select h.stage) area area₃ x
+        unfolding order-state
+        order-plans p = plans-after {area' = area₂} (t.kept ∙ s.kept)
+            (having-on ∙ stages.order-step h.select h.stage on.node order-state.node order-state.past.is) p

@@ -1,5 +1,5 @@
 -- FROM of a SELECT: what is known of a SELECT that was read, and what stands behind its FROM.
-use Rattle.std.specs.Prelude.{ℕ, ◌≡◌, refl, List, length}
+use Rattle.std.specs.Prelude.{ℕ, ◌≡◌, refl, List, length, Result, Ok, Err}
 use Rattle.std.proofs.Common.{arith}
 use Rattle.rules.specs.Lists.{Bytes}
 use Rattle.rules.specs.Ast.{Select}
@@ -17,9 +17,9 @@ use Rattle.from.specs.Layout.{froms_at}
 use Rattle.statement.specs.Layout.{select_of}
 use Rattle.statement.specs.Access.{from_rows, select_at}
 use Rattle.statement.specs.Stays.{SectionsStay}
-use Rattle.plan.specs.Steps.{Refuses, refuses-on}
-use Rattle.plan.specs.declared.cells.Written.{Written}
-use Rattle.plan.specs.declared.cells.Written.TheVariants as W
+use Rattle.numbers.specs.declared.refusals.Refusal.{Refusal}
+use Rattle.plan.specs.Emits.{Written}
+use Rattle.plan.specs.Steps.{RefusedWith, refused-on}
 use Rattle.build_from.specs.Clause.{ClauseRoom, clause-room, ClauseBuilds}
 use Rattle.build_from.specs.declared.Source.{Source}
 use Rattle.build_statement.specs.Plans.{Plans}
@@ -49,41 +49,39 @@ module _ {c q : Bytes} {tables cells froms parts area nodes : List ℕ}
   pub source-room : ClauseRoom c q tables (froms_at c q cells froms rows) area nodes
   source-room = clause-room d h.within from_is h.free.area_room from-fits h.free.most
 
+  pub source-stop : {area₁ nodes₁ : List ℕ} {w : Refusal}
+      → ClauseBuilds c q tables cells (froms_at c q cells froms rows) area nodes area₁ nodes₁ (Err w)
+      → Plans (build_select (catalog_at c q tables) d) area area₁ (Err w)
+  source-stop b = plans-refused (refused-on (rw from_is b.is) (stages.from-refused (catalog_at c q tables) d)) b.kept
+
   module _ {area₁ nodes₁ : List ℕ} {x : Source}
-      (b : ClauseBuilds c q tables cells (froms_at c q cells froms rows) area nodes area₁ nodes₁ x) where
-    pub source-stop : (x.number ≡ 0 → ⊥)
-        → Plans (build_select (catalog_at c q tables) d) area area₁ (W.Refused x.number x.line)
-    source-stop e = plans-refused (refuses-on
-        (let r : Refuses _ x.number x.line = b.refused e in rw from_is r)
-        (stages.from-refused (catalog_at c q tables) d)) b.kept
+      (b : ClauseBuilds c q tables cells (froms_at c q cells froms rows) area nodes area₁ nodes₁ (Ok x)) where
+    pub source-state : FromState c q cells parts x.scope x.cell x.node x.used area₁ nodes₁
+    source-state =
+        let a = b.is in
+        record {
+          catalog = catalog_at c q tables;
+          froms = froms;
+          stage = stage_of a.node (scope_of (tree_at c q cells) c q x.scope);
+          past = record { few = select-few h.within; limited = select-counts h.within; is = rw from_is a.is };
+          scoped = record { valid = a.valid; hidden = omega (arith, a.plain.shown); is = refl };
+          plain = a.plain;
+          labels = a.labelled;
+          qualified = a.qualified;
+          within = record { short = h.within.short_statement; parts = select-parts h.within };
+          table = h.table;
+          stay = h.stay;
+          held = record {
+            area₀ = area;
+            nodes₀ = nodes;
+            standing = a.standing;
+            free = room-kept h.free b.kept b.kept-nodes;
+          };
+        }
 
-    module _ (e : x.number ≡ 0) where
-      pub source-state : FromState c q cells parts x.scope x.n x.m x.k area₁ nodes₁
-      source-state =
-          let a = b.accepted e in
-          record {
-            catalog = catalog_at c q tables;
-            froms = froms;
-            stage = stage_of a.node (scope_of (tree_at c q cells) c q x.scope);
-            past = record { few = select-few h.within; limited = select-counts h.within; is = rw from_is a.is };
-            scoped = record { valid = a.valid; hidden = omega (arith, a.plain.shown); is = refl };
-            plain = a.plain;
-            labels = a.labelled;
-            qualified = a.qualified;
-            within = record { short = h.within.short_statement; parts = select-parts h.within };
-            table = h.table;
-            stay = h.stay;
-            held = record {
-              area₀ = area;
-              nodes₀ = nodes;
-              standing = a.standing;
-              free = room-kept h.free b.kept b.kept-nodes;
-            };
-          }
-
-      pub source-plans : {area₂ : List ℕ} {r : Written}
-          → Plans (select_items (select_at c q cells source-state.froms parts) source-state.stage) area₁ area₂ r
-          → Plans (build_select (catalog_at c q tables) d) area area₂ r
-      unfolding source-state
-      source-plans p = plans-after {area' = area₁} b.kept
-          (stages.from_step (catalog_at c q tables) d _ source-state.past.is) p
+    pub source-plans : {area₂ : List ℕ} {r : Written}
+        → Plans (select_items (select_at c q cells source-state.froms parts) source-state.stage) area₁ area₂ r
+        → Plans (build_select (catalog_at c q tables) d) area area₂ r
+    unfolding source-state
+    source-plans p = plans-after {area' = area₁} b.kept
+        (stages.from_step (catalog_at c q tables) d _ source-state.past.is) p

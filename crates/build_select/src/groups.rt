@@ -8,7 +8,7 @@ ghost use Rattle.build_select.specs.States.{WhereState};
 use super::later::select_later;
 use build_groups::build_groups;
 use build_project::build_projection;
-use plan::cells::Written;
+use numbers::refusals::Refusal;
 use scope::Scope;
 
 // Groups behind WHERE, then the projection, and all that follows.
@@ -24,7 +24,7 @@ pub fn select_groups<'t>(
     nodes: &mut [u32],
     m: u32,
     k: usize,
-) -> Written
+) -> Result<u32, Refusal>
     requires { WhereState catalog.now statement.now cells.now parts.now items.now scope n m k area.old nodes.old }
     ensures { (h : WhereState catalog.now statement.now cells.now parts.now
         items.now scope n m k area.old nodes.old)
@@ -34,10 +34,7 @@ pub fn select_groups<'t>(
 {
     let grouped = build_groups(
         catalog, statement, cells, parts, scope, area, n, nodes, m, k,
-    );
-    if grouped.number != 0 {
-        return Written::Refused(grouped.number, grouped.line);
-    }
+    )?;
     let projected = build_projection(
         catalog,
         statement,
@@ -46,14 +43,11 @@ pub fn select_groups<'t>(
         items,
         grouped.scope,
         area,
-        grouped.n,
+        grouped.cell,
         nodes,
-        grouped.m,
-        grouped.k,
-    );
-    if projected.number != 0 {
-        return Written::Refused(projected.number, projected.line);
-    }
+        grouped.node,
+        grouped.used,
+    )?;
     select_later(
         catalog,
         statement,
@@ -61,9 +55,9 @@ pub fn select_groups<'t>(
         parts,
         projected.scope,
         area,
-        projected.n,
+        projected.cell,
         nodes,
-        projected.m,
-        projected.k,
+        projected.node,
+        projected.used,
     )
 }

@@ -11,9 +11,8 @@ ghost use Rattle.build_select.specs.States.{FromState, ItemsState};
 
 use super::groups::select_groups;
 use build_clauses::filters::build_where;
-use build_projection::items::{Outcome, build_items};
-use plan::cells::Written;
-use plan::steps::Step;
+use build_projection::items::build_items;
+use numbers::refusals::Refusal;
 use scope::lookup::first;
 use scope::{COLUMNS, Scope};
 use sections::entry::WHERE;
@@ -28,7 +27,7 @@ fn list_items<'a>(
     tables: &'a [u32],
     count: u32,
     items: &mut [u32],
-) -> Outcome
+) -> Result<u32, Refusal>
     requires { (length cells.old ≡ table_size) × (length items.old ≡ most_columns) }
     ensures { ItemsBuilt cells.old cells.new parts.now (take count tables.now)
         (take width labels.now) items.new result }
@@ -52,7 +51,7 @@ fn select_where<'t>(
     nodes: &mut [u32],
     m: u32,
     k: usize,
-) -> Written
+) -> Result<u32, Refusal>
     requires { ItemsState catalog.now statement.now cells.now parts.now (take w listed.now) scope n m k area.old
         nodes.old }
     ensures { (h : ItemsState catalog.now statement.now cells.now parts.now
@@ -78,16 +77,21 @@ fn select_where<'t>(
         nodes,
         m,
         k,
-    );
-    match filtered {
-        Step::Refused(x, l) => Written::Refused(x, l),
-        Step::Done(p, i, j) => {
-            let items = first(listed, w as usize);
-            select_groups(
-                catalog, statement, cells, parts, items, scope, area, p, nodes, i, j,
-            )
-        }
-    }
+    )?;
+    let items = first(listed, w as usize);
+    select_groups(
+        catalog,
+        statement,
+        cells,
+        parts,
+        items,
+        scope,
+        area,
+        filtered.cell,
+        nodes,
+        filtered.node,
+        filtered.used,
+    )
 }
 
 // The items behind FROM, stars expanded, and all that follows.
@@ -102,7 +106,7 @@ pub fn select_items<'t>(
     nodes: &mut [u32],
     m: u32,
     k: usize,
-) -> Written
+) -> Result<u32, Refusal>
     requires { FromState catalog.now statement.now cells.old parts.now scope n m k area.old nodes.old }
     ensures { (h : FromState catalog.now statement.now cells.old parts.now
         scope n m k area.old nodes.old)
@@ -119,11 +123,8 @@ pub fn select_items<'t>(
         &scope.tables,
         scope.count,
         &mut items,
-    );
-    match listed {
-        Outcome::Refused(x, l) => Written::Refused(x, l),
-        Outcome::Done(w) => select_where(
-            catalog, statement, cells, parts, &items, w, scope, area, n, nodes, m, k,
-        ),
-    }
+    )?;
+    select_where(
+        catalog, statement, cells, parts, &items, listed, scope, area, n, nodes, m, k,
+    )
 }

@@ -6,8 +6,7 @@ ghost use Rattle.build_select.specs.States.{ProjectionState};
 use super::ends::select_offset;
 use build_clauses::filters::build_having;
 use build_clauses::orders::build_order;
-use plan::cells::Written;
-use plan::steps::Step;
+use numbers::refusals::Refusal;
 use scope::Scope;
 use sections::entry::HAVING;
 use statement::access::clause_at;
@@ -24,7 +23,7 @@ pub fn select_later<'t>(
     nodes: &mut [u32],
     m: u32,
     k: usize,
-) -> Written
+) -> Result<u32, Refusal>
     requires { ProjectionState catalog.now statement.now cells.now parts.now scope n m k area.old nodes.old }
     ensures { (h : ProjectionState catalog.now statement.now cells.now
         parts.now scope n m k area.old nodes.old)
@@ -46,42 +45,34 @@ pub fn select_later<'t>(
         nodes,
         m,
         k,
-    );
-    match having {
-        Step::Refused(x, l) => Written::Refused(x, l),
-        Step::Done(p, i, j) => {
-            let order = build_order(
-                catalog,
-                statement,
-                cells,
-                parts,
-                &scope.labels,
-                &scope.matches,
-                scope.width,
-                &scope.tables,
-                scope.count,
-                area,
-                p,
-                nodes,
-                i,
-                j,
-            );
-            match order {
-                Step::Refused(y, z) => Written::Refused(y, z),
-                Step::Done(p2, i2, j2) => select_offset(
-                    catalog,
-                    statement,
-                    cells,
-                    parts,
-                    scope.width,
-                    scope.hidden,
-                    area,
-                    p2,
-                    nodes,
-                    i2,
-                    j2,
-                ),
-            }
-        }
-    }
+    )?;
+    let order = build_order(
+        catalog,
+        statement,
+        cells,
+        parts,
+        &scope.labels,
+        &scope.matches,
+        scope.width,
+        &scope.tables,
+        scope.count,
+        area,
+        having.cell,
+        nodes,
+        having.node,
+        having.used,
+    )?;
+    select_offset(
+        catalog,
+        statement,
+        cells,
+        parts,
+        scope.width,
+        scope.hidden,
+        area,
+        order.cell,
+        nodes,
+        order.node,
+        order.used,
+    )
 }

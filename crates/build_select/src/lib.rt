@@ -15,7 +15,7 @@ ghost use Rattle.build_select.specs.Sources.{SelectReady};
 
 use build_from::clause::build_from_clause;
 use items::select_items;
-use plan::cells::Written;
+use numbers::refusals::Refusal;
 use statement::access::from_rows;
 
 // Numbers that are enough for the nodes of a SELECT over at most one table.
@@ -31,7 +31,7 @@ pub fn build_select<'t>(
     parts: &[u32],
     area: &mut [u32],
     nodes: &mut [u32],
-) -> Written
+) -> Result<u32, Refusal>
     requires { SelectReady catalog.now statement.now tables.now cells.old froms.now parts.now area.old
         nodes.old }
     ensures { Plans
@@ -40,10 +40,7 @@ pub fn build_select<'t>(
         area.old area.new result }
 {
     let rows = from_rows(parts);
-    let source = build_from_clause(catalog, statement, tables, cells, froms, rows, area, nodes);
-    if source.number != 0 {
-        return Written::Refused(source.number, source.line);
-    }
+    let source = build_from_clause(catalog, statement, tables, cells, froms, rows, area, nodes)?;
     select_items(
         catalog,
         statement,
@@ -51,9 +48,9 @@ pub fn build_select<'t>(
         parts,
         source.scope,
         area,
-        source.n,
+        source.cell,
         nodes,
-        source.m,
-        source.k,
+        source.node,
+        source.used,
     )
 }

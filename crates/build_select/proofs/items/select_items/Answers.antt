@@ -1,13 +1,16 @@
 -- `items::select_items`: the items are refused, or WHERE follows them.
 use mathlib.Core.Path.{◌∙◌}
+use Rattle.std.proofs.lemmas.Result.{err_from_is_err_and}
 use Rattle.build_select.specs.Items.{items-stop, items-state, items-plans}
 use Rattle.build_select.proofs.items.select_items.Goals as goal
 
 pub select_where-requires : goal.select_where-requires
-select_where-requires c = items-state c.requires c.list_items-listed.ensures c.in-Done.is (c.list_items-listed.auto.cells ∙ c.requires.table)
+select_where-requires c = items-state c.requires c.in_ok-listed.ensures (c.list_items.auto.cells ∙ c.requires.table)
 
-pub returns-in-Refused : goal.returns-in-Refused
-returns-in-Refused c = λ h. items-stop h c.list_items-listed.ensures _ _ c.in-Refused.is
+pub returns-in_err-listed : goal.returns-in_err-listed
+returns-in_err-listed c = let p = err_from_is_err_and c.from_residual.result c.from_residual.ensures.1 in rw (p.1, p.2)
+    (λ h. items-stop h c.in_err-listed.ensures)
 
-pub returns-in-Done : goal.returns-in-Done
-returns-in-Done c = λ h. items-plans h c.list_items-listed.ensures c.in-Done.is (c.list_items-listed.auto.cells ∙ h.table) (c.select_where.ensures (items-state h c.list_items-listed.ensures c.in-Done.is (c.list_items-listed.auto.cells ∙ h.table)))
+pub returns : goal.returns
+returns c = λ h. items-plans h c.in_ok-listed.ensures (c.list_items.auto.cells ∙ h.table)
+    (c.select_where.ensures (items-state h c.in_ok-listed.ensures (c.list_items.auto.cells ∙ h.table)))

@@ -1,15 +1,17 @@
 -- `items::select_where`: WHERE is refused, or groups follow it.
+use Rattle.std.proofs.lemmas.Result.{err_from_is_err_and}
 use Rattle.build_select.specs.Items.{where-room, where-follows, where-stop, where-on, where-goes}
 use Rattle.build_select.proofs.items.select_where.Goals as goal
 
-pub build_where-filtered-requires : goal.build_where-filtered-requires
-build_where-filtered-requires c = record { room = where-room c.requires c.clause_at-clause.ensures; follows = where-follows c.requires c.clause_at-clause.ensures }
+pub build_where-requires : goal.build_where-requires
+build_where-requires c = record { room = where-room c.requires c.clause_at-clause.ensures; follows = where-follows c.requires c.clause_at-clause.ensures }
+
+pub returns-in_err-filtered : goal.returns-in_err-filtered
+returns-in_err-filtered c = let p = err_from_is_err_and c.from_residual.result c.from_residual.ensures.1 in rw (p.1, p.2)
+    (λ h. where-stop h c.clause_at-clause.ensures (c.in_err-filtered.ensures.is _))
 
 pub select_groups-requires : goal.select_groups-requires
-select_groups-requires c = where-on c.requires c.clause_at-clause.ensures (c.build_where-filtered.ensures.is _) c.in-Done.is c.first-items.ensures
+select_groups-requires c = where-on c.requires c.clause_at-clause.ensures (c.in_ok-filtered.ensures.is _) c.first-items.ensures
 
-pub returns-in-Refused : goal.returns-in-Refused
-returns-in-Refused c = λ h. where-stop h c.clause_at-clause.ensures (c.build_where-filtered.ensures.is _) _ _ c.in-Refused.is
-
-pub returns-in-Done : goal.returns-in-Done
-returns-in-Done c = λ h. where-goes h c.clause_at-clause.ensures (c.build_where-filtered.ensures.is _) c.in-Done.is c.first-items.ensures c.select_groups.ensures
+pub returns : goal.returns
+returns c = λ h. where-goes h c.clause_at-clause.ensures (c.in_ok-filtered.ensures.is _) c.first-items.ensures c.select_groups.ensures
