@@ -87,7 +87,8 @@ building-refused ts s area₀ {y = y} v x h e m n z =
     let w = b.0 in
     let f : ◌≡◌ {A = Written} (Err v) (Err (noted w)) = sym e ∙ h.answer ∙ ap planned_of b.1 in
     let u : v ≡ noted w = cc in
-    let fx : x ≡ refusal_number w.reason = n ∙ rw (u, reason-named w.reason) in
+    let fx : x ≡ refusal_number w.reason =
+    n ∙ ap (λ (y : code.Refusal). refusal_number (reason_of y.reason)) u ∙ ap refusal_number (reason-named w.reason) in
     let fl : v.line ≡ w.line = ap (λ (y : code.Refusal). y.line) u in
     let g = (statement-refusals ts s).refusal w b.1 in
     refused-answer area₀ w b.1 m h.kept fx (rw g.text) fl z
