@@ -151,10 +151,11 @@ fn call(catalog: &[u8], statement: &[u8], table: &[u32], r: usize) -> Begun
     if is_root(catalog, statement, table, r) {
         return Begun::Operands(Operator::Unary(SQRT));
     }
-    Begun::Whole(Err(Refusal {
+    let refusal = Refusal {
         reason: Reason::UnknownFunction,
         line: row::line(table, r),
-    }))
+    };
+    Begun::Whole(Err(refusal))
 }
 
 // A record that is matched to no column.
