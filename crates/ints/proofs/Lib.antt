@@ -1,5 +1,4 @@
 pub mod Signed
 mod Fitted
-pub mod Capped
-mod SignSize
 mod Operations
+mod Products

@@ -1,125 +1,121 @@
--- What each operation answers, from what its calls ensure.
-use mathlib.Core.Bool.{Bool, true, false, not, beq}
-use mathlib.Core.Path.{◌≡◌, refl, sym, ◌∙◌, ap}
-use Prim.Native.Nat.{ℕ, ◌+◌, ◌-◌, ◌*◌, ◌/◌, ◌%◌, ◌<◌, ◌≤◌}
-use native.Mathlib.Nat.{le_of_lt}
+-- What each operation answers, from what std's checked one ensures.
+use mathlib.Core.Path.{◌≡◌, sym, ◌∙◌, ap}
+use mathlib.Core.Logic.{◌⊎◌, inl, inr}
+use Prim.Native.Nat.{ℕ, zero, suc, ◌%◌, ◌<◌, ◌≤◌, ◌^◌}
+use native.Mathlib.Nat.{pow-le-pow_left}
+use Rattle.std.proofs.Math.Pow.{pow_mono}
 use native.Mathlib.Omega.{arith}
-use lib.IntN.{ℤ, pos, negsuc, neg_ℤ, nat_abs, ◌+ℤ◌, ◌-ℤ◌, ◌*ℤ◌, +ℤ_comm}
-use lib.Signed.{rem_z, mag_rem}
-use borrow.Author.Tests.{eq-eqb, ne_eqb, le-leb, lt-leb}
+use lib.IntN.{ℤ, pos, negsuc, neg_ℤ, nat_abs}
+use lib.Signed.{quot_z, rem_z}
+use borrow.Author.Tests.{eq-eqb, ne_eqb, le-leb, lt-leb, lt-ltb, le-ltb}
 use mir.Syntax.{w64}
-use mir.Val.{SFits}
-use Rattle.rules.specs.Arithmetic.{Worked, fitted, quotient, remainder, bounded, power, raised}
+use mir.Val.{SFits, of_z}
+use Rattle.std.proofs.lemmas.Bool.{cases_lt}
+use Rattle.std.specs.Prelude.{Option, None, Some, Result, SomeIff, Err}
+use Rattle.std.specs.Option.{ok_or}
+use Rattle.std.specs.Int.{CanDivide, int_pow}
+use Rattle.numbers.specs.Reasons.{reason_of}
+use Rattle.numbers.specs.declared.refusals.Reason.TheVariants as Re
+use Rattle.numbers.specs.declared.refusals.Reason.{Reason}
+use Rattle.rules.specs.Arithmetic.{gives, fails, fitted, quotient, remainder, bounded, power, raised}
+use Rattle.rules.specs.Refusals.{integer_overflow}
+use Rattle.rules.specs.Schema.{int}
 use Rattle.ints.specs.Checked.{checked}
-use Rattle.ints.specs.Parts.{negative, signed, capped}
-use Rattle.ints.specs.declared.Checked.TheVariants as Ch
-use Rattle.ints.specs.declared.Checked.{Checked}
-use Rattle.ints.proofs.Capped.{fitted-capped}
-use Rattle.ints.proofs.Fitted.{fits}
-use Rattle.ints.proofs.SignSize.{parts, neg-parts, mul-parts, quot-parts, rem_parts, sum_like, sum-unlike}
-use Rattle.ints.proofs.Signed.{never, stored, read}
+use Rattle.ints.proofs.Fitted.{fits, over, of-option}
+use Rattle.ints.proofs.Signed.{stored, read}
 
--- s, a and t, b are the signs and sizes that the machine reads of x and y
-module _ {w : Worked} (x : ℤ) (j : SFits w64 x) {s : Bool} {a : ℕ} (p : s ≡ negative (stored x)) (q : a ≡ nat_abs (stored x)) where
-  pub neg-law : w ≡ fitted (signed (not s) a) → w ≡ fitted (neg_ℤ x)
-  neg-law e = cc (neg-parts x, read x j)
+-- a divisor, by its bits
+none : (y : ℤ) → SFits w64 y → of_z w64 y ≡ 0 → nat_abs y ≡ 0
+none (pos n) f e = e
+none (negsuc n) f e = omega (arith, f.sfits)
 
-  module _ (y : ℤ) (k : SFits w64 y) {t : Bool} {b : ℕ} (r : t ≡ negative (stored y)) (u : b ≡ nat_abs (stored y)) where
-    pub add-law : w ≡ fitted (signed s a +ℤ signed t b) → w ≡ fitted (x +ℤ y)
-    add-law e = cc (parts x, parts y, read x j, read y k)
+some-size : (y : ℤ) → (of_z w64 y ≡ 0 → ⊥) → nat_abs y ≡ 0 → ⊥
+some-size (pos n) h e = h e
+some-size (negsuc n) h e = no n e
+  where
+    no : (n : ℕ) → suc n ≡ 0 → ⊥
+    no n e = omega arith
 
-    pub sub-law : w ≡ fitted (signed s a +ℤ signed (not t) b) → w ≡ fitted (x -ℤ y)
-    sub-law e = cc (parts x, neg-parts y, read x j, read y k)
+module _ (x y : ℤ) (k : SFits w64 y) (z : of_z w64 y ≡ 0) where
+  pub quotient-none : checked (Err Re.DivisionByZero) ≡ quotient x y
+  unfolding checked reason_of quotient
+  quotient-none = rw (quotient, eq-eqb (nat_abs y) 0 (none y k z))
 
-    pub mul-law : {m : ℕ} → m ≡ capped (a * b) → w ≡ fitted (signed (not (beq s t)) m) → w ≡ fitted (x *ℤ y)
-    mul-law f e =
-        cc (mul-parts x y, read x j, read y k, fitted-capped (not (beq (negative x) (negative y))) (nat_abs x * nat_abs y))
+  pub remainder-none : checked (Err Re.DivisionByZero) ≡ remainder x y
+  unfolding checked remainder
+  remainder-none = rw (remainder, sym quotient-none)
 
-    pub quot-law : (b ≡ 0 → ⊥) → w ≡ fitted (signed (not (beq s t)) (a / b)) → w ≡ quotient x y
-    unfolding quotient
-    quot-law z e =
-        rw (quotient, ne_eqb (nat_abs y) 0 (λ h. z (u ∙ ap nat_abs (read y k) ∙ h))) (cc (quot-parts x y, read x j, read y k))
+module _ (x y : ℤ) (nz : of_z w64 y ≡ 0 → ⊥) where
+  by-size : quotient x y ≡ fitted (quot_z x y)
+  unfolding quotient
+  by-size = rw (quotient, ne_eqb (nat_abs y) 0 (some-size y nz))
 
--- sums of signs and sizes
-module _ {w : Worked} (s t : Bool) (a b : ℕ) where
-  pub sum_same : {m : ℕ} → w ≡ fitted (signed s m) → m ≡ capped (a + b) → beq s t ≡ true → w ≡ fitted (signed s a +ℤ signed t b)
-  sum_same e f h = e ∙ ap (λ (k : ℕ). fitted (signed s k)) f ∙ fitted-capped s (a + b) ∙ ap fitted
-      (sum_like s a b ∙ ap (λ (u : Bool). signed s a +ℤ signed u b) (same s t h))
-    where
-      same : (s t : Bool) → beq s t ≡ true → s ≡ t
-      same true true h = refl
-      same false false h = refl
-      same true false h = never h
-      same false true h = never h
+  above : 0 < of_z w64 y
+  above = omega arith
 
-  pub sum_less : w ≡ fitted (signed t (b - a)) → beq s t ≡ false → a < b → w ≡ fitted (signed s a +ℤ signed t b)
-  sum_less e h l = e ∙ ap fitted (sum-unlike s t a b h (le_of_lt l))
+  divided : (o : Option ℤ) → SomeIff o (CanDivide w64 x y) (quot_z x y) → checked (ok_or o Re.IntegerOverflow) ≡ quotient x y
+  divided (Some z) h = of-option (quot_z x y) (Some z) (h.0.1, h.1) ∙ sym by-size
+  divided None h = of-option (quot_z x y) None (λ f. h (above, f)) ∙ sym by-size
 
-  pub sum_more : w ≡ fitted (signed s (a - b)) → beq s t ≡ false → b ≤ a → w ≡ fitted (signed s a +ℤ signed t b)
-  sum_more e h l = e ∙ ap fitted (sum-unlike t s b a (turn s t h) l ∙ +ℤ_comm (signed t b) (signed s a))
-    where
-      turn : (s t : Bool) → beq s t ≡ false → beq t s ≡ false
-      turn true true h = h
-      turn false false h = h
-      turn true false h = refl
-      turn false true h = refl
-
--- quotients by zero, and remainders
-module _ (x y : ℤ) (j : SFits w64 x) (k : SFits w64 y) where
-  pub quot-zero : {b : ℕ} → b ≡ nat_abs (stored y) → b ≡ 0 → checked Ch.DividedByZero ≡ quotient x y
-  unfolding quotient checked
-  quot-zero u z = rw (quotient, eq-eqb (nat_abs y) 0 (sym (u ∙ ap nat_abs (read y k)) ∙ z))
-
-  pub rem-zero : {b : ℕ} → b ≡ nat_abs (stored y) → b ≡ 0 → checked Ch.DividedByZero ≡ remainder x y
+  left : (o : Option ℤ) → SomeIff o (CanDivide w64 x y) (rem_z x y) → checked (ok_or o Re.IntegerOverflow) ≡ remainder x y
   unfolding remainder checked
-  rem-zero u z = rw (remainder, sym (quot-zero u z))
-
-  module _ (q : Checked) (e : checked q ≡ quotient (stored x) (stored y)) where
-    same : checked q ≡ quotient x y
-    same = e ∙ (λ i. quotient (read x j i) (read y k i))
-
-    pub rem-overflow : q ≡ Ch.Overflow → checked Ch.Overflow ≡ remainder x y
-    unfolding remainder checked
-    rem-overflow h = rw (remainder, sym (sym (ap checked h) ∙ same))
-
-    pub rem-divided : q ≡ Ch.DividedByZero → checked Ch.DividedByZero ≡ remainder x y
-    unfolding remainder checked
-    rem-divided h = rw (remainder, sym (sym (ap checked h) ∙ same))
-
-    module _ {s : Bool} {a b : ℕ} (p : s ≡ negative (stored x)) (r : a ≡ nat_abs (stored x)) (u : b ≡ nat_abs (stored y)) where
-      pub rem-law : {w : Worked} (z : ℤ) → q ≡ Ch.Int z → w ≡ fitted (signed s (a % b)) → w ≡ remainder x y
-      unfolding remainder checked
-      rem-law z h f =
-          rw (remainder, sym (sym (ap checked h) ∙ same))
-          (cc (rem_parts x y, fits (rem_z x y) (omega (arith, mag_rem x y, j.sfits)), read x j, read y k))
+  left (Some z) h = rw (remainder, by-size, sym (fits (quot_z x y) h.0.1.sfits)) (ap (λ (v : ℤ). gives (int v)) h.1)
+  left None h = rw (remainder, by-size, sym (of-option (quot_z x y) None (λ f. h (above, f))))
 
 -- powers
+over-below : (n : ℕ) → 2 ^ 64 ≤ n → fails integer_overflow ≡ fitted (neg_ℤ (pos n))
+over-below zero h = absurd (omega arith)
+over-below (suc k) h = over (negsuc k) (omega arith)
+
+module _ (m e : ℕ) where
+  bounded-is : (P : ℤ → ℤ) → ((n : ℕ) → 2 ^ 64 ≤ n → fails integer_overflow ≡ fitted (P (pos n))) → fitted (P (pos (bounded m e))) ≡ fitted (P (pos (m ^ e)))
+  unfolding bounded
+  bounded-is P past = go (cases_lt 1 m) (cases_lt 63 e)
+    where
+      two : 63 < e → 2 ^ 64 ≤ 2 ^ e
+      two k = pow_mono k
+
+      go : (1 < m) ⊎ (m ≤ 1) → (63 < e) ⊎ (e ≤ 63) → fitted (P (pos (bounded m e))) ≡ fitted (P (pos (m ^ e)))
+      go (inr h) k = rw (bounded, le-ltb 1 m h)
+      go (inl h) (inr k) = rw (bounded, lt-ltb 1 m h, le-ltb 63 e k)
+      go (inl h) (inl k) = rw (bounded, lt-ltb 1 m h, lt-ltb 63 e k) (sym (past (2 ^ 64) (omega arith)) ∙ past (m ^ e) (omega (arith, pow-le-pow_left h e, two k)))
+
+power-is : (x : ℤ) (e : ℕ) → fitted (power x e) ≡ fitted (int_pow x e)
+unfolding power
+power-is (pos m) e = bounded-is m e (λ z. z) (λ n h. over (pos n) (omega arith))
+power-is (negsuc m) e = go (cases_lt 0 (e % 2))
+  where
+    go : (0 < e % 2) ⊎ (e % 2 ≤ 0) → fitted (power (negsuc m) e) ≡ fitted (int_pow (negsuc m) e)
+    go (inl h) = let odd : e % 2 ≡ 1 = omega arith in rw (power, odd) (bounded-is (suc m) e neg_ℤ over-below)
+    go (inr h) = let even : e % 2 ≡ 0 = omega arith in rw (power, even) (bounded-is (suc m) e (λ z. z) (λ n h. over (pos n) (omega arith)))
+
 module _ (x : ℤ) (e : ℕ) where
-  pub pow-past : 4294967295 < e → checked Ch.Overflow ≡ raised x (pos e)
-  unfolding raised checked
-  pow-past h = rw (raised, lt-leb e 4294967295 h)
+  pub power-past : 4294967295 < e → checked (Err Re.IntegerOverflow) ≡ raised x (pos e)
+  unfolding checked reason_of raised
+  power-past h = rw (raised, lt-leb e 4294967295 h)
 
-  even : e % 2 ≡ 0 → power x e ≡ signed false (bounded (nat_abs x) e)
-  unfolding power signed
-  even h = go x
-    where
-      go : (x : ℤ) → power x e ≡ signed false (bounded (nat_abs x) e)
-      go (pos m) = refl
-      go (negsuc m) = rw (power, ne_eqb (e % 2) 1 (omega arith))
+  power-within : e ≤ 4294967295 → fitted (int_pow x e) ≡ raised x (pos e)
+  unfolding raised
+  power-within h = sym (power-is x e) ∙ sym (rw (raised, le-leb e 4294967295 h))
 
-  odd : (e % 2 ≡ 0 → ⊥) → power x e ≡ signed (negative x) (bounded (nat_abs x) e)
-  unfolding power signed negative
-  odd h = go x
-    where
-      go : (x : ℤ) → power x e ≡ signed (negative x) (bounded (nat_abs x) e)
-      go (pos m) = refl
-      go (negsuc m) = rw (power, eq-eqb (e % 2) 1 (omega arith))
+-- the answers
+module _ (x : ℤ) (j : SFits w64 x) {r : Result ℤ Reason} (o : Option ℤ) (g : r ≡ ok_or o Re.IntegerOverflow) where
+  pub of-one : (op : ℤ → ℤ) → SomeIff o (SFits w64 (op (stored x))) (op (stored x)) → checked r ≡ fitted (op x)
+  of-one op h = ap checked g ∙ of-option _ o h ∙ ap (λ (z : ℤ). fitted (op z)) (read x j)
 
-  module _ {w : Worked} (j : SFits w64 x) (l : e ≤ 4294967295) {a p : ℕ} (q : a ≡ nat_abs (stored x)) (f : p ≡ capped (bounded a e)) where
-    pub pow_even : w ≡ fitted (signed false p) → e % 2 ≡ 0 → w ≡ raised x (pos e)
-    unfolding raised
-    pow_even g h = rw (raised, le-leb e 4294967295 l) (g ∙ cc (even h, read x j, fitted-capped false (bounded (nat_abs x) e)))
+  pub of-power : (e k : ℕ) → k ≡ e → e ≤ 4294967295 → SomeIff o (SFits w64 (int_pow (stored x) k)) (int_pow (stored x) k) → checked r ≡ raised x (pos e)
+  of-power e k s l h = of-one (λ z. int_pow z k) h ∙ ap (λ (n : ℕ). fitted (int_pow x n)) s ∙ power-within x e l
 
-    pub pow-odd : {s : Bool} → w ≡ fitted (signed s p) → s ≡ negative (stored x) → (e % 2 ≡ 0 → ⊥) → w ≡ raised x (pos e)
-    unfolding raised
-    pow-odd g b h = rw (raised, le-leb e 4294967295 l) (g ∙ cc (odd h, read x j, fitted-capped (negative x) (bounded (nat_abs x) e)))
+  module _ (y : ℤ) (k : SFits w64 y) where
+    pub of-two : (op : ℤ → ℤ → ℤ) → SomeIff o (SFits w64 (op (stored x) (stored y))) (op (stored x) (stored y)) → checked r ≡ fitted (op x y)
+    of-two op h = ap checked g ∙ of-option _ o h ∙ (λ i. fitted (op (read x j i) (read y k i)))
+
+    module _ (nz : of_z w64 y ≡ 0 → ⊥) where
+      kept : of_z w64 (stored y) ≡ 0 → ⊥
+      kept e = nz (sym (ap (of_z w64) (read y k)) ∙ e)
+
+      pub of-div : SomeIff o (CanDivide w64 (stored x) (stored y)) (quot_z (stored x) (stored y)) → checked r ≡ quotient x y
+      of-div h = ap checked g ∙ divided (stored x) (stored y) kept o h ∙ (λ i. quotient (read x j i) (read y k i))
+
+      pub of-rem : SomeIff o (CanDivide w64 (stored x) (stored y)) (rem_z (stored x) (stored y)) → checked r ≡ remainder x y
+      of-rem h = ap checked g ∙ left (stored x) (stored y) kept o h ∙ (λ i. remainder (read x j i) (read y k i))

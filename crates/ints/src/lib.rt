@@ -2,101 +2,75 @@
 #![tactic(auto)]
 
 pub mod bits;
-pub mod parts;
 
 ghost use Rattle.std.specs.Prelude.{◌≡◌, pos, neg_ℤ, ◌+ℤ◌, ◌-ℤ◌, ◌*ℤ◌};
 ghost use Rattle.rules.specs.Arithmetic as rule;
 ghost use Rattle.rules.specs.Arithmetic.{fitted, quotient, remainder, raised};
 ghost use Rattle.ints.specs.Checked.{checked};
 
-use parts::{capped_mul, from_parts, is_negative, power, product, sum, unsigned_abs};
+use numbers::refusals::Reason;
 
-#[derive(Clone, Copy)]
-pub enum Checked {
-    Int(i64),
-    Overflow,
-    DividedByZero,
-}
-
-pub fn add(x: i64, y: i64) -> Checked
+pub fn add(x: i64, y: i64) -> Result<i64, Reason>
     ensures { checked result ≡ fitted (x +ℤ y) }
 {
-    sum(
-        is_negative(x),
-        unsigned_abs(x),
-        is_negative(y),
-        unsigned_abs(y),
-    )
+    x.checked_add(y).ok_or(Reason::IntegerOverflow)
 }
 
-pub fn sub(x: i64, y: i64) -> Checked
+pub fn sub(x: i64, y: i64) -> Result<i64, Reason>
     ensures { checked result ≡ fitted (x -ℤ y) }
 {
-    sum(
-        is_negative(x),
-        unsigned_abs(x),
-        !is_negative(y),
-        unsigned_abs(y),
-    )
+    x.checked_sub(y).ok_or(Reason::IntegerOverflow)
 }
 
-pub fn neg(x: i64) -> Checked
+pub fn neg(x: i64) -> Result<i64, Reason>
     ensures { checked result ≡ fitted (neg_ℤ x) }
 {
-    from_parts(!is_negative(x), unsigned_abs(x))
+    x.checked_neg().ok_or(Reason::IntegerOverflow)
 }
 
-pub fn mul(x: i64, y: i64) -> Checked
+pub fn mul(x: i64, y: i64) -> Result<i64, Reason>
     ensures { checked result ≡ fitted (x *ℤ y) }
 {
-    from_parts(
-        is_negative(x) != is_negative(y),
-        capped_mul(unsigned_abs(x), unsigned_abs(y)),
-    )
+    x.checked_mul(y).ok_or(Reason::IntegerOverflow)
 }
 
 // Toward zero.
-pub fn div(x: i64, y: i64) -> Checked
+pub fn div(x: i64, y: i64) -> Result<i64, Reason>
     ensures { checked result ≡ quotient x y }
 {
-    let b = unsigned_abs(y);
-    if b == 0 {
-        return Checked::DividedByZero;
+    if y == 0 {
+        return Err(Reason::DivisionByZero);
     }
-    from_parts(is_negative(x) != is_negative(y), unsigned_abs(x) / b)
+    x.checked_div(y).ok_or(Reason::IntegerOverflow)
 }
 
 // With the dividend's sign; refused where the quotient is.
-pub fn rem(x: i64, y: i64) -> Checked
+pub fn rem(x: i64, y: i64) -> Result<i64, Reason>
     ensures { checked result ≡ remainder x y }
 {
-    let b = unsigned_abs(y);
-    if b == 0 {
-        return Checked::DividedByZero;
+    if y == 0 {
+        return Err(Reason::DivisionByZero);
     }
-    let q = div(x, y);
-    match q {
-        Checked::Int(_) => from_parts(is_negative(x), unsigned_abs(x) % b),
-        Checked::Overflow => Checked::Overflow,
-        Checked::DividedByZero => Checked::DividedByZero,
-    }
+    x.checked_rem(y).ok_or(Reason::IntegerOverflow)
 }
 
 // x to the power e, which is a number of 32 bits.
-pub fn pow(x: i64, e: u64) -> Checked
+pub fn pow(x: i64, e: u64) -> Result<i64, Reason>
     ensures { checked result ≡ raised x (pos e) }
 {
-    if e > 4294967295 {
-        return Checked::Overflow;
-    }
-    if e % 2 == 0 {
-        return from_parts(false, power(unsigned_abs(x), e));
-    }
-    from_parts(is_negative(x), power(unsigned_abs(x), e))
+    let Ok(exponent) = u32::try_from(e) else {
+        return Err(Reason::IntegerOverflow);
+    };
+    x.checked_pow(exponent).ok_or(Reason::IntegerOverflow)
 }
 
-pub fn factorial(n: u64) -> Checked
+// At most 21 turns, since 21! is past 64 bits.
+pub fn factorial(n: u64) -> Result<i64, Reason>
     ensures { checked result ≡ rule.factorial (pos n) }
 {
-    from_parts(false, product(n))
+    let mut product: u64 = 1;
+    for k in 1..=n {
+        product = product.checked_mul(k).ok_or(Reason::IntegerOverflow)?;
+    }
+    i64::try_from(product).map_err(|_| Reason::IntegerOverflow)
 }

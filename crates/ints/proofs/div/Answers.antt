@@ -1,13 +1,9 @@
 -- `ints::div` meets its contract.
-use Rattle.ints.proofs.Operations.{quot-zero, quot-law}
+use Rattle.ints.proofs.Operations.{of-div, quotient-none}
 use Rattle.ints.proofs.div.Goals as goal
 
-pub returns-then-b-eq0 : goal.returns-then-b-eq0
-returns-then-b-eq0 c = let start = c in quot-zero start.args.x start.args.y start.ranges.x start.ranges.y
-    c.unsigned_abs-b.ensures c.if-b-eq0.true
+pub returns-then-y-eq0 : goal.returns-then-y-eq0
+returns-then-y-eq0 c = quotient-none c.args.x c.args.y c.ranges.y c.if-y-eq0.true
 
 pub returns : goal.returns
-returns c = let start = c in quot-law start.args.x start.ranges.x
-    c.is_negative.ensures c.unsigned_abs.ensures start.args.y start.ranges.y
-    c.is_negative-2.ensures c.unsigned_abs-b.ensures
-    c.if-b-eq0.false c.from_parts.ensures
+returns c = of-div c.args.x c.ranges.x _ c.ok_or.ensures.value c.args.y c.ranges.y c.if-y-eq0.false c.checked_div.ensures

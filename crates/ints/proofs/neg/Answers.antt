@@ -1,7 +1,7 @@
 -- `ints::neg` meets its contract.
-use Rattle.ints.proofs.Operations.{neg-law}
+use lib.IntN.{neg_ℤ}
+use Rattle.ints.proofs.Operations.{of-one}
 use Rattle.ints.proofs.neg.Goals as goal
 
 pub returns : goal.returns
-returns c = let start = c in neg-law start.args.x start.ranges.x c.is_negative.ensures
-    c.unsigned_abs.ensures c.from_parts.ensures
+returns c = of-one c.args.x c.ranges.x _ c.ok_or.ensures.value neg_ℤ c.checked_neg.ensures
