@@ -1,10 +1,11 @@
 -- What the machine reads back of a signed number of 64 bits.
 use mathlib.Core.Bool.{true, false}
-use mathlib.Core.Path.{◌≡◌, refl, sym, subst}
-use Prim.Native.Nat.{◌<◌, ◌^◌}
+use mathlib.Core.Path.{◌≡◌, refl, sym, ap, ◌∙◌, subst, subst⁻¹}
+use Prim.Native.Nat.{ℕ, ◌<◌, ◌^◌, zero-le}
 use lib.Dec.{T}
-use lib.IntN.{ℤ, pos, negsuc}
-use lib.Signed.{mag}
+use lib.IntN.{ℤ, pos, negsuc, nat_abs}
+use lib.Signed.{mag, lt_z}
+use borrow.Author.Tests.{le-ltb}
 use mir.Syntax.{w64}
 use mir.Val.{SFits, to_z, of_z}
 use mir.ValLaws.{to_z-of_z}
@@ -26,3 +27,22 @@ pub bits-of : (z : ℤ) → of_z w64 z ≡ bits z
 unfolding bits
 bits-of (pos n) = refl
 bits-of (negsuc n) = refl
+
+pub stored-fits : (x : ℤ) → mag x < 2 ^ 63 → SFits w64 (stored x)
+stored-fits x h = subst⁻¹ (SFits w64) (read-mag x h) (record { sfits = h })
+
+-- an integer below 0, and one from 0 on
+module _ (x : ℤ) (f : SFits w64 x) where
+  pub below : lt_z (stored x) (pos 0) ≡ true → (P : ℤ → Type 0) → ((n : ℕ) → P (negsuc n)) → P x
+  below e P k = go x (sym (ap (λ (z : ℤ). lt_z z (pos 0)) (read x f)) ∙ e)
+    where
+      go : (x : ℤ) → lt_z x (pos 0) ≡ true → P x
+      go (pos n) e = never (sym (le-ltb n 0 zero-le) ∙ e)
+      go (negsuc n) e = k n
+
+  pub from : lt_z (stored x) (pos 0) ≡ false → pos (nat_abs (stored x)) ≡ x
+  from e = ap (λ (z : ℤ). pos (nat_abs z)) (read x f) ∙ go x (sym (ap (λ (z : ℤ). lt_z z (pos 0)) (read x f)) ∙ e)
+    where
+      go : (x : ℤ) → lt_z x (pos 0) ≡ false → pos (nat_abs x) ≡ x
+      go (pos n) e = refl
+      go (negsuc n) e = never (sym e)

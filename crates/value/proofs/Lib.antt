@@ -1,6 +1,7 @@
 mod SameImage
 mod Floats
-mod Pairs
+mod Maps
+mod Numbers
 mod Orders
 pub mod Held
 pub mod Given

@@ -1,157 +1,103 @@
 // Arithmetic on values (value.rs, checked_add .. checked_sub; expression.rs, evaluate).
 ghost use Rattle.std.specs.Prelude.{◌≡◌};
 ghost use Rattle.rules.specs.Lists.{Bytes};
+ghost use Rattle.rules.specs.Arithmetic as rule;
+ghost use Rattle.rules.specs.Arithmetic.{raised};
 ghost use Rattle.rules.specs.Ast as ast;
-ghost use Rattle.rules.specs.Operators.{plain_of, unary_of};
+ghost use Rattle.rules.specs.Operators.{plain_of, unary_of, root_of};
+ghost use Rattle.rules.specs.Schema.{int};
 ghost use Rattle.ints.specs.Checked.{checked};
 ghost use Rattle.value.specs.Values.{value_of, worked_of};
 
-use crate::{Numbers, Value, Worked, operands};
-use ints::Checked;
+use crate::Value;
+use crate::operands::{on_number, on_numbers};
+use numbers::refusals::Reason;
 
-fn of_checked(k: Checked) -> Worked
-    ensures { (c q : Bytes) → worked_of c q result ≡ checked k }
-{
-    match k {
-        Checked::Int(x) => Worked::Value(Value::Int(x)),
-        Checked::Overflow => Worked::Overflow,
-        Checked::DividedByZero => Worked::DividedByZero,
-    }
-}
-
-pub fn add(a: Value, b: Value) -> Worked
+pub fn add(a: Value, b: Value) -> Result<Value, Reason>
     ensures { (c q : Bytes) → worked_of c q result ≡ plain_of ast.add (value_of c q a) (value_of c q b) }
 {
-    let p = operands::numbers_of(a, b);
-    match p {
-        Numbers::Ints(x, y) => of_checked(ints::add(x, y)),
-        Numbers::Floats(x, y) => Worked::Value(Value::Float(x + y)),
-        Numbers::Null => Worked::Value(Value::Null),
-        Numbers::Other => Worked::WrongOperand,
-    }
+    on_numbers(a, b, ints::add, |x, y| Ok(x + y))
 }
 
-pub fn sub(a: Value, b: Value) -> Worked
+pub fn sub(a: Value, b: Value) -> Result<Value, Reason>
     ensures { (c q : Bytes) → worked_of c q result ≡ plain_of ast.sub (value_of c q a) (value_of c q b) }
 {
-    let p = operands::numbers_of(a, b);
-    match p {
-        Numbers::Ints(x, y) => of_checked(ints::sub(x, y)),
-        Numbers::Floats(x, y) => Worked::Value(Value::Float(x - y)),
-        Numbers::Null => Worked::Value(Value::Null),
-        Numbers::Other => Worked::WrongOperand,
-    }
+    on_numbers(a, b, ints::sub, |x, y| Ok(x - y))
 }
 
-pub fn mul(a: Value, b: Value) -> Worked
+pub fn mul(a: Value, b: Value) -> Result<Value, Reason>
     ensures { (c q : Bytes) → worked_of c q result ≡ plain_of ast.mul (value_of c q a) (value_of c q b) }
 {
-    let p = operands::numbers_of(a, b);
-    match p {
-        Numbers::Ints(x, y) => of_checked(ints::mul(x, y)),
-        Numbers::Floats(x, y) => Worked::Value(Value::Float(x * y)),
-        Numbers::Null => Worked::Value(Value::Null),
-        Numbers::Other => Worked::WrongOperand,
-    }
+    on_numbers(a, b, ints::mul, |x, y| Ok(x * y))
 }
 
-pub fn div(a: Value, b: Value) -> Worked
+pub fn div(a: Value, b: Value) -> Result<Value, Reason>
     ensures { (c q : Bytes) → worked_of c q result ≡ plain_of ast.div (value_of c q a) (value_of c q b) }
 {
-    let p = operands::numbers_of(a, b);
-    match p {
-        Numbers::Ints(x, y) => of_checked(ints::div(x, y)),
-        Numbers::Floats(x, y) => Worked::Value(Value::Float(x / y)),
-        Numbers::Null => Worked::Value(Value::Null),
-        Numbers::Other => Worked::WrongOperand,
-    }
+    on_numbers(a, b, ints::div, |x, y| Ok(x / y))
 }
 
-pub fn rem(a: Value, b: Value) -> Worked
+pub fn rem(a: Value, b: Value) -> Result<Value, Reason>
     ensures { (c q : Bytes) → worked_of c q result ≡ plain_of ast.rem (value_of c q a) (value_of c q b) }
 {
-    let p = operands::numbers_of(a, b);
-    match p {
-        Numbers::Ints(x, y) => of_checked(ints::rem(x, y)),
-        Numbers::Floats(x, y) => Worked::Value(Value::Float(remainder::remainder(x, y))),
-        Numbers::Null => Worked::Value(Value::Null),
-        Numbers::Other => Worked::WrongOperand,
-    }
+    on_numbers(a, b, ints::rem, |x, y| Ok(remainder::remainder(x, y)))
 }
 
 // A power that gives a float is not worked out.
-pub fn pow(a: Value, b: Value) -> Worked
+pub fn pow(a: Value, b: Value) -> Result<Value, Reason>
     ensures { (c q : Bytes) → worked_of c q result ≡ plain_of ast.pow (value_of c q a) (value_of c q b) }
 {
-    let p = operands::numbers_of(a, b);
-    match p {
-        Numbers::Ints(x, y) => {
-            if ints::parts::is_negative(y) {
-                return Worked::NotWorkedOut;
-            }
-            of_checked(ints::pow(x, ints::parts::unsigned_abs(y)))
-        }
-        Numbers::Floats(_, _) => Worked::NotWorkedOut,
-        Numbers::Null => Worked::Value(Value::Null),
-        Numbers::Other => Worked::WrongOperand,
-    }
+    on_numbers(a, b, power, |_, _| Err(Reason::NotWorkedOut))
 }
 
-pub fn fact(a: Value) -> Worked
+fn power(x: i64, y: i64) -> Result<i64, Reason>
+    ensures { checked result ≡ raised x y }
+{
+    if y < 0 {
+        return Err(Reason::NotWorkedOut);
+    }
+    ints::pow(x, y as u64)
+}
+
+pub fn fact(a: Value) -> Result<Value, Reason>
     ensures { (c q : Bytes) → worked_of c q result ≡ unary_of ast.fact (value_of c q a) }
 {
-    match a {
-        Value::Null => Worked::Value(Value::Null),
-        Value::Bool(_) => Worked::WrongOperand,
-        Value::Int(x) => {
-            if ints::parts::is_negative(x) {
-                return Worked::WrongOperand;
-            }
-            of_checked(ints::factorial(ints::parts::unsigned_abs(x)))
-        }
-        Value::Float(_) => Worked::WrongOperand,
-        Value::Text(_, _) => Worked::WrongOperand,
-    }
+    on_number(a, factorial, |_| Err(Reason::WrongOperand))
 }
 
-pub fn ident(a: Value) -> Worked
+fn factorial(x: i64) -> Result<i64, Reason>
+    ensures { checked result ≡ rule.factorial x }
+{
+    if x < 0 {
+        return Err(Reason::WrongOperand);
+    }
+    ints::factorial(x as u64)
+}
+
+pub fn ident(a: Value) -> Result<Value, Reason>
     ensures { (c q : Bytes) → worked_of c q result ≡ unary_of ast.ident (value_of c q a) }
 {
-    match a {
-        Value::Null => Worked::Value(Value::Null),
-        Value::Bool(_) => Worked::WrongOperand,
-        Value::Int(x) => Worked::Value(Value::Int(x)),
-        Value::Float(x) => Worked::Value(Value::Float(x)),
-        Value::Text(_, _) => Worked::WrongOperand,
-    }
+    on_number(a, Ok, Ok)
 }
 
-pub fn neg(a: Value) -> Worked
+pub fn neg(a: Value) -> Result<Value, Reason>
     ensures { (c q : Bytes) → worked_of c q result ≡ unary_of ast.neg (value_of c q a) }
 {
-    match a {
-        Value::Null => Worked::Value(Value::Null),
-        Value::Bool(_) => Worked::WrongOperand,
-        Value::Int(x) => of_checked(ints::neg(x)),
-        Value::Float(x) => Worked::Value(Value::Float(-x)),
-        Value::Text(_, _) => Worked::WrongOperand,
-    }
+    on_number(a, ints::neg, |x| Ok(-x))
 }
 
 // A root is not worked out.
-pub fn sqrt(a: Value) -> Worked
+pub fn sqrt(a: Value) -> Result<Value, Reason>
     ensures { (c q : Bytes) → worked_of c q result ≡ unary_of ast.sqrt (value_of c q a) }
 {
-    match a {
-        Value::Null => Worked::Value(Value::Null),
-        Value::Bool(_) => Worked::WrongOperand,
-        Value::Int(x) => {
-            if ints::parts::is_negative(x) {
-                return Worked::WrongOperand;
-            }
-            Worked::NotWorkedOut
-        }
-        Value::Float(_) => Worked::NotWorkedOut,
-        Value::Text(_, _) => Worked::WrongOperand,
+    on_number(a, root, |_| Err(Reason::NotWorkedOut))
+}
+
+fn root(x: i64) -> Result<i64, Reason>
+    ensures { checked result ≡ root_of (int x) }
+{
+    if x < 0 {
+        return Err(Reason::WrongOperand);
     }
+    Err(Reason::NotWorkedOut)
 }

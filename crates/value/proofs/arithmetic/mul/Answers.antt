@@ -1,27 +1,12 @@
 -- `value::arithmetic::mul` meets its contract.
-use Rattle.std.proofs.Common.{arith}
-use Rattle.rules.specs.Arithmetic.{arithmetic, floating, product_of}
+use Rattle.std.proofs.Common.{rules, ◌≡◌, Ok, ap}
+use lib.Ieee as Ieee
+use lib.Ieee.{binary64}
+use Rattle.rules.specs.Arithmetic.{product_of}
 use Rattle.rules.specs.Operators.{plain_of}
-use Rattle.value.specs.Operands.{pair_of}
-use Rattle.value.specs.Values.{value_of, worked_of}
-use Rattle.value.specs.declared.Numbers.TheVariants as Nu
-use Rattle.value.proofs.Pairs.{at-arm, at-ints}
+use Rattle.value.specs.Operands.{floated}
 use Rattle.value.proofs.arithmetic.mul.Goals as goal
 
-pub returns-in-Ints : goal.returns-in-Ints
-unfolding plain_of product_of arithmetic
-returns-in-Ints c = λ t q. at-ints product_of (c.numbers_of-p.ensures t q) _ _
-    c.in-Ints.is (omega arith) (omega arith)
-    (c.of_checked.ensures t q) c.mul.ensures
-
-pub returns-in-Floats : goal.returns-in-Floats
-unfolding plain_of product_of arithmetic worked_of value_of pair_of floating
-returns-in-Floats c = λ t q. at-arm product_of (c.numbers_of-p.ensures t q) _ c.in-Floats.is
-
-pub returns-in-Null : goal.returns-in-Null
-unfolding plain_of product_of arithmetic worked_of value_of pair_of floating
-returns-in-Null c = λ t q. at-arm product_of (c.numbers_of-p.ensures t q) Nu.Null c.in-Null.is
-
-pub returns-in-Other : goal.returns-in-Other
-unfolding plain_of product_of arithmetic worked_of value_of pair_of floating
-returns-in-Other c = λ t q. at-arm product_of (c.numbers_of-p.ensures t q) Nu.Other c.in-Other.is
+pub returns : goal.returns
+unfolding plain_of product_of floated
+returns c = λ t q. c.on_numbers.ensures _ _ t q (λ x y j k r p. p) (λ x y r p. let e : r ≡ Ok (Ieee.mul binary64 x y) = search rules in ap floated e)

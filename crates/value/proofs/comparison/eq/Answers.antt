@@ -1,9 +1,11 @@
 -- `value::comparison::eq` meets its contract.
-use Rattle.rules.specs.Comparison.{is_same}
+use Rattle.std.proofs.Common.{rules, ap, ◌∙◌}
+use Rattle.rules.specs.Comparison.{compared, is_less, is_same, is_greater}
 use Rattle.rules.specs.Operators.{binary_of, plain_of}
 use Rattle.value.proofs.Orders.{by-orders}
 use Rattle.value.proofs.comparison.eq.Goals as goal
 
 pub returns : goal.returns
-unfolding binary_of plain_of is_same
-returns c = by-orders is_same (c.holds.ensures _ _) c.compare.ensures
+unfolding binary_of plain_of is_less is_same is_greater
+returns c = c.holds.ensures is_same _ _ (by-orders _ is_same (λ b p. search rules) (λ b p. search rules) (λ b p. search rules) (λ b p. search rules))
+    ∙ ap (compared is_same) c.compare.ensures

@@ -1,10 +1,11 @@
 -- `value::comparison::ge` meets its contract.
-use Rattle.std.proofs.Common.{◌||◌}
-use Rattle.rules.specs.Comparison.{is_greater, is_same}
-use Rattle.rules.specs.Operators.{binary_of}
+use Rattle.std.proofs.Common.{rules, ◌||◌, ap, ◌∙◌}
+use Rattle.rules.specs.Comparison.{compared, is_less, is_same, is_greater}
+use Rattle.rules.specs.Operators.{binary_of, plain_of}
 use Rattle.value.proofs.Orders.{by-orders}
 use Rattle.value.proofs.comparison.ge.Goals as goal
 
 pub returns : goal.returns
-unfolding binary_of is_greater is_same
-returns c = by-orders (λ o. is_greater o || is_same o) (c.holds.ensures _ _) c.compare.ensures
+unfolding binary_of plain_of is_less is_same is_greater
+returns c = c.holds.ensures (λ o. is_greater o || is_same o) _ _ (by-orders _ (λ o. is_greater o || is_same o) (λ b p. search rules) (λ b p. search rules) (λ b p. search rules) (λ b p. search rules))
+    ∙ ap (compared (λ o. is_greater o || is_same o)) c.compare.ensures
