@@ -1,3 +1,1 @@
-mod Found
 mod Held
-mod Values

@@ -6,12 +6,12 @@ ghost use Rattle.rules.specs.Lists.{Bytes};
 ghost use Rattle.rules.specs.Schema as rule;
 ghost use Rattle.rules.specs.Operators.{is_of};
 ghost use Rattle.value.specs.Values.{value_of, worked_of, held};
-ghost use Rattle.value_host.specs.Numbers.{value_by, kind_of, bits_of, refused_by, answer_of};
+ghost use Rattle.value_host.specs.Numbers.{value_by, kind_of, bits_of, answer_of};
 ghost use Rattle.value_host.specs.Codes.{unary_worked, binary_worked};
 
 use numbers::halves::{high, low};
-use numbers::refusals::{DIVISION_BY_ZERO, INTEGER_OVERFLOW, NOT_WORKED_OUT, WRONG_OPERAND};
-use value::{Value, Worked, arithmetic, comparison, literals, logic};
+use numbers::refusals::Reason;
+use value::{Value, arithmetic, comparison, literals, logic};
 
 // Document 01's number of a refusal, or 0 and the value's kind and bits.
 #[repr(C)]
@@ -22,6 +22,7 @@ pub struct Answer {
     pub bits: u64,
 }
 
+#[tactic(auto, unfolding(crate::specs::Numbers::value_by))]
 fn value_at(kind: u32, n: u64) -> Value
     ensures { (c q : Bytes) → value_of c q result ≡ held (value_by c q kind n) }
 {
@@ -33,6 +34,7 @@ fn value_at(kind: u32, n: u64) -> Value
     literals::literal(kind, a, b)
 }
 
+#[tactic(auto, unfolding(crate::specs::Numbers::kind_of, value::specs::Values::value_of))]
 fn kind_of(v: Value) -> u32
     ensures { (c q : Bytes) → result ≡ kind_of (value_of c q v) }
 {
@@ -45,6 +47,7 @@ fn kind_of(v: Value) -> u32
     }
 }
 
+#[tactic(auto, unfolding(crate::specs::Numbers::bits_of, value::specs::Values::value_of, rules::specs::Area::flag, rules::specs::Places::word_at))]
 fn bits_of(v: Value) -> u64
     ensures { (c q : Bytes) → result ≡ bits_of (value_of c q v) }
 {
@@ -57,33 +60,26 @@ fn bits_of(v: Value) -> u64
     }
 }
 
-fn refused(n: u32) -> Answer
-    ensures { result ≡ refused_by n }
-{
-    Answer {
-        refusal: n,
-        kind: 0,
-        bits: 0,
-    }
-}
-
-fn answered(w: Worked) -> Answer
+#[tactic(auto, unfolding(crate::specs::Numbers::answer_of, crate::specs::Numbers::refused_by, value::specs::Values::worked_of))]
+fn answered(w: Result<Value, Reason>) -> Answer
     ensures { (c q : Bytes) → result ≡ answer_of (worked_of c q w) }
 {
     match w {
-        Worked::Value(v) => Answer {
+        Ok(v) => Answer {
             refusal: 0,
             kind: kind_of(v),
             bits: bits_of(v),
         },
-        Worked::Overflow => refused(INTEGER_OVERFLOW),
-        Worked::DividedByZero => refused(DIVISION_BY_ZERO),
-        Worked::WrongOperand => refused(WRONG_OPERAND),
-        Worked::NotWorkedOut => refused(NOT_WORKED_OUT),
+        Err(r) => Answer {
+            refusal: r.number(),
+            kind: 0,
+            bits: 0,
+        },
     }
 }
 
-fn unary(op: u32, a: Value) -> Worked
+#[tactic(auto, unfolding(crate::specs::Codes::unary_worked, crate::specs::Codes::unary_at, crate::specs::Codes::applied, numbers::specs::Codes::coded, numbers::specs::Reasons::reason_of, value::specs::Values::worked_of))]
+fn unary(op: u32, a: Value) -> Result<Value, Reason>
     ensures { (c q : Bytes) → worked_of c q result ≡ unary_worked op (value_of c q a) }
 {
     match op {
@@ -92,11 +88,12 @@ fn unary(op: u32, a: Value) -> Worked
         10 => arithmetic::ident(a),
         11 => arithmetic::neg(a),
         12 => arithmetic::sqrt(a),
-        _ => Worked::NotWorkedOut,
+        _ => Err(Reason::NotWorkedOut),
     }
 }
 
-fn binary(catalog: &[u8], statement: &[u8], op: u32, a: Value, b: Value) -> Worked
+#[tactic(auto, unfolding(crate::specs::Codes::binary_worked, crate::specs::Codes::binary_at, crate::specs::Codes::applied, numbers::specs::Codes::coded, numbers::specs::Reasons::reason_of, rules::specs::Operators::binary_of, value::specs::Values::worked_of))]
+fn binary(catalog: &[u8], statement: &[u8], op: u32, a: Value, b: Value) -> Result<Value, Reason>
     ensures { worked_of catalog.now statement.now result ≡ binary_worked op (value_of catalog.now statement.now a) (value_of catalog.now statement.now b) }
 {
     match op {
@@ -115,7 +112,7 @@ fn binary(catalog: &[u8], statement: &[u8], op: u32, a: Value, b: Value) -> Work
         28 => comparison::ge(catalog, statement, a, b),
         29 => comparison::le(catalog, statement, a, b),
         30 => comparison::ne(catalog, statement, a, b),
-        _ => Worked::NotWorkedOut,
+        _ => Err(Reason::NotWorkedOut),
     }
 }
 
