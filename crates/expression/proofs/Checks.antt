@@ -24,11 +24,13 @@ use Rattle.ast.specs.Operands.{operands_of, kind_at, operands_at, operands-at, o
 use Rattle.ast.specs.Operands.{tree-binary, tree_is, tree-literal, tree-column, tree-qualified, no-operands, arguments-none, arguments-more, tree-at}
 use Rattle.ast.specs.Table.{at, rows_at, arguments_at, tree_by, tree_at}
 use Rattle.numbers.specs.Values.{value_at}
-use Rattle.expression.specs.Answers.{map_answer, reason_of}
+use Rattle.expression.specs.Answers.{map_answer, answered}
 use Rattle.expression.specs.Constants.{checked_of, refusal_only, check, first_of, check_all, is_root_call}
-use Rattle.expression.specs.declared.Reason.{Reason}
-use Rattle.expression.specs.declared.constants.Checked.{Checked}
-use Rattle.expression.specs.declared.constants.Checked.TheVariants as Ch
+use Rattle.std.specs.Prelude.{Result, Ok, Err}
+use Rattle.std.specs.Result.{result_and}
+use Rattle.numbers.specs.Reasons.{reason_of}
+use Rattle.numbers.specs.declared.refusals.Reason.{Reason}
+use Rattle.numbers.specs.declared.refusals.Refusal.{Refusal}
 use Rattle.numbers.specs.Codes.{Apart}
 use Rattle.expression.proofs.Rows.{tree-star}
 
@@ -45,22 +47,18 @@ unfolding first_of ◌>>=◌
 first-first (ok a) n = refl
 first-first (refused r) n = refl
 
-module _ (a b : Checked) where
-  pub first-passed : a ≡ Ch.Passed → checked_of b ≡ first_of (checked_of a) (checked_of b)
-  unfolding checked_of first_of ◌>>=◌
-  first-passed e = rw e
-
-  pub first-refused : (k : Reason) (l : ℕ) → a ≡ Ch.Refused k l → checked_of (Ch.Refused k l) ≡ first_of (checked_of a) (checked_of b)
-  unfolding checked_of first_of ◌>>=◌ refuse
-  first-refused k l e = rw e
+pub first-and : (a b : Result (Unit {0}) Refusal) → checked_of (result_and a b) ≡ first_of (checked_of a) (checked_of b)
+unfolding answered first_of ◌>>=◌ refuse
+first-and (Ok a) b = refl
+first-and (Err w) b = refl
 
 -- a test passed or not, of a record at a line
-pub guard_passed : (b : Bool) (n : rule.Reason) (l : ℕ) → b ≡ true → checked_of Ch.Passed ≡ refuse_if (not b) n l
-unfolding checked_of refuse_if
+pub guard_passed : (b : Bool) (n : rule.Reason) (l : ℕ) → b ≡ true → checked_of (Ok tt) ≡ refuse_if (not b) n l
+unfolding answered refuse_if
 guard_passed b n l e = rw e
 
-pub guard-refused : (b : Bool) (k : Reason) (l m : ℕ) → b ≡ false → l ≡ m → checked_of (Ch.Refused k l) ≡ refuse_if (not b) (reason_of k) m
-unfolding checked_of refuse_if
+pub guard-refused : (b : Bool) (k : Reason) (l m : ℕ) → b ≡ false → l ≡ m → checked_of (Err (record { reason = k; line = l })) ≡ refuse_if (not b) (reason_of k) m
+unfolding answered refuse_if
 guard-refused b k l m e g = rw (e, g)
 
 -- A TREE BY ITS ROOT
@@ -166,7 +164,7 @@ module _ (c q : Bytes) (t : List ℕ) (r : ℕ) where
   unfolding is_root_call
   one_argument k a n b h one ha hn e = rw (eq-eqb (at t r 3) 1 (sym h ∙ one), ← ha, ← hn) (sym e)
 
-  pub at_row : (x : Checked) → checked_of x ≡ check (tree_by (tree_at c q t) c q t r) → checked_of x ≡ check (tree_at c q t r)
+  pub at_row : (x : Result (Unit {0}) Refusal) → checked_of x ≡ check (tree_by (tree_at c q t) c q t r) → checked_of x ≡ check (tree_at c q t r)
   at_row x h = h ∙ ap check (sym (tree-at c q t r))
 
 -- OPERANDS IN A ROW
@@ -174,34 +172,34 @@ module _ (f : ℕ → Expr) (t : List ℕ) (n p : ℕ) where
   pub check-start : n ≡ operands_at t p → check_all (arguments_at f t n (p + 1)) ≡ check_all (arguments_at f t (operands_at t p) (suc p))
   check-start h = (λ i. check_all (arguments_at f t (h i) (add-one p i)))
 
-  pub check-end : n ≤ 0 → check_all (arguments_at f t n p) ≡ checked_of Ch.Passed
-  unfolding check_all checked_of
+  pub check-end : n ≤ 0 → check_all (arguments_at f t n p) ≡ checked_of (Ok tt)
+  unfolding check_all answered
   check-end h = rw (arguments-none f t n p h)
 
-  pub check-more : (x : Checked) → x ≡ Ch.Passed → checked_of x ≡ check (f p) → 0 < n
+  pub check-more : (x : Result (Unit {0}) Refusal) → x ≡ Ok tt → checked_of x ≡ check (f p) → 0 < n
       → check_all (arguments_at f t (n - 1) (p + rows_at t p)) ≡ check_all (arguments_at f t n p)
-  unfolding check_all checked_of first_of ◌>>=◌
+  unfolding check_all answered first_of ◌>>=◌
   check-more x e g h = rw (arguments-more f t n p h, ← g, e)
 
-  pub check-stop : (x : Checked) (k : Reason) (l : ℕ) → x ≡ Ch.Refused k l → checked_of x ≡ check (f p) → 0 < n
+  pub check-stop : (x : Result (Unit {0}) Refusal) (w : Refusal) → x ≡ Err w → checked_of x ≡ check (f p) → 0 < n
       → checked_of x ≡ check_all (arguments_at f t n p)
-  unfolding check_all checked_of first_of refuse ◌>>=◌
-  check-stop x k l e g h = rw (arguments-more f t n p h, ← g, e)
+  unfolding check_all answered first_of refuse ◌>>=◌
+  check-stop x w e g h = rw (arguments-more f t n p h, ← g, e)
 
 -- CONSTANTS
-module _ (e : Expr) (x : Checked) where
-  pub constant-passed : x ≡ Ch.Passed → checked_of x ≡ check e → constant e ≡ evaluate e
-  unfolding constant check checked_of refusal_only map_answer ◌>>=◌
+module _ (e : Expr) (x : Result (Unit {0}) Refusal) where
+  pub constant-passed : x ≡ Ok tt → checked_of x ≡ check e → constant e ≡ evaluate e
+  unfolding constant check answered refusal_only map_answer ◌>>=◌
   constant-passed h g = by (build empty e) (ap checked_of (sym h) ∙ g)
     where
       by : (m : Answer Built) → ok tt ≡ refusal_only m → (m >>= λ b. evaluate e) ≡ evaluate e
       by (ok b) k = refl
       by (refused r) k = cc
 
-  pub constant-refused : (k : Reason) (l : ℕ) → x ≡ Ch.Refused k l → checked_of x ≡ check e → refuse (reason_of k) l ≡ constant e
-  unfolding constant check checked_of refusal_only map_answer ◌>>=◌ refuse
-  constant-refused k l h g = by (build empty e) (ap checked_of (sym h) ∙ g)
+  pub constant-refused : (w : Refusal) → x ≡ Err w → checked_of x ≡ check e → refuse (reason_of w.reason) w.line ≡ constant e
+  unfolding constant check answered refusal_only map_answer ◌>>=◌ refuse
+  constant-refused w h g = by (build empty e) (ap checked_of (sym h) ∙ g)
     where
-      by : (m : Answer Built) → refuse (reason_of k) l ≡ refusal_only m → refuse (reason_of k) l ≡ (m >>= λ b. evaluate e)
+      by : (m : Answer Built) → refuse (reason_of w.reason) w.line ≡ refusal_only m → refuse (reason_of w.reason) w.line ≡ (m >>= λ b. evaluate e)
       by (ok b) k = cc
       by (refused r) k = cc

@@ -1,5 +1,4 @@
 -- Laws that the proofs of several functions use.
-mod Codes
 mod Steps
 mod Rows
 mod Checks

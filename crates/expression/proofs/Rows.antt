@@ -24,10 +24,13 @@ use Rattle.ast.specs.Operands.{operands_of, kind_of, kind_at, operands_at, kind-
 use Rattle.ast.specs.Operands.{tree-binary, tree_is, tree-literal, operands-call, operands-unary, operands-binary}
 use Rattle.ast.specs.Operands.{operands-is, no-operands, arguments-none, arguments-more, tree-at}
 use Rattle.ast.specs.Table.{at, rows_at, unary_at, binary_at, arguments_at, tree_by, tree_at}
-use Rattle.expression.specs.Answers.{map_answer, reason_of, answer_of, Evaluates}
-use Rattle.expression.specs.declared.Evaluated.TheVariants as Ev
-use Rattle.expression.specs.declared.Evaluated.{Evaluated}
-use Rattle.expression.specs.declared.Reason.{Reason}
+use Rattle.expression.specs.Answers.{map_answer, answered, answer_of, Evaluates, constant_value, constant_of}
+use Rattle.std.specs.Prelude.{Result, Ok, Err, MatchResult}
+use Rattle.std.specs.Result.{IsOkAnd}
+use Rattle.expression.specs.declared.Constant.{Constant}
+use Rattle.expression.specs.declared.Constant.TheVariants as Co
+use Rattle.numbers.specs.Reasons.{told}
+use Rattle.numbers.specs.declared.refusals.Refusal as code_refusal
 use Rattle.expression.proofs.Steps.{unary-step, root-step, is-step, binary-step, held-refused, first-refused, second-refused, constant-held}
 
 one_none : {n : ℕ} → n ≡ 1 → n ≡ 0 → ⊥
@@ -100,20 +103,20 @@ module _ (f : ℕ → Expr) (c q : Bytes) (t : List ℕ) (r : ℕ) (x : Answer V
     binary-row k w h hk hw hx = rw (tree-binary f c q t r h)
         (hx ∙ (λ i. worked_at (hl i) ((hw ∙ ap (λ (n : ℕ). binary_of (binary_at n) u z) hk) i)) ∙ binary-step (at t r 1) (f (suc r)) u hu (binary_at (at t r 3)) _ z hz)
 
--- a value that the code took out of its answer
-pub taken : (c q : Bytes) (y : Evaluated) (a : code.Value) (e : Expr) → y ≡ Ev.Value a → Evaluates c q y e → Evaluates c q (Ev.Value a) e
-taken c q y a e g h = ap (answer_of c q) (sym g) ∙ h
+-- what a `?` told of an answer
+pub taken : (c q : Bytes) (y z : Result code.Value code_refusal.Refusal) (e : Expr) → y ≡ z → Evaluates c q y e → Evaluates c q z e
+taken c q y z e g h = ap (answer_of c q) (sym g) ∙ h
 
 -- THE TREE AT A ROW, by its operands
 module _ (c q : Bytes) (t : List ℕ) (r : ℕ) where
   abbrev below : ℕ → Expr
   below = tree_at c q t
 
-  pub by_row : (y : Evaluated) → Evaluates c q y (tree_by below c q t r) → Evaluates c q y (tree_at c q t r)
+  pub by_row : (y : Result code.Value code_refusal.Refusal) → Evaluates c q y (tree_by below c q t r) → Evaluates c q y (tree_at c q t r)
   by_row y e = e ∙ ap (λ (x : Expr). map_answer held (evaluate x)) (sym (tree-at c q t r))
 
   -- what the code evaluated at r + 1 is the first operand, and behind its rows the second
-  module _ (y : Evaluated) where
+  module _ (y : Result code.Value code_refusal.Refusal) where
     pub left : Evaluates c q y (below (r + 1)) → Evaluates c q y (below (suc r))
     left h = h ∙ ap (λ (n : ℕ). map_answer held (evaluate (below n))) (add-one r)
 
@@ -122,16 +125,16 @@ module _ (c q : Bytes) (t : List ℕ) (r : ℕ) where
     right n e h = h ∙ ap (λ (m : ℕ). map_answer held (evaluate (below m)))
         (e ∙ ap (λ (m : ℕ). m + rows_at t m) (add-one r))
 
-    module _ (k : Reason) (l : ℕ) (e : y ≡ Ev.Refused k l) where
+    module _ (w : code_refusal.Refusal) (e : y ≡ Err w) where
       abbrev r' : Refusal
-      r' = record { reason = reason_of k; text = statement; line = l }
+      r' = told statement w
 
       refused-is : (a : Expr) → Evaluates c q y a → evaluate a ≡ refused r'
-      unfolding answer_of refuse
+      unfolding answered refuse
       refused-is a h = held-refused (evaluate a) _ (ap (answer_of c q) (sym e) ∙ h)
 
       refused-too : (x : Expr) → evaluate x ≡ refused r' → Evaluates c q y x
-      unfolding answer_of refuse map_answer
+      unfolding answered refuse map_answer
       refused-too x g = ap (answer_of c q) e ∙ ap (map_answer held) (sym g)
 
       pub left-refused : (operands_at t r ≡ 0 → ⊥) → Evaluates c q y (below (r + 1)) → Evaluates c q y (tree_at c q t r)
@@ -139,9 +142,9 @@ module _ (c q : Bytes) (t : List ℕ) (r : ℕ) where
           (first-refused _ (below (suc r)) _ _ (first-operand below c q t r some')
           (refused-is (below (suc r)) (left h))))
 
-      pub right-refused : (a : code.Value) → kind_at t r ≡ 6 → Evaluates c q (Ev.Value a) (below (suc r))
+      pub right-refused : (a : code.Value) → kind_at t r ≡ 6 → Evaluates c q (Ok a) (below (suc r))
           → Evaluates c q y (below (suc r + rows_at t (suc r))) → Evaluates c q y (tree_at c q t r)
-      unfolding answer_of
+      unfolding answered
       right-refused a h g i = by_row y (rw (tree-binary below c q t r h) (refused-too (binary _ _ _ _)
           (second-refused (at t r 1) (below (suc r)) (value_of c q a) g (binary_at (at t r 3))
           (below (suc r + rows_at t (suc r))) _ (refused-is _ i))))
@@ -157,3 +160,11 @@ module _ (c q : Bytes) (t : List ℕ) (r : ℕ) where
       → x ≡ evaluate (tree_at c q t r)
   worked-out x h e = e ∙ constant-held (tree_at c q t r)
       (λ g. h (sym (ap kind_of (tree-at c q t r) ∙ kind-at below c q t r) ∙ g))
+
+-- a value worked out as a constant
+pub constant-mapped : (c q : Bytes) (x : Result code.Value code_refusal.Refusal) (y : Result Constant code_refusal.Refusal)
+    → MatchResult x (λ v. IsOkAnd y (λ k. k ≡ Co.Value v)) (λ e. y ≡ Err e) → constant_of c q y ≡ answer_of c q x
+unfolding answered constant_value
+constant-mapped c q (Ok v) (Ok k) m = ap (λ (k : Constant). constant_of c q (Ok k)) m
+constant-mapped c q (Ok v) (Err e) m = elim m [ ]
+constant-mapped c q (Err w) y m = ap (constant_of c q) m

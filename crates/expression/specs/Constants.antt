@@ -1,20 +1,18 @@
 -- What the answer about building a constant's expression means: the first refusal of building over the empty scope.
-use Rattle.std.specs.Prelude.{ℕ, Bool, ◌&&◌, List, eqb}
+use Rattle.std.specs.Prelude.{ℕ, Bool, ◌&&◌, List, eqb, Result}
 use Rattle.rules.specs.Lists.{Bytes, same}
 use Rattle.rules.specs.Lines.{bytes}
 use Rattle.rules.specs.Places.{bytes_at}
-use Rattle.rules.specs.Refusals.{Answer, ok, ◌>>◌, refuse}
+use Rattle.rules.specs.Refusals.{Answer, ok, ◌>>◌}
 use Rattle.rules.specs.Ast.{Expr, Exprs, nil, cons}
 use Rattle.rules.specs.Scope.{empty}
 use Rattle.rules.specs.BuildExpression.{build}
 use Rattle.ast.specs.Table.{at}
-use Rattle.expression.specs.Answers.{map_answer, reason_of}
-use Rattle.expression.specs.declared.constants.Checked.{Checked}
-use Rattle.expression.specs.declared.constants.Checked.TheVariants as Ch
+use Rattle.numbers.specs.declared.refusals.Refusal.{Refusal}
+use Rattle.expression.specs.Answers.{map_answer, answered}
 
-unfoldable pub checked_of : Checked → Answer (Unit {0})
-checked_of Ch.Passed = ok tt
-checked_of (Ch.Refused n l) = refuse (reason_of n) l
+abbrev pub checked_of : Result (Unit {0}) Refusal → Answer (Unit {0})
+checked_of x = answered (λ t. t) x
 
 -- an answer, but for its value
 unfoldable pub refusal_only : {A : Type 0} → Answer A → Answer (Unit {0})

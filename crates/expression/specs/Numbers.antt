@@ -1,5 +1,5 @@
 -- What the answers about a constant's numbers mean.
-use Rattle.std.specs.Prelude.{ℕ, List, [], ◌∷◌, ◌≡◌, refl}
+use Rattle.std.specs.Prelude.{ℕ, List, [], ◌∷◌, ◌≡◌, refl, Option, Some, None}
 use Rattle.std.proofs.Math.Option.{some}
 use Rattle.rules.specs.Refusals as rule
 use Rattle.rules.specs.Refusals.{Answer, ok, refused, ◌>>=◌, refuse}
@@ -8,16 +8,12 @@ use Rattle.rules.specs.Ast.{Clause}
 use Rattle.rules.specs.Plan.{Built, Node}
 use Rattle.rules.specs.BuildExpression.{constant}
 use Rattle.rules.specs.BuildSelect.{natural, build_rows}
-use Rattle.expression.specs.Answers.{reason_of}
-use Rattle.expression.specs.declared.planned.Natural.{Natural}
-use Rattle.expression.specs.declared.planned.Natural.TheVariants as Na
 use Rattle.expression.specs.declared.planned.Numbers.{Numbers}
 
 -- for a clause at line l that refuses by r what is no number of 0 or more
-unfoldable pub natural_of : rule.Reason → ℕ → Natural → Answer ℕ
-natural_of r l (Na.Number n) = ok n
-natural_of r l Na.Invalid = refuse r l
-natural_of r l (Na.Refused k m) = refuse (reason_of k) m
+unfoldable pub natural_of : rule.Reason → ℕ → Option ℕ → Answer ℕ
+natural_of r l (Some n) = ok n
+natural_of r l None = refuse r l
 
 unfoldable pub natural_in : rule.Reason → ℕ → Answer Value → Answer ℕ
 natural_in r l m = m >>= natural r l

@@ -9,56 +9,40 @@ ghost use Rattle.ast.specs.Table.{at, arguments_at, tree_by, tree_at};
 ghost use Rattle.numbers.specs.Values.{value_at};
 ghost use Rattle.ast.specs.Operands.{operands_at};
 ghost use Rattle.expression.specs.Answers.{constant_of};
-ghost use Rattle.expression.specs.Constants.{checked_of, check, first_of, check_all, is_root_call};
+ghost use Rattle.expression.specs.Constants.{checked_of, check, check_all, is_root_call};
 
-use crate::{Constant, Reason, evaluate_constant};
+use crate::{Constant, evaluate_constant};
 use ast::rows;
 use numbers::literals::is_null_or_nan;
-
-// Whether an expression can be built over the empty scope: it can, or the first refusal and its line.
-#[derive(Clone, Copy)]
-pub enum Checked {
-    Passed,
-    Refused(Reason, u32),
-}
-
-// The first refusal of two.
-fn first_of(a: Checked, b: Checked) -> Checked
-    ensures { checked_of result ≡ first_of (checked_of a) (checked_of b) }
-{
-    match a {
-        Checked::Passed => b,
-        Checked::Refused(n, line) => Checked::Refused(n, line),
-    }
-}
+use numbers::refusals::{Reason, Refusal};
 
 // `is` takes a null or a NaN.
-fn check_is(table: &[u32], r: usize) -> Checked
+fn check_is(table: &[u32], r: usize) -> Result<(), Refusal>
     ensures { (c q : Bytes) → checked_of result ≡ refuse_if (not (is_null_or_nan (value_at c q (at table.now r 3) (at table.now r 4) (at table.now r 5)))) invalid_is (at table.now r 1) }
 {
     let k = rows::at(table, r, 3);
     let a = rows::at(table, r, 4);
     let b = rows::at(table, r, 5);
     if is_null_or_nan(k, a, b) {
-        return Checked::Passed;
+        return Ok(());
     }
-    Checked::Refused(Reason::InvalidIs, rows::at(table, r, 1))
+    Err(Reason::InvalidIs.at(rows::at(table, r, 1)))
 }
 
 // The one function is `sqrt`, of one argument.
-fn check_call(catalog: &[u8], statement: &[u8], table: &[u32], r: usize) -> Checked
+fn check_call(catalog: &[u8], statement: &[u8], table: &[u32], r: usize) -> Result<(), Refusal>
     ensures { checked_of result ≡ refuse_if (not (is_root_call catalog.now statement.now table.now r)) unknown_function (at table.now r 1) }
 {
     let line = rows::at(table, r, 1);
     if rows::at(table, r, 3) != 1 {
-        return Checked::Refused(Reason::UnknownFunction, line);
+        return Err(Reason::UnknownFunction.at(line));
     }
     let a = rows::at(table, r, 4);
     let n = rows::at(table, r, 5);
     if text::places::holds_at(catalog, statement, a, n, b"sqrt") {
-        return Checked::Passed;
+        return Ok(());
     }
-    Checked::Refused(Reason::UnknownFunction, line)
+    Err(Reason::UnknownFunction.at(line))
 }
 
 // A record, the first refusal of its operands given: 13 comes before that, 29 after it.
@@ -67,56 +51,58 @@ fn check_record(
     statement: &[u8],
     table: &[u32],
     r: usize,
-    operands: Checked,
-) -> Checked
+    operands: Result<(), Refusal>,
+) -> Result<(), Refusal>
     ensures { (f : ℕ → rule.Expr) → checked_of operands ≡ check_all (arguments_at f table.now (operands_at table.now r) (suc r)) → checked_of result ≡ check (tree_by f catalog.now statement.now table.now r) }
 {
     let k = rows::kind(table, r);
+    let line = rows::at(table, r, 1);
     match k {
-        2 => Checked::Refused(Reason::ConstantOnly, rows::at(table, r, 1)),
-        3 => Checked::Refused(Reason::ConstantOnly, rows::at(table, r, 1)),
-        4 => {
-            let call = check_call(catalog, statement, table, r);
-            first_of(call, operands)
-        }
+        2 => Err(Reason::ConstantOnly.at(line)),
+        3 => Err(Reason::ConstantOnly.at(line)),
+        4 => check_call(catalog, statement, table, r).and(operands),
         5 => operands,
         6 => operands,
-        7 => {
-            let literal = check_is(table, r);
-            first_of(operands, literal)
-        }
-        8 => Checked::Passed,
-        _ => Checked::Refused(Reason::UnsupportedStar, rows::at(table, r, 1)),
+        7 => operands.and(check_is(table, r)),
+        8 => Ok(()),
+        _ => Err(Reason::UnsupportedStar.at(line)),
     }
 }
 
 // The first refusal of building the tree at a row over the empty scope, its operands left to right.
-pub fn check_constant(catalog: &[u8], statement: &[u8], table: &[u32], r: usize) -> Checked
+pub fn check_constant(
+    catalog: &[u8],
+    statement: &[u8],
+    table: &[u32],
+    r: usize,
+) -> Result<(), Refusal>
     ensures { checked_of result ≡ check (tree_at catalog.now statement.now table.now r) }
 {
     let mut left = rows::operands(table, r);
     if left == 0 {
-        return check_record(catalog, statement, table, r, Checked::Passed);
+        return check_record(catalog, statement, table, r, Ok(()));
     }
     let mut p = r + 1;
     while 0 < left {
         let operand = check_constant(catalog, statement, table, p);
-        let Checked::Passed = operand else {
+        let Ok(()) = operand else {
             return check_record(catalog, statement, table, r, operand);
         };
         p = rows::next(table, p);
         left -= 1;
     }
-    check_record(catalog, statement, table, r, Checked::Passed)
+    check_record(catalog, statement, table, r, Ok(()))
 }
 
 // The value of the tree at a row, or its first refusal: of building before any of working out.
-pub fn build_constant_value(catalog: &[u8], statement: &[u8], table: &[u32], r: usize) -> Constant
+pub fn build_constant_value(
+    catalog: &[u8],
+    statement: &[u8],
+    table: &[u32],
+    r: usize,
+) -> Result<Constant, Refusal>
     ensures { constant_of catalog.now statement.now result ≡ constant (tree_at catalog.now statement.now table.now r) }
 {
-    let checked = check_constant(catalog, statement, table, r);
-    match checked {
-        Checked::Passed => evaluate_constant(catalog, statement, table, r),
-        Checked::Refused(n, line) => Constant::Refused(n, line),
-    }
+    check_constant(catalog, statement, table, r)?;
+    evaluate_constant(catalog, statement, table, r)
 }

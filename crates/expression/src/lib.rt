@@ -5,90 +5,52 @@ pub mod constants;
 pub mod operators;
 pub mod planned;
 
-ghost use Rattle.std.specs.Prelude.{◌≡◌, ℕ, suc, ◌+◌};
+ghost use Rattle.std.specs.Prelude.{◌≡◌, ℕ, suc, ◌+◌, Ok};
 ghost use Rattle.rules.specs.Lists.{Bytes};
-ghost use Rattle.numbers.specs.Reasons.{named};
 ghost use Rattle.rules.specs.Ast as ast;
 ghost use Rattle.rules.specs.Evaluate.{evaluate};
 ghost use Rattle.value.specs.Values.{held};
 ghost use Rattle.ast.specs.Table.{rows_at, tree_by, tree_at};
 ghost use Rattle.ast.specs.Operands.{kind_at, operands_at};
-ghost use Rattle.expression.specs.Answers.{map_answer, reason_of, answer_of, Evaluates, constant_of};
-ghost use Rattle.expression.specs.declared.Evaluated.TheVariants as Ev;
+ghost use Rattle.expression.specs.Answers.{map_answer, answer_of, Evaluates, constant_of};
 
 use ast::rows;
+use numbers::refusals::{Reason, Refusal};
 use value::{Value, arithmetic, literals};
-
-// Why an expression has no value.
-#[derive(Clone, Copy)]
-pub enum Reason {
-    ConstantOnly,
-    UnsupportedStar,
-    UnknownFunction,
-    Overflow,
-    DividedByZero,
-    WrongOperand,
-    NotWorkedOut,
-    InvalidIs,
-}
-
-// What working out an expression gives: its value, or a reason and the line of the record where it arose.
-#[derive(Clone, Copy)]
-pub enum Evaluated {
-    Value(Value),
-    Refused(Reason, u32),
-}
 
 // The value of a constant: a bare literal by its kind and two numbers, its bits kept; or a value worked out.
 #[derive(Clone, Copy)]
 pub enum Constant {
     Literal(u32, u32, u32),
     Value(Value),
-    Refused(Reason, u32),
-}
-
-// The same among document 01's refusals.
-pub fn to_reason(n: Reason) -> numbers::refusals::Reason
-    ensures { result ≡ named (reason_of n) }
-{
-    match n {
-        Reason::ConstantOnly => numbers::refusals::Reason::ConstantOnly,
-        Reason::UnsupportedStar => numbers::refusals::Reason::UnsupportedStar,
-        Reason::UnknownFunction => numbers::refusals::Reason::UnknownFunction,
-        Reason::Overflow => numbers::refusals::Reason::IntegerOverflow,
-        Reason::DividedByZero => numbers::refusals::Reason::DivisionByZero,
-        Reason::WrongOperand => numbers::refusals::Reason::WrongOperand,
-        Reason::NotWorkedOut => numbers::refusals::Reason::NotWorkedOut,
-        Reason::InvalidIs => numbers::refusals::Reason::InvalidIs,
-    }
 }
 
 // A record with no operand.
-fn leaf(table: &[u32], r: usize) -> Evaluated
+fn leaf(table: &[u32], r: usize) -> Result<Value, Refusal>
     requires { operands_at table.now r ≡ 0 }
     ensures { (f : ℕ → ast.Expr) (c q : Bytes) → Evaluates c q result (tree_by f c q table.now r) }
 {
     let k = rows::kind(table, r);
     let line = rows::at(table, r, 1);
     match k {
-        2 => Evaluated::Refused(Reason::ConstantOnly, line),
-        3 => Evaluated::Refused(Reason::ConstantOnly, line),
-        4 => Evaluated::Refused(Reason::UnknownFunction, line),
+        2 => Err(Reason::ConstantOnly.at(line)),
+        3 => Err(Reason::ConstantOnly.at(line)),
+        4 => Err(Reason::UnknownFunction.at(line)),
         8 => {
             let v = rows::at(table, r, 3);
             let a = rows::at(table, r, 4);
             let b = rows::at(table, r, 5);
-            Evaluated::Value(literals::literal(v, a, b))
+            Ok(literals::literal(v, a, b))
         }
-        _ => Evaluated::Refused(Reason::UnsupportedStar, line),
+        _ => Err(Reason::UnsupportedStar.at(line)),
     }
 }
 
 // A record whose first operand has the value a, and which is no binary operator: a call, a unary operator or `is`.
-fn first_operand(table: &[u32], r: usize, a: Value) -> Evaluated
+fn first_operand(table: &[u32], r: usize, a: Value) -> Result<Value, Refusal>
     requires fact { operands_at table.now r ≡ 0 → ⊥ }
     requires fact_2 { kind_at table.now r ≡ 6 → ⊥ }
-    ensures { (f : ℕ → ast.Expr) (c q : Bytes) → Evaluates c q (Ev.Value a) (f (suc r)) → Evaluates c q result (tree_by f c q table.now r) }
+    ensures { (f : ℕ → ast.Expr) (c q : Bytes) → Evaluates c q (Ok a) (f (suc r)) → Evaluates c q result (tree_by f c q table.now r) }
 {
     let k = rows::kind(table, r);
     let line = rows::at(table, r, 1);
@@ -107,9 +69,9 @@ fn both_operands(
     r: usize,
     a: Value,
     b: Value,
-) -> Evaluated
+) -> Result<Value, Refusal>
     requires { kind_at table.now r ≡ 6 }
-    ensures { (f : ℕ → ast.Expr) → Evaluates catalog.now statement.now (Ev.Value a) (f (suc r)) → Evaluates catalog.now statement.now (Ev.Value b) (f (suc r + rows_at table.now (suc r))) → Evaluates catalog.now statement.now result (tree_by f catalog.now statement.now table.now r) }
+    ensures { (f : ℕ → ast.Expr) → Evaluates catalog.now statement.now (Ok a) (f (suc r)) → Evaluates catalog.now statement.now (Ok b) (f (suc r + rows_at table.now (suc r))) → Evaluates catalog.now statement.now result (tree_by f catalog.now statement.now table.now r) }
 {
     let code = rows::at(table, r, 3);
     let w = operators::binary(catalog, statement, code, a, b);
@@ -117,7 +79,7 @@ fn both_operands(
 }
 
 // The value of the tree at a row: both operands are worked out, the left one first.
-pub fn evaluate(catalog: &[u8], statement: &[u8], table: &[u32], r: usize) -> Evaluated
+pub fn evaluate(catalog: &[u8], statement: &[u8], table: &[u32], r: usize) -> Result<Value, Refusal>
     ensures { answer_of catalog.now statement.now result ≡ map_answer held (evaluate (tree_at catalog.now statement.now table.now r)) }
 {
     if rows::operands(table, r) == 0 {
@@ -125,33 +87,28 @@ pub fn evaluate(catalog: &[u8], statement: &[u8], table: &[u32], r: usize) -> Ev
     }
     let left = r + 1;
     let right = rows::next(table, left);
-    let first = evaluate(catalog, statement, table, left);
-    let Evaluated::Value(a) = first else {
-        return first;
-    };
+    let a = evaluate(catalog, statement, table, left)?;
     if rows::kind(table, r) != 6 {
         return first_operand(table, r, a);
     }
-    let second = evaluate(catalog, statement, table, right);
-    let Evaluated::Value(b) = second else {
-        return second;
-    };
+    let b = evaluate(catalog, statement, table, right)?;
     both_operands(catalog, statement, table, r, a, b)
 }
 
 // The value of a constant: a bare literal keeps its bits, a NaN's too.
-pub fn evaluate_constant(catalog: &[u8], statement: &[u8], table: &[u32], r: usize) -> Constant
+pub fn evaluate_constant(
+    catalog: &[u8],
+    statement: &[u8],
+    table: &[u32],
+    r: usize,
+) -> Result<Constant, Refusal>
     ensures { constant_of catalog.now statement.now result ≡ evaluate (tree_at catalog.now statement.now table.now r) }
 {
     if rows::kind(table, r) == 8 {
         let k = rows::at(table, r, 3);
         let a = rows::at(table, r, 4);
         let b = rows::at(table, r, 5);
-        return Constant::Literal(k, a, b);
+        return Ok(Constant::Literal(k, a, b));
     }
-    let e = evaluate(catalog, statement, table, r);
-    match e {
-        Evaluated::Value(v) => Constant::Value(v),
-        Evaluated::Refused(n, line) => Constant::Refused(n, line),
-    }
+    evaluate(catalog, statement, table, r).map(Constant::Value)
 }

@@ -8,23 +8,19 @@ ghost use Rattle.value.specs.Values.{value_of, worked_of};
 ghost use Rattle.ast.specs.Table.{unary_at, binary_at};
 ghost use Rattle.expression.specs.Answers.{answer_of};
 
-use crate::{Evaluated, Reason};
-use value::{Value, Worked, arithmetic, comparison, logic};
+use numbers::refusals::{Reason, Refusal};
+use value::{Value, arithmetic, comparison, logic};
 
 // What an operator gave, for a record at a line.
-pub fn worked_at(w: Worked, line: u32) -> Evaluated
+#[tactic(auto, unfolding(crate::specs::Answers::answered, rules::specs::Evaluate::worked_at, value::specs::Values::worked_of))]
+pub fn worked_at(w: Result<Value, Reason>, line: u32) -> Result<Value, Refusal>
     ensures { (c q : Bytes) → answer_of c q result ≡ worked_at line (worked_of c q w) }
 {
-    match w {
-        Worked::Value(v) => Evaluated::Value(v),
-        Worked::Overflow => Evaluated::Refused(Reason::Overflow, line),
-        Worked::DividedByZero => Evaluated::Refused(Reason::DividedByZero, line),
-        Worked::WrongOperand => Evaluated::Refused(Reason::WrongOperand, line),
-        Worked::NotWorkedOut => Evaluated::Refused(Reason::NotWorkedOut, line),
-    }
+    w.map_err(|reason| reason.at(line))
 }
 
-pub fn unary(code: u32, a: Value) -> Worked
+#[tactic(auto, unfolding(ast::specs::Table::unary_at, numbers::specs::Codes::coded))]
+pub fn unary(code: u32, a: Value) -> Result<Value, Reason>
     ensures { (c q : Bytes) → worked_of c q result ≡ unary_of (unary_at code) (value_of c q a) }
 {
     match code {
@@ -37,7 +33,14 @@ pub fn unary(code: u32, a: Value) -> Worked
 }
 
 // Each operand is worked out once, before: `ge`, `le` and `ne` are one comparison.
-pub fn binary(catalog: &[u8], statement: &[u8], code: u32, a: Value, b: Value) -> Worked
+#[tactic(auto, unfolding(ast::specs::Table::binary_at, numbers::specs::Codes::coded, rules::specs::Operators::binary_of))]
+pub fn binary(
+    catalog: &[u8],
+    statement: &[u8],
+    code: u32,
+    a: Value,
+    b: Value,
+) -> Result<Value, Reason>
     ensures { worked_of catalog.now statement.now result ≡ binary_of (binary_at code) (value_of catalog.now statement.now a) (value_of catalog.now statement.now b) }
 {
     match code {
@@ -60,14 +63,15 @@ pub fn binary(catalog: &[u8], statement: &[u8], code: u32, a: Value, b: Value) -
 }
 
 // `is` with a literal of kind k, in a record at a line: a null, or a NaN; any other is 29.
-pub fn is(k: u32, a: Value, line: u32) -> Evaluated
+#[tactic(auto, unfolding(crate::specs::Answers::answered, numbers::specs::Codes::coded, numbers::specs::Reasons::reason_of, numbers::specs::Values::value_at, rules::specs::Evaluate::worked_at, rules::specs::Operators::is_of))]
+pub fn is(k: u32, a: Value, line: u32) -> Result<Value, Refusal>
     ensures { (x y : ℕ) (c q : Bytes) → answer_of c q result ≡ worked_at line (is_of (value_at c q k x y) (value_of c q a)) }
 {
     match k {
-        2 => Evaluated::Refused(Reason::InvalidIs, line),
-        3 => Evaluated::Refused(Reason::InvalidIs, line),
+        2 => Err(Reason::InvalidIs.at(line)),
+        3 => Err(Reason::InvalidIs.at(line)),
         4 => worked_at(comparison::is_nan(a), line),
-        5 => Evaluated::Refused(Reason::InvalidIs, line),
+        5 => Err(Reason::InvalidIs.at(line)),
         _ => worked_at(comparison::is_null(a), line),
     }
 }

@@ -7,47 +7,32 @@ ghost use Rattle.rules.specs.Area as area;
 ghost use Rattle.rules.specs.Area.{value_numbers};
 ghost use Rattle.value.specs.Values.{value_of};
 ghost use Rattle.numbers.specs.Values.{value_at};
-ghost use Rattle.expression.specs.Answers.{constant_of};
-ghost use Rattle.expression.specs.Numbers.{natural_of, natural_in, numbers_of};
+ghost use Rattle.expression.specs.Answers.{constant_value};
+ghost use Rattle.expression.specs.Numbers.{natural_of, numbers_of};
 
-use crate::{Constant, Reason};
+use crate::Constant;
 use numbers::halves::{high, low};
 use text::lengths::length_at;
 use value::Value;
 
-// What OFFSET and LIMIT take of a constant: a number of 0 or more; no such number; or the constant's own refusal.
-#[derive(Clone, Copy)]
-pub enum Natural {
-    Number(u64),
-    Invalid,
-    Refused(Reason, u32),
-}
-
-fn value_natural(v: Value) -> Natural
+#[tactic(auto, unfolding(crate::specs::Numbers::natural_of, rules::specs::BuildSelect::natural, value::specs::Values::value_of))]
+fn value_natural(v: Value) -> Option<u64>
     ensures { (r : rule.Reason) (l : ℕ) (c q : Bytes) → natural_of r l result ≡ natural r l (value_of c q v) }
 {
     match v {
-        Value::Null => Natural::Invalid,
-        Value::Bool(_) => Natural::Invalid,
-        Value::Int(n) => {
-            if 0 <= n {
-                return Natural::Number(ints::bits::to_bits(n));
-            }
-            Natural::Invalid
-        }
-        Value::Float(_) => Natural::Invalid,
-        Value::Text(_, _) => Natural::Invalid,
+        Value::Int(n) => u64::try_from(n).ok(),
+        _ => None,
     }
 }
 
 // The number of 0 or more that a constant is.
-pub fn to_natural(constant: Constant) -> Natural
-    ensures { (r : rule.Reason) (l : ℕ) (c q : Bytes) → natural_of r l result ≡ natural_in r l (constant_of c q constant) }
+#[tactic(auto, unfolding(crate::specs::Answers::constant_value, rules::specs::BuildSelect::natural, value::specs::Values::held))]
+pub fn to_natural(constant: Constant) -> Option<u64>
+    ensures { (r : rule.Reason) (l : ℕ) (c q : Bytes) → natural_of r l result ≡ natural r l (constant_value c q constant) }
 {
     match constant {
         Constant::Literal(k, a, b) => value_natural(value::literals::literal(k, a, b)),
         Constant::Value(v) => value_natural(v),
-        Constant::Refused(n, line) => Natural::Refused(n, line),
     }
 }
 
@@ -60,20 +45,15 @@ pub struct Numbers {
 }
 
 // 64 bits, low half first.
+#[tactic(auto, unfolding(crate::specs::Numbers::numbers_of, rules::specs::Area::halves))]
 fn halves(kind: u32, n: u64) -> Numbers
     ensures { numbers_of result ≡ kind ∷ (area.halves n ++ (0 ∷ [])) }
 {
     Numbers {
-        kind: kind,
+        kind,
         first: low(n),
         second: high(n),
     }
-}
-
-fn flag(b: bool) -> u32
-    ensures { result ≡ area.flag b }
-{
-    if b { 1 } else { 0 }
 }
 
 // The numbers of a literal of kind k.
@@ -83,7 +63,7 @@ pub fn literal_numbers(catalog: &[u8], statement: &[u8], k: u32, a: u32, b: u32)
     match k {
         2 => Numbers {
             kind: 2,
-            first: flag(a == 1),
+            first: (a == 1) as u32,
             second: 0,
         },
         3 => Numbers {
@@ -110,6 +90,7 @@ pub fn literal_numbers(catalog: &[u8], statement: &[u8], k: u32, a: u32, b: u32)
 }
 
 // The numbers of a value that was worked out.
+#[tactic(auto, unfolding(crate::specs::Numbers::numbers_of, rules::specs::Area::value_numbers, rules::specs::Area::flag, rules::specs::Area::span, rules::specs::Places::word_at, value::specs::Values::value_of))]
 pub fn value_numbers(catalog: &[u8], statement: &[u8], v: Value) -> Numbers
     ensures { numbers_of result ≡ value_numbers (value_of catalog.now statement.now v) }
 {
@@ -121,7 +102,7 @@ pub fn value_numbers(catalog: &[u8], statement: &[u8], v: Value) -> Numbers
         },
         Value::Bool(b) => Numbers {
             kind: 2,
-            first: flag(b),
+            first: b as u32,
             second: 0,
         },
         Value::Int(n) => halves(3, ints::bits::to_bits(n)),

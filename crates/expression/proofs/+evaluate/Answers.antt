@@ -1,5 +1,6 @@
 -- `expression::evaluate` meets its contract: what is left of the table falls with each call.
-use mathlib.Core.Path.{sym, ◌∙◌}
+use Rattle.std.proofs.Common.{refl, sym, ◌∙◌}
+use Rattle.std.proofs.lemmas.Result.{err_from_is_err_and}
 use native.Mathlib.Omega.{arith}
 use Rattle.ast.specs.Operands.{operands-inside}
 use Rattle.expression.proofs.Rows.{by_row, left, right, left-refused, right-refused, taken}
@@ -11,28 +12,28 @@ returns-then-operands-eq0 t c = by_row _ _ _ _ _ (c.leaf.ensures _ _ _)
 pub overflow_add-left : goal.overflow_add-left
 overflow_add-left t c = omega (arith, operands-inside _ _ (λ e. c.if-operands-eq0.false (c.operands.ensures ∙ e)))
 
-pub evaluate-first-requires : goal.evaluate-first-requires
-evaluate-first-requires t c = (omega (arith, operands-inside _ _ (λ e. c.if-operands-eq0.false (c.operands.ensures ∙ e))), tt)
+pub evaluate-requires : goal.evaluate-requires
+evaluate-requires t c = (omega (arith, operands-inside _ _ (λ e. c.if-operands-eq0.false (c.operands.ensures ∙ e))), tt)
 
-pub returns-in_default : goal.returns-in_default
-returns-in_default t c = left-refused _ _ _ _ _ _ _ c.in_default.is
-    (λ e. c.if-operands-eq0.false (c.operands.ensures ∙ e)) c.evaluate-first.ensures
+pub returns-in_err-a : goal.returns-in_err-a
+returns-in_err-a t c = let p = err_from_is_err_and c.from_residual.result c.from_residual.ensures.1 in
+    rw (p.1, p.2) (left-refused _ _ _ _ _ _ refl (λ e. c.if-operands-eq0.false (c.operands.ensures ∙ e)) (taken _ _ _ _ _ c.in_err-a.was c.evaluate.ensures))
 
 pub returns-then-kind-ne6 : goal.returns-then-kind-ne6
 returns-then-kind-ne6 t c =
-    by_row _ _ _ _ _ (c.first_operand.ensures _ _ _ (taken _ _ _ _ _ c.in-Value.is (left _ _ _ _ _ c.evaluate-first.ensures)))
+    by_row _ _ _ _ _ (c.first_operand.ensures _ _ _ (taken _ _ _ _ _ c.in_ok-a.was (left _ _ _ _ _ c.evaluate.ensures)))
 
-pub evaluate-second-requires : goal.evaluate-second-requires
-evaluate-second-requires t c = (omega (arith, c.next-right.ensures, operands-inside _ _ (λ e. c.if-operands-eq0.false (c.operands.ensures ∙ e))), tt)
+pub evaluate-requires-2 : goal.evaluate-requires-2
+evaluate-requires-2 t c = (omega (arith, c.next-right.ensures, operands-inside _ _ (λ e. c.if-operands-eq0.false (c.operands.ensures ∙ e))), tt)
 
-pub returns-in_default-second : goal.returns-in_default-second
-returns-in_default-second t c =
-    right-refused _ _ _ _ _ _ _ c.in_default-second.is _ (sym c.kind.ensures ∙ c.if-kind-ne6.false)
-    (taken _ _ _ _ _ c.in-Value.is (left _ _ _ _ _ c.evaluate-first.ensures))
-    (right _ _ _ _ _ _ c.next-right.ensures c.evaluate-second.ensures)
+pub returns-in_err-b : goal.returns-in_err-b
+returns-in_err-b t c = let p = err_from_is_err_and c.from_residual-in_err-b.result c.from_residual-in_err-b.ensures.1 in
+    rw (p.1, p.2) (right-refused _ _ _ _ _ _ refl _ (sym c.kind.ensures ∙ c.if-kind-ne6.false)
+    (taken _ _ _ _ _ c.in_ok-a.was (left _ _ _ _ _ c.evaluate.ensures))
+    (taken _ _ _ _ _ c.in_err-b.was (right _ _ _ _ _ _ c.next-right.ensures c.evaluate-2.ensures)))
 
 pub returns : goal.returns
 returns t c =
     by_row _ _ _ _ _ (c.both_operands.ensures _
-    (taken _ _ _ _ _ c.in-Value.is (left _ _ _ _ _ c.evaluate-first.ensures))
-    (taken _ _ _ _ _ c.in-Value-second.is (right _ _ _ _ _ _ c.next-right.ensures c.evaluate-second.ensures)))
+    (taken _ _ _ _ _ c.in_ok-a.was (left _ _ _ _ _ c.evaluate.ensures))
+    (taken _ _ _ _ _ c.in_ok-b.was (right _ _ _ _ _ _ c.next-right.ensures c.evaluate-2.ensures)))

@@ -1,9 +1,9 @@
 -- `expression::both_operands` meets its contract.
-use Rattle.expression.specs.Answers.{answer_of}
+use Rattle.expression.specs.Answers.{answered}
 use Rattle.expression.proofs.Rows.{binary-row}
 use Rattle.expression.proofs.both_operands.Goals as goal
 
 pub returns : goal.returns
-unfolding answer_of
+unfolding answered
 returns c = λ f h k. binary-row f _ _ _ _ _ _ _ c.at.ensures h _ k _ _ c.requires c.at-code.ensures
     c.binary-w.ensures (c.worked_at.ensures _ _)

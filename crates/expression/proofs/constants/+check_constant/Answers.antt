@@ -21,14 +21,14 @@ loop-left-init t c = (
 
 pub returns-in_default : goal.returns-in_default
 returns-in_default t c = at_row _ _ _ _ _ (c.check_record-in_default.ensures _
-    (check-stop _ _ _ _ _ _ _ c.in_default.is c.check_constant-operand.ensures c.loop-left-test.true
+    (check-stop _ _ _ _ _ _ c.in_default.is c.check_constant-operand.ensures c.loop-left-test.true
     ∙ c.loop-left.invariant.2))
 
 pub loop-left-preserved : goal.loop-left-preserved
 loop-left-preserved t c = let here = c in rw c.next-p.ensures (
   omega arith,
   here.loop-left.invariant.1,
-  check-more _ _ _ _ _ c.in-Passed.is c.check_constant-operand.ensures c.loop-left-test.true
+  check-more _ _ _ _ _ c.in-Ok.is c.check_constant-operand.ensures c.loop-left-test.true
       ∙ here.loop-left.invariant.2,
 )
 

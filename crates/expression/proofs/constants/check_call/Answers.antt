@@ -1,14 +1,14 @@
 -- `expression::constants::check_call` meets its contract.
 use mathlib.Core.Path.{◌∙◌}
 use Rattle.rules.specs.Lines.{bytes}
-use Rattle.expression.specs.declared.Reason.TheVariants.{UnknownFunction}
-use Rattle.expression.specs.Answers.{reason_of}
+use Rattle.numbers.specs.declared.refusals.Reason.TheVariants.{UnknownFunction}
+use Rattle.numbers.specs.Reasons.{reason_of}
 use Rattle.expression.proofs.Checks.{guard_passed, guard-refused, other-count, one_argument}
 use Rattle.expression.proofs.constants.check_call.Goals as goal
 
 pub returns-then-at-ne1 : goal.returns-then-at-ne1
 unfolding reason_of
-returns-then-at-ne1 c = guard-refused _ UnknownFunction _ _ (other-count _ _ _ _ _ c.at.ensures c.if-at-ne1.true) c.at-line.ensures
+returns-then-at-ne1 c = rw c.at-then-at-ne1.ensures (guard-refused _ UnknownFunction _ _ (other-count _ _ _ _ _ c.at.ensures c.if-at-ne1.true) c.at-line.ensures)
 
 pub returns-then-holds_at : goal.returns-then-holds_at
 unfolding bytes
@@ -18,6 +18,6 @@ returns-then-holds_at c = guard_passed _ _ _ (one_argument _ _ _ _ _ _ _ _ c.at.
 
 pub returns : goal.returns
 unfolding reason_of bytes
-returns c = guard-refused _ UnknownFunction _ _ (one_argument _ _ _ _ _ _ _ _ c.at.ensures c.if-at-ne1.false
+returns c = rw c.at-2.ensures (guard-refused _ UnknownFunction _ _ (one_argument _ _ _ _ _ _ _ _ c.at.ensures c.if-at-ne1.false
     c.at-a.ensures c.at-n.ensures c.holds_at.ensures
-    ∙ c.if-holds_at.false) c.at-line.ensures
+    ∙ c.if-holds_at.false) c.at-line.ensures)

@@ -1,7 +1,7 @@
 -- `expression::constants::check_is` meets its contract.
 use mathlib.Core.Path.{◌∙◌}
-use Rattle.expression.specs.declared.Reason.TheVariants.{InvalidIs}
-use Rattle.expression.specs.Answers.{reason_of}
+use Rattle.numbers.specs.declared.refusals.Reason.TheVariants.{InvalidIs}
+use Rattle.numbers.specs.Reasons.{reason_of}
 use Rattle.expression.proofs.Checks.{guard_passed, guard-refused, is-literal}
 use Rattle.expression.proofs.constants.check_is.Goals as goal
 
@@ -12,6 +12,6 @@ returns-then-is_null_or_nan c = λ t q. guard_passed _ _ _ (is-literal t q _ _ _
 
 pub returns : goal.returns
 unfolding reason_of
-returns c = λ t q. guard-refused _ InvalidIs _ _ (is-literal t q _ _ _ _ _ _ (c.is_null_or_nan.ensures t q)
+returns c = λ t q. rw c.at-2.ensures (guard-refused _ InvalidIs _ _ (is-literal t q _ _ _ _ _ _ (c.is_null_or_nan.ensures t q)
     c.at-k.ensures c.at-a.ensures c.at-b.ensures
-    ∙ c.if-is_null_or_nan.false) c.at.ensures
+    ∙ c.if-is_null_or_nan.false) c.at.ensures)

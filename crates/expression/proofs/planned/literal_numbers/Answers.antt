@@ -4,11 +4,12 @@ use mathlib.Core.Path.{ap}
 use Prim.Native.Nat.{ℕ}
 use Rattle.numbers.specs.Values.{is_one, value-numbers, cell-arm, cell-rest}
 use Rattle.expression.specs.Numbers.{numbers_of}
+use Rattle.expression.proofs.ValueNumbers.{byte-flag}
 use Rattle.expression.proofs.planned.literal_numbers.Goals as goal
 
 pub returns-in-2 : goal.returns-in-2
 unfolding numbers_of is_one
-returns-in-2 c = rw (value-numbers _ _ _ _ _ c.ranges.a.fits c.ranges.b.fits, cell-arm _ _ _ _ _ 0 c.in-2.is) (ap (λ (n : ℕ). 2 ∷ n ∷ 0 ∷ 0 ∷ []) c.flag.ensures)
+returns-in-2 c = rw (value-numbers _ _ _ _ _ c.ranges.a.fits c.ranges.b.fits, cell-arm _ _ _ _ _ 0 c.in-2.is) (ap (λ (n : ℕ). 2 ∷ n ∷ 0 ∷ 0 ∷ []) (byte-flag _))
 
 pub returns-in-3 : goal.returns-in-3
 unfolding numbers_of
