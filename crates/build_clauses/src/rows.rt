@@ -1,22 +1,29 @@
 // OFFSET and LIMIT: a number of rows behind the node before it. They add no cell.
+ghost use Rattle.numbers.specs.Reasons.{reason_of};
 ghost use Rattle.plan.specs.Layout.{rows_size};
 ghost use Rattle.build_clauses.specs.Follows.{Follows};
 ghost use Rattle.build_clauses.specs.Rows.{Counted, OffsetBuilt, LimitBuilt};
 
 use expression::constants::build_constant_value;
-use expression::planned::{Natural, to_natural};
-use expression::to_reason;
+use expression::planned::to_natural;
 use numbers::refusals::{Reason, Refusal};
 use plan::nodes::{limit, offset};
 use plan::steps::Step;
 use statement::access::Clause;
 
-// The number of rows that the constant at row r is.
-fn row_count(catalog: &[u8], statement: &[u8], cells: &[u32], r: usize) -> Natural
-    ensures { Counted catalog.now statement.now cells.now r result }
+// The number of rows that the constant at row r is, or the clause's refusal where it is none.
+fn row_count(
+    catalog: &[u8],
+    statement: &[u8],
+    cells: &[u32],
+    r: usize,
+    invalid: Refusal,
+) -> Result<u64, Refusal>
+    ensures { Counted (reason_of invalid.reason) invalid.line
+        catalog.now statement.now cells.now r result }
 {
-    let constant = build_constant_value(catalog, statement, cells, r);
-    to_natural(constant)
+    let constant = build_constant_value(catalog, statement, cells, r)?;
+    to_natural(constant).ok_or(invalid)
 }
 
 // All rows but the first ones.
@@ -41,25 +48,13 @@ pub fn build_offset(
             used: k,
         }),
         Clause::Stands(line, r) => {
-            let natural = row_count(catalog, statement, cells, r);
-            match natural {
-                Natural::Number(z) => {
-                    let used = offset(nodes, k, m - 1, z);
-                    Ok(Step {
-                        cell: n,
-                        node: m + 1,
-                        used,
-                    })
-                }
-                Natural::Invalid => Err(Refusal {
-                    reason: Reason::InvalidOffset,
-                    line,
-                }),
-                Natural::Refused(reason, line) => Err(Refusal {
-                    reason: to_reason(reason),
-                    line,
-                }),
-            }
+            let z = row_count(catalog, statement, cells, r, Reason::InvalidOffset.at(line))?;
+            let used = offset(nodes, k, m - 1, z);
+            Ok(Step {
+                cell: n,
+                node: m + 1,
+                used,
+            })
         }
     }
 }
@@ -86,25 +81,13 @@ pub fn build_limit(
             used: k,
         }),
         Clause::Stands(line, r) => {
-            let natural = row_count(catalog, statement, cells, r);
-            match natural {
-                Natural::Number(z) => {
-                    let used = limit(nodes, k, m - 1, z);
-                    Ok(Step {
-                        cell: n,
-                        node: m + 1,
-                        used,
-                    })
-                }
-                Natural::Invalid => Err(Refusal {
-                    reason: Reason::InvalidLimit,
-                    line,
-                }),
-                Natural::Refused(reason, line) => Err(Refusal {
-                    reason: to_reason(reason),
-                    line,
-                }),
-            }
+            let z = row_count(catalog, statement, cells, r, Reason::InvalidLimit.at(line))?;
+            let used = limit(nodes, k, m - 1, z);
+            Ok(Step {
+                cell: n,
+                node: m + 1,
+                used,
+            })
         }
     }
 }

@@ -20,8 +20,7 @@ use Rattle.rules.specs.Plan as P
 use Rattle.rules.specs.BuildExpression.{each, constant}
 use Rattle.rules.specs.BuildStatement.{KeyColumn, key_columns, null_default, default_value, made_column}
 use Rattle.rules.specs.Area.{span, option_span, value_numbers, default_numbers, made_numbers, own_numbers}
-use Rattle.numbers.specs.Reasons.{named, told, reason-named}
-use Rattle.numbers.specs.declared.refusals.Reason as code
+use Rattle.numbers.specs.Reasons.{told}
 use Rattle.numbers.specs.declared.refusals.Refusal.{Refusal}
 use Rattle.ast.specs.Table.{tree_at}
 use Rattle.numbers.specs.Values.{is_one, value_at}
@@ -32,8 +31,7 @@ use Rattle.sections.specs.Expressions.{first_row}
 use Rattle.sections.specs.declared.entry.Entry.{Entry}
 use Rattle.value.specs.Values.{value_of}
 use Rattle.value.specs.declared.Value as Va
-use Rattle.expression.specs.Answers.{map_answer, reason_of, constant_of}
-use Rattle.expression.specs.declared.Reason as Re
+use Rattle.expression.specs.Answers.{map_answer, answered, constant_value, constant_of}
 use Rattle.expression.specs.declared.Constant.{Constant}
 use Rattle.expression.specs.declared.Constant.TheVariants as Co
 use Rattle.expression.specs.declared.planned.Numbers.{Numbers}
@@ -237,26 +235,25 @@ module _ (c q : Bytes) (cells : List ℕ) (e : Entry) (n : Bool) where
   unfolding default_of map_answer default_value null_default default_numbers numbers_of
   none-given z b = rw (given-none c q cells e z, b)
 
-  module _ (z : e.expressions ≡ 0 → ⊥) (r : ℕ) (f : r ≡ first_row e) (x : Constant)
+  module _ (z : e.expressions ≡ 0 → ⊥) (r : ℕ) (f : r ≡ first_row e) (x : Result Constant Refusal)
       (h : constant_of c q x ≡ constant (tree_at c q cells r)) where
     constant-is : default_value n (given_of c q cells e) ≡ (constant_of c q x >>= λ v. ok (some v))
     unfolding default_value
     constant-is = rw (given-some c q cells e z, h, f)
 
-    pub literal-given : (k a b : ℕ) (y : Numbers) → x ≡ Co.Literal k a b → numbers_of y ≡ value_numbers (value_at c q k a b)
+    pub literal-given : (k a b : ℕ) (v : Constant) (y : Numbers) → x ≡ Ok v → v ≡ Co.Literal k a b → numbers_of y ≡ value_numbers (value_at c q k a b)
         → default_of (Ok y) ≡ answer
-    unfolding default_of map_answer default_numbers constant_of ◌>>=◌
-    literal-given k a b y e g = rw (constant-is, e, g)
+    unfolding default_of map_answer default_numbers answered constant_value ◌>>=◌
+    literal-given k a b v y e i g = rw (constant-is, e, i, g)
 
-    pub value-given : (v : Va.Value) (y : Numbers) → x ≡ Co.Value v → numbers_of y ≡ value_numbers (value_of c q v)
+    pub value-given : (u : Va.Value) (v : Constant) (y : Numbers) → x ≡ Ok v → v ≡ Co.Value u → numbers_of y ≡ value_numbers (value_of c q u)
         → default_of (Ok y) ≡ answer
-    unfolding default_of map_answer default_numbers constant_of ◌>>=◌
-    value-given v y e g = rw (constant-is, e, g)
+    unfolding default_of map_answer default_numbers answered constant_value ◌>>=◌
+    value-given u v y e i g = rw (constant-is, e, i, g)
 
-    pub refused-given : (k : Re.Reason) (l : ℕ) → x ≡ Co.Refused k l → (y : code.Reason) → y ≡ named (reason_of k)
-        → default_of (Err (record { reason = y; line = l })) ≡ answer
-    unfolding default_of map_answer constant_of ◌>>=◌ refuse
-    refused-given k l e y g = rw (constant-is, e, g, reason-named)
+    pub refused-given : (w : Refusal) → x ≡ Err w → default_of (Err w) ≡ answer
+    unfolding default_of map_answer answered ◌>>=◌ refuse
+    refused-given w e = rw (constant-is, e)
 
 -- NUMBERS
 unfoldable pub columns_numbers : List Made → List ℕ

@@ -19,9 +19,9 @@ ghost use Rattle.build_statement.specs.Plans.{Plans};
 ghost use Rattle.build_statement.specs.Pushes.{Pushes};
 ghost use Rattle.build_statement.specs.Create as create;
 
+use expression::Constant;
 use expression::constants::build_constant_value;
 use expression::planned::{Numbers, literal_numbers, value_numbers};
-use expression::{Constant, to_reason};
 use numbers::refusals::{Reason, Refusal};
 use plan::{finish, own};
 use sections::entry;
@@ -111,14 +111,10 @@ fn default_of(
             second: 0,
         });
     }
-    let constant = build_constant_value(catalog, statement, cells, entry::first_row(e));
+    let constant = build_constant_value(catalog, statement, cells, entry::first_row(e))?;
     match constant {
         Constant::Literal(k, a, b) => Ok(literal_numbers(catalog, statement, k, a, b)),
         Constant::Value(v) => Ok(value_numbers(catalog, statement, v)),
-        Constant::Refused(reason, line) => Err(Refusal {
-            reason: to_reason(reason),
-            line,
-        }),
     }
 }
 

@@ -1,21 +1,20 @@
 -- `rows::build_limit`: nothing, a limit, or a refusal.
-use Rattle.build_clauses.specs.Rows.{rows-missing, rows-invalid, rows-refused, limit-number}
+use Rattle.std.proofs.Common.{arith}
+use Rattle.std.proofs.lemmas.Result.{err_from_is_err_and}
+use Rattle.build_clauses.specs.Rows.{rows-missing, rows-refused, limit-number, counted-by}
 use Rattle.rules.specs.Plan as P
 use Rattle.rules.specs.Refusals.{invalid_limit}
-use Rattle.numbers.specs.Reasons.{named}
-use mathlib.Core.Path.{refl}
-use native.Mathlib.Omega.{arith}
+use Rattle.numbers.specs.Reasons.{reason_of}
 use Rattle.build_clauses.proofs.rows.build_limit.Goals as goal
 
 pub returns-in-Missing : goal.returns-in-Missing
 returns-in-Missing c = rows-missing invalid_limit (λ y d. P.limit d y) c.in-Missing.is (omega (arith, c.requires.room))
 
-pub returns-in-Number : goal.returns-in-Number
-returns-in-Number c = limit-number _ _ c.in-Stands.is c.row_count-natural.ensures _ c.in-Number.is c.limit-used.ensures
+pub returns-in_err-z-in-Stands : goal.returns-in_err-z-in-Stands
+unfolding reason_of
+returns-in_err-z-in-Stands c = let p = err_from_is_err_and c.from_residual.result c.from_residual.ensures.1 in
+    rw (p.1, p.2) (rows-refused invalid_limit (λ y d. P.limit d y) _ _ c.in-Stands.is (counted-by _ _ c.at.ensures c.row_count.ensures) _ c.in_err-z-in-Stands.was)
 
-pub returns-in-Invalid : goal.returns-in-Invalid
-unfolding named
-returns-in-Invalid c = rows-invalid invalid_limit (λ y d. P.limit d y) _ _ c.in-Stands.is c.row_count-natural.ensures c.in-Invalid.is _ refl
-
-pub returns-in-Refused : goal.returns-in-Refused
-returns-in-Refused c = rows-refused invalid_limit (λ y d. P.limit d y) _ _ c.in-Stands.is c.row_count-natural.ensures _ _ c.in-Refused.is _ c.to_reason.ensures
+pub returns-in_ok-z-in-Stands : goal.returns-in_ok-z-in-Stands
+unfolding reason_of
+returns-in_ok-z-in-Stands c = limit-number _ _ c.in-Stands.is (counted-by _ _ c.at.ensures c.row_count.ensures) _ c.in_ok-z-in-Stands.was c.limit-used.ensures

@@ -1,7 +1,12 @@
 -- `rows::row_count`: the number that a constant is.
-use Rattle.expression.specs.Numbers.{natural_in}
-use mathlib.Core.Path.{ap, ◌∙◌}
+use Rattle.std.proofs.lemmas.Result.{err_from_is_err_and}
+use Rattle.build_clauses.specs.Rows.{counted, counted-refused}
 use Rattle.build_clauses.proofs.rows.row_count.Goals as goal
 
+pub returns-in_err-constant : goal.returns-in_err-constant
+returns-in_err-constant c = let p = err_from_is_err_and c.from_residual.result c.from_residual.ensures.1 in
+    rw (p.1, p.2) (counted-refused _ _ _ _ _ c.build_constant_value.ensures _ _ _ c.in_err-constant.was)
+
 pub returns : goal.returns
-returns c = record { is = λ s y. c.to_natural.ensures s y c.args.catalog.now c.args.statement.now ∙ ap (natural_in s y) c.build_constant_value-constant.ensures }
+returns c = rw c.ok_or.ensures.value (counted _ _ _ _ _ c.build_constant_value.ensures c.args.invalid _ _ c.in_ok-constant.was
+    (c.to_natural.ensures _ _ c.args.catalog.now c.args.statement.now))

@@ -1,4 +1,5 @@
 -- `create::default_of`: a null, none, or the constant.
+use Rattle.std.proofs.lemmas.Result.{err_from_is_err_and}
 use Rattle.value.specs.Values.{value_of}
 use Rattle.build_statement.specs.Create.{null-given, none-given, literal-given, value-given, refused-given}
 use Rattle.build_statement.proofs.create.default_of.Goals as goal
@@ -12,17 +13,17 @@ pub returns-then-e-eq0 : goal.returns-then-e-eq0
 returns-then-e-eq0 c = none-given c.args.catalog.now c.args.statement.now c.args.cells.now c.args.e c.args.nullable
     c.if-e-eq0.true (cc)
 
+pub returns-in_err-constant : goal.returns-in_err-constant
+returns-in_err-constant c = let p = err_from_is_err_and c.from_residual.result c.from_residual.ensures.1 in
+    rw (p.1, p.2) (refused-given c.args.catalog.now c.args.statement.now c.args.cells.now c.args.e c.args.nullable
+    c.if-e-eq0.false _ c.first_row.ensures _ c.build_constant_value.ensures _ c.in_err-constant.was)
+
 pub returns-in-Literal : goal.returns-in-Literal
 returns-in-Literal c = literal-given c.args.catalog.now c.args.statement.now c.args.cells.now c.args.e c.args.nullable
-    c.if-e-eq0.false _ c.first_row.ensures _ c.build_constant_value-constant.ensures
-    _ _ _ _ c.in-Literal.is c.literal_numbers.ensures
+    c.if-e-eq0.false _ c.first_row.ensures _ c.build_constant_value.ensures
+    _ _ _ _ _ c.in_ok-constant.was c.in-Literal.is c.literal_numbers.ensures
 
 pub returns-in-Value : goal.returns-in-Value
 returns-in-Value c = value-given c.args.catalog.now c.args.statement.now c.args.cells.now c.args.e c.args.nullable
-    c.if-e-eq0.false _ c.first_row.ensures _ c.build_constant_value-constant.ensures
-    _ _ c.in-Value.is c.value_numbers-in-Value.ensures
-
-pub returns-in-Refused : goal.returns-in-Refused
-returns-in-Refused c = refused-given c.args.catalog.now c.args.statement.now c.args.cells.now c.args.e c.args.nullable
-    c.if-e-eq0.false _ c.first_row.ensures _ c.build_constant_value-constant.ensures
-    _ _ c.in-Refused.is _ c.to_reason.ensures
+    c.if-e-eq0.false _ c.first_row.ensures _ c.build_constant_value.ensures
+    _ _ _ c.in_ok-constant.was c.in-Value.is c.value_numbers-in-Value.ensures
