@@ -7,3 +7,4 @@ mod EqualWalk
 mod Same
 mod Walks
 mod Collects
+mod KindNumbers

@@ -53,9 +53,9 @@ module _ (c q : Bytes) (t : List ℕ) (r : ℕ) where
   pub walk-stops : is_aggregate_call (root_at c q t r) ≡ true → walk_free (tree_at c q t r) ≡ false
   walk-stops h = at-aggregate (tree_at c q t r) (call-root c q t r ∙ h)
 
-  pub walk-on : (n k : ℕ) → is_aggregate_call (root_at c q t r) ≡ false → n ≡ operands_at t r → k ≡ kind_at t r
-      → walked (eqb k 4) (arguments_at (tree_at c q t) t n (r + 1)) ≡ walk_free (tree_at c q t r)
-  walk-on n k h e g = rw (
+  pub walk-on : (n : ℕ) (any : Bool) → is_aggregate_call (root_at c q t r) ≡ false → n ≡ operands_at t r
+      → any ≡ eqb (kind_at t r) 4 → walked any (arguments_at (tree_at c q t) t n (r + 1)) ≡ walk_free (tree_at c q t r)
+  walk-on n any h e g = rw (
     by-root (tree_at c q t r) (call-root c q t r ∙ h),
     ap kind_of (tree-at c q t r) ∙ kind-at (tree_at c q t) c q t r,
     ap operands_of (tree-at c q t r) ∙ operands-at (tree_at c q t) c q t r,

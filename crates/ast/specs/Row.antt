@@ -1,6 +1,6 @@
 -- The numbers of a row by name, and the tree at a row by the kind of its record: in every table and at every row.
-use Rattle.std.specs.Prelude.{ℕ, suc, ◌+◌, ◌≤◌, ◌≡◌, refl, Bool, true, false, List, [], ◌∷◌, eqb, ltb}
-use Rattle.std.proofs.Common.{arith, sym, ap, ◌∙◌, ltb-false, ne_eqb}
+use Rattle.std.specs.Prelude.{ℕ, suc, ◌+◌, ◌≤◌, ◌<◌, ◌≡◌, refl, Bool, true, false, List, [], ◌∷◌, eqb, ltb}
+use Rattle.std.proofs.Common.{arith, sym, ap, ◌∙◌, ltb-true, ltb-false, ne_eqb}
 use Rattle.std.proofs.Math.Option.{none, some}
 use Rattle.rules.specs.Lists.{Bytes}
 use Rattle.rules.specs.Lines.{Word}
@@ -9,7 +9,7 @@ use Rattle.rules.specs.Codes.{unary_code, plain_code, binary_code}
 use Rattle.rules.specs.Schema.{Value, null, bool, int, float, text}
 use Rattle.rules.specs.Ast.{Expr, star, column, literal, call, unary, binary, is, line_of}
 use Rattle.numbers.specs.Bits.{joined, signed}
-use Rattle.numbers.specs.Codes.{or_least, count_from, coded, coded-map, coded-least}
+use Rattle.numbers.specs.Codes.{or_least, count_from, coded, coded-map, coded-least, least-below, least_above, least-between}
 use Rattle.numbers.specs.Values.{is_one, value_at}
 use Rattle.ast.specs.Table.{at, rows_at, unary_at, binary_at, arguments_at, tree_by, tree_at}
 use Rattle.ast.specs.Operands.{kind_of, kind_at, kind-at, tree-column, tree-qualified, tree-call, tree-unary}
@@ -92,36 +92,26 @@ tree_of f K.Binary c q t r =
 tree_of f K.Is c q t r = is (line_at t r) (f (first_operand r)) (row_literal c q t r)
 tree_of f K.Literal c q t r = literal (line_at t r) (row_literal c q t r)
 
--- a number of a kind that is none of the others is the star's
-kind-most : (k : ℕ) → (1 ≤ or_least 1 8 k) × (or_least 1 8 k ≤ 8)
-unfolding or_least
-kind-most k = low (ltb k 1) refl
-  where
-    high : (b : Bool) → 1 ≤ k → ltb 8 k ≡ b
-        → (1 ≤ elim b [ true ↦ 1 | false ↦ k ]) × (elim b [ true ↦ 1 | false ↦ k ] ≤ 8)
-    high true h e = (omega arith, omega arith)
-    high false h e = (h, ltb-false 8 k e)
+-- the number k at a row: a kind's, or none
+module _ (t : List ℕ) (r k : ℕ) (e : k ≡ at t r 0) where
+  pub kind-within : 1 ≤ k → k ≤ 8 → k ≡ kind_at t r
+  unfolding kind_at
+  kind-within l m = rw (← e) (sym (least-between 1 8 k l m))
 
-    low : (b : Bool) → ltb k 1 ≡ b
-        → (1 ≤ elim b [ true ↦ 1 | false ↦ elim (ltb 8 k) [ true ↦ 1 | false ↦ k ] ])
-        × (elim b [ true ↦ 1 | false ↦ elim (ltb 8 k) [ true ↦ 1 | false ↦ k ] ] ≤ 8)
-    low true e = (omega arith, omega arith)
-    low false e = high (ltb 8 k) (ltb-false k 1 e) refl
-
-below : (m x : ℕ) → x ≤ suc m → (x ≡ suc m → ⊥) → x ≤ m
-below m x h ne = omega arith
-
-pub kind-rest : (t : List ℕ) (r x : ℕ) → x ≡ kind_at t r → (x ≡ 2 → ⊥) → (x ≡ 3 → ⊥) → (x ≡ 4 → ⊥) → (x ≡ 5 → ⊥)
-    → (x ≡ 6 → ⊥) → (x ≡ 7 → ⊥) → (x ≡ 8 → ⊥) → 1 ≡ kind_at t r
-unfolding kind_at
-kind-rest t r x h a b c d e f g =
-    let bounds : (1 ≤ x) × (x ≤ 8) = rw h (kind-most (at t r 0)) in
-    let five = below 5 x (below 6 x (below 7 x bounds.1 g) f) e in
-    let one = below 1 x (below 2 x (below 3 x (below 4 x five d) c) b) a in
-    sym (order-one x bounds.0 one) ∙ h
-  where
-    order-one : (x : ℕ) → 1 ≤ x → x ≤ 1 → x ≡ 1
-    order-one x l m = omega arith
+  pub kind-other : (1 < k → 8 < k) → 1 ≡ kind_at t r
+  unfolding kind_at
+  kind-other h = rw (← e) (sym (go (ltb 1 k) refl))
+    where
+      go : (b : Bool) → ltb 1 k ≡ b → or_least 1 8 k ≡ 1
+      go true g = least_above 1 8 k (omega (arith, ltb-true 1 k g)) (h (ltb-true 1 k g))
+      go false g = low k (ltb-false 1 k g)
+        where
+          low : (n : ℕ) → n ≤ 1 → or_least 1 8 n ≡ 1
+          low n l = go' (ltb n 1) refl
+            where
+              go' : (b : Bool) → ltb n 1 ≡ b → or_least 1 8 n ≡ 1
+              go' true f = least-below 1 8 n (ltb-true n 1 f)
+              go' false f = least-between 1 8 n (ltb-false n 1 f) (omega (arith, l)) ∙ omega (arith, l, ltb-false n 1 f)
 
 -- LINES
 All : ℕ → List ℕ → Type 0

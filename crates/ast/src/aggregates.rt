@@ -30,7 +30,12 @@ fn named_in(t: &[u8], a: u32, n: u32) -> Option<Aggregate>
 }
 
 // Which aggregate the name at a place is.
-pub fn is_aggregate(catalog: &[u8], statement: &[u8], address: u32, length: u32) -> Option<Aggregate>
+pub fn is_aggregate(
+    catalog: &[u8],
+    statement: &[u8],
+    address: u32,
+    length: u32,
+) -> Option<Aggregate>
     ensures { named_of result ≡ named aggregates (bytes_at catalog.now statement.now address length) }
 {
     if address < text::MOST_BYTES {

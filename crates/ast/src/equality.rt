@@ -8,9 +8,8 @@ ghost use Rattle.numbers.specs.Codes.{or_least};
 ghost use Rattle.ast.specs.Table.{at, root_at, tree_at};
 ghost use Rattle.ast.specs.Operands.{kind_at};
 
-use crate::rows::{
-    BINARY, CALL, COLUMN, IS, LITERAL, QUALIFIED, STAR, UNARY, at, kind, next, operands, or_least,
-};
+use crate::row::{Kind, kind_of};
+use crate::rows::{STAR, at, kind, next, operands, or_least};
 
 // Whether two rows have the same bytes at the places that their numbers k and k + 1 name.
 fn same_word(catalog: &[u8], statement: &[u8], table: &[u32], i: usize, j: usize, k: u32) -> bool
@@ -92,30 +91,23 @@ fn same_literal(catalog: &[u8], statement: &[u8], table: &[u32], i: usize, j: us
 fn same_root(catalog: &[u8], statement: &[u8], table: &[u32], i: usize, j: usize) -> bool
     ensures { result ≡ equal (root_at catalog.now statement.now table.now i) (root_at catalog.now statement.now table.now j) }
 {
-    let k = kind(table, i);
-    let l = kind(table, j);
-    if k != l {
+    let k = kind_of(table, i);
+    if k != kind_of(table, j) {
         return false;
     }
     match k {
-        COLUMN => same_word(catalog, statement, table, i, j, 4),
-        QUALIFIED => {
-            if same_word(catalog, statement, table, i, j, 6) {
-                return same_word(catalog, statement, table, i, j, 4);
-            }
-            false
+        Kind::Star => true,
+        Kind::Column => same_word(catalog, statement, table, i, j, 4),
+        Kind::Qualified => {
+            same_word(catalog, statement, table, i, j, 6)
+                && same_word(catalog, statement, table, i, j, 4)
         }
-        CALL => {
-            if at(table, i, 3) != at(table, j, 3) {
-                return false;
-            }
-            same_word(catalog, statement, table, i, j, 4)
+        Kind::Call => {
+            at(table, i, 3) == at(table, j, 3) && same_word(catalog, statement, table, i, j, 4)
         }
-        UNARY => same_operator(table, i, j, 8, 12),
-        BINARY => same_operator(table, i, j, 16, 30),
-        IS => same_literal(catalog, statement, table, i, j),
-        LITERAL => same_literal(catalog, statement, table, i, j),
-        _ => true,
+        Kind::Unary => same_operator(table, i, j, 8, 12),
+        Kind::Binary => same_operator(table, i, j, 16, 30),
+        Kind::Is | Kind::Literal => same_literal(catalog, statement, table, i, j),
     }
 }
 
@@ -126,19 +118,18 @@ fn same_trees(catalog: &[u8], statement: &[u8], table: &[u32], i: usize, j: usiz
     if !same_root(catalog, statement, table, i, j) {
         return false;
     }
-    let mut left = operands(table, i);
-    if left == 0 {
+    let operands = operands(table, i);
+    if operands == 0 {
         return true;
     }
     let mut p = i + 1;
     let mut q = j + 1;
-    while 0 < left {
+    for _ in 0..operands {
         if !same_trees(catalog, statement, table, p, q) {
             return false;
         }
         p = next(table, p);
         q = next(table, q);
-        left -= 1;
     }
     true
 }
@@ -148,13 +139,7 @@ fn are_apart(table: &[u32], i: usize, j: usize) -> bool
     ensures { result ≡ (not (eqb (kind_at table.now j) 1) && not (eqb (kind_at table.now i) (kind_at table.now j))) }
 {
     let k = kind(table, j);
-    if k == STAR {
-        return false;
-    }
-    if at(table, i, 0) == k {
-        return false;
-    }
-    true
+    k != STAR && at(table, i, 0) != k
 }
 
 // Whether the trees at two rows are equal. For rows of two kinds, and for one row, no tree is walked.

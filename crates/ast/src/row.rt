@@ -6,11 +6,11 @@ ghost use Rattle.ast.specs.Table.{unary_at, binary_at};
 ghost use Rattle.ast.specs.Operands.{kind_at};
 ghost use Rattle.ast.specs.Row as row;
 
-use crate::rows::{BINARY, CALL, COLUMN, IS, LITERAL, QUALIFIED, UNARY, at, kind, or_least};
+use crate::rows::{at, or_least};
 
-#[derive(Clone, Copy)]
+#[derive(Clone, Copy, Debug, PartialEq, Eq)]
 pub enum Kind {
-    Star,
+    Star = 1,
     Column,
     Qualified,
     Call,
@@ -20,7 +20,7 @@ pub enum Kind {
     Literal,
 }
 
-#[derive(Clone, Copy)]
+#[derive(Clone, Copy, Debug, PartialEq, Eq)]
 pub enum LiteralKind {
     Null,
     Bool,
@@ -29,18 +29,18 @@ pub enum LiteralKind {
     Text,
 }
 
+// The kind of the record at a row; a star where the number is none.
 pub fn kind_of(table: &[u32], r: usize) -> Kind
     ensures { row.number_of result ≡ kind_at table.now r }
 {
-    let k = kind(table, r);
-    match k {
-        COLUMN => Kind::Column,
-        QUALIFIED => Kind::Qualified,
-        CALL => Kind::Call,
-        UNARY => Kind::Unary,
-        BINARY => Kind::Binary,
-        IS => Kind::Is,
-        LITERAL => Kind::Literal,
+    match at(table, r, 0) {
+        2 => Kind::Column,
+        3 => Kind::Qualified,
+        4 => Kind::Call,
+        5 => Kind::Unary,
+        6 => Kind::Binary,
+        7 => Kind::Is,
+        8 => Kind::Literal,
         _ => Kind::Star,
     }
 }

@@ -5,6 +5,8 @@ ghost use Rattle.numbers.specs.Codes.{or_least};
 ghost use Rattle.ast.specs.Table.{at, rows_at};
 ghost use Rattle.ast.specs.Operands.{kind_at, operands_at};
 
+use crate::row::{Kind, kind_of};
+
 // Numbers a row.
 pub const ROW_SIZE: usize = 8;
 
@@ -13,22 +15,22 @@ pub const STATEMENT_ROWS: u32 = 512;
 
 pub const STARRED_ROWS: u32 = 256;
 
-// The kinds of records.
-pub const STAR: u32 = 1;
+// The kinds' numbers, as the table has them.
+pub const STAR: u32 = Kind::Star as u32;
 
-pub const COLUMN: u32 = 2;
+pub const COLUMN: u32 = Kind::Column as u32;
 
-pub const QUALIFIED: u32 = 3;
+pub const QUALIFIED: u32 = Kind::Qualified as u32;
 
-pub const CALL: u32 = 4;
+pub const CALL: u32 = Kind::Call as u32;
 
-pub const UNARY: u32 = 5;
+pub const UNARY: u32 = Kind::Unary as u32;
 
-pub const BINARY: u32 = 6;
+pub const BINARY: u32 = Kind::Binary as u32;
 
-pub const IS: u32 = 7;
+pub const IS: u32 = Kind::Is as u32;
 
-pub const LITERAL: u32 = 8;
+pub const LITERAL: u32 = Kind::Literal as u32;
 
 // Numbers of the whole table.
 pub const TABLE_SIZE: usize = ROW_SIZE * (STATEMENT_ROWS as usize + STARRED_ROWS as usize);
@@ -66,24 +68,22 @@ pub fn or_least(least: u32, most: u32, k: u32) -> u32
     k
 }
 
-// The kind of the record at a row; a star where the number is none.
+// The number of the kind of the record at a row.
 pub fn kind(table: &[u32], r: usize) -> u32
     ensures { result ≡ kind_at table.now r }
 {
-    or_least(STAR, LITERAL, at(table, r, 0))
+    kind_of(table, r) as u32
 }
 
 // How many operands it has: the first stands at the next row, each other behind the rows of the one before.
 pub fn operands(table: &[u32], r: usize) -> u32
     ensures { result ≡ operands_at table.now r }
 {
-    let k = kind(table, r);
-    match k {
-        CALL => at(table, r, 3),
-        UNARY => 1,
-        BINARY => 2,
-        IS => 1,
-        _ => 0,
+    match kind_of(table, r) {
+        Kind::Call => at(table, r, 3),
+        Kind::Unary | Kind::Is => 1,
+        Kind::Binary => 2,
+        Kind::Star | Kind::Column | Kind::Qualified | Kind::Literal => 0,
     }
 }
 

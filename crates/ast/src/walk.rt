@@ -7,13 +7,14 @@ ghost use Rattle.ast.specs.Walk.{is_aggregate_call};
 ghost use Rattle.ast.specs.Collect.{collect_rows, collected};
 
 use crate::aggregates::is_aggregate;
-use crate::rows::{at, kind, next, operands};
+use crate::row::{Kind, kind_of};
+use crate::rows::{at, next, operands};
 
 // Whether the record at a row is a call of an aggregate function.
 pub fn is_aggregate_call(catalog: &[u8], statement: &[u8], table: &[u32], r: usize) -> bool
     ensures { result ≡ is_aggregate_call (root_at catalog.now statement.now table.now r) }
 {
-    if kind(table, r) != 4 {
+    if kind_of(table, r) != Kind::Call {
         return false;
     }
     let address = at(table, r, 4);
@@ -29,18 +30,17 @@ pub fn walk_free(catalog: &[u8], statement: &[u8], table: &[u32], r: usize) -> b
     if is_aggregate_call(catalog, statement, table, r) {
         return false;
     }
-    let any = kind(table, r) == 4;
-    let mut left = operands(table, r);
-    if left == 0 {
+    let any = kind_of(table, r) == Kind::Call;
+    let operands = operands(table, r);
+    if operands == 0 {
         return !any;
     }
     let mut p = r + 1;
-    while 0 < left {
+    for _ in 0..operands {
         if walk_free(catalog, statement, table, p) == any {
             return any;
         }
         p = next(table, p);
-        left -= 1;
     }
     !any
 }
@@ -72,16 +72,15 @@ pub fn collect(
         }
         return None;
     }
-    let mut left = operands(table, r);
-    if left == 0 {
+    let operands = operands(table, r);
+    if operands == 0 {
         return Some(count);
     }
     let mut p = r + 1;
     let mut n = count;
-    while 0 < left {
+    for _ in 0..operands {
         n = collect(catalog, statement, table, p, rows, n)?;
         p = next(table, p);
-        left -= 1;
     }
     Some(n)
 }

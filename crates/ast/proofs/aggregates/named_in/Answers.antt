@@ -1,4 +1,5 @@
 -- `aggregates::named_in`: the number of the name among the five.
+use native.Mathlib.Omega.{arith}
 use mathlib.Core.Path.{sym, ◌∙◌}
 use Rattle.rules.specs.Lines.{bytes}
 use Rattle.rules.specs.BuildAggregate.{aggregates}
@@ -28,4 +29,5 @@ returns-in-4 c = sym (aggregate-named _ _ c.which-k.ensures ∙ rw c.in-4.is)
 
 pub returns-in_default : goal.returns-in_default
 unfolding named_of bytes
-returns-in_default c = let r = c.in_default.in_default-own.rest in sym (aggregate-named _ _ c.which-k.ensures ∙ aggregate_not _ r.0.0.0.0.1 r.0.0.0.1 r.0.0.1 r.0.1 r.1)
+returns-in_default c = sym (aggregate-named _ _ c.which-k.ensures
+    ∙ aggregate_not _ (λ e. omega (arith, e)) (λ e. omega (arith, e)) (λ e. omega (arith, e)) (λ e. omega (arith, e)) (λ e. omega (arith, e)))

@@ -1,10 +1,10 @@
 -- `equality::are_apart`: a kind other than the star's is the number at its row.
 use Prim.Native.Nat.{ℕ}
-use mathlib.Core.Path.{◌≡◌, sym, ap, ◌∙◌}
-use mathlib.Core.Bool.{true, false, not, ◌&&◌, and-false}
+use mathlib.Core.Path.{◌≡◌, refl, sym, ap, ◌∙◌}
+use mathlib.Core.Bool.{Bool, true, false, not, ◌&&◌, and-false}
 use mathlib.Core.List.{List}
 use lib.Dec.{eqb}
-use borrow.Author.Tests.{eq-eqb, ne_eqb}
+use borrow.Author.Tests.{eqb-true, eqb-false, eq-eqb, ne_eqb}
 use Rattle.numbers.specs.Codes.{or_least, least_kept}
 use Rattle.ast.specs.Table.{at}
 use Rattle.ast.specs.Operands.{kind_at}
@@ -26,11 +26,12 @@ module _ (t : List ℕ) (i j k a : ℕ) (e : k ≡ kind_at t j) (ne : k ≡ 1 �
   apart-yes : (a ≡ k → ⊥) → true ≡ (not (eqb (kind_at t j) 1) && not (eqb (kind_at t i) (kind_at t j)))
   apart-yes h = rw (ne_eqb (kind_at t j) 1 (λ z. ne (e ∙ z)), ne_eqb (kind_at t i) (kind_at t j) (two-kinds h))
 
-pub returns-then-k-eq-STAR : goal.returns-then-k-eq-STAR
-returns-then-k-eq-STAR c = rw (eq-eqb _ _ (sym c.kind-k.ensures ∙ c.if-k-eq-STAR.true))
+  apart : not (eqb a k) ≡ (not (eqb (kind_at t j) 1) && not (eqb (kind_at t i) (kind_at t j)))
+  apart = go (eqb a k) refl
+    where
+      go : (b : Bool) → eqb a k ≡ b → not b ≡ (not (eqb (kind_at t j) 1) && not (eqb (kind_at t i) (kind_at t j)))
+      go true h = apart-no (eqb-true a k h)
+      go false h = apart-yes (eqb-false a k h)
 
-pub returns-then-at-k : goal.returns-then-at-k
-returns-then-at-k c = apart-no _ _ _ _ _ c.kind-k.ensures c.if-k-eq-STAR.false c.at.ensures c.if-at-k.true
-
-pub returns : goal.returns
-returns c = apart-yes _ _ _ _ _ c.kind-k.ensures c.if-k-eq-STAR.false c.at.ensures c.if-at-k.false
+pub returns-then-k-ne-STAR : goal.returns-then-k-ne-STAR
+returns-then-k-ne-STAR c = apart _ _ _ _ _ c.kind-k.ensures c.if-k-ne-STAR.true c.at.ensures

@@ -1,39 +1,68 @@
 -- `equality::same_root`, by the kind of the two rows.
-use mathlib.Core.Path.{sym, ◌∙◌}
+use native.Mathlib.Omega.{arith}
+use mathlib.Core.Path.{sym, ap, ◌∙◌}
 use mathlib.Core.Bool.{and-true, and-false}
-use borrow.Author.Tests.{eq-eqb, ne_eqb}
+use mathlib.Core.Logic.{⊎_elim}
+use borrow.Author.Tests.{eqb-false, eq-eqb, ne_eqb}
+use Rattle.ast.specs.Row.{number_of}
+use Rattle.ast.proofs.KindNumbers.{same-kinds, one-kind, not-true}
 use Rattle.ast.proofs.Roots.{roots-apart, roots-column, roots-qualified, roots-call, roots-unary, roots-binary, roots-is, roots-literal, roots-star}
 use Rattle.ast.proofs.equality.same_root.Goals as goal
 
-pub returns-then-k-l : goal.returns-then-k-l
-returns-then-k-l c = sym (roots-apart _ _ _ _ _ (λ e. c.if-k-l.true (c.kind-k.ensures ∙ e ∙ sym c.kind-l.ensures)))
+pub returns-then-ne : goal.returns-then-ne
+returns-then-ne c = sym (roots-apart _ _ _ _ _ (eqb-false _ _ (sym (same-kinds _ _ c.kind_of-k.ensures c.kind_of.ensures) ∙ not-true _ (sym c.ne.ensures ∙ c.if-ne.true))))
+
+pub returns-in-Star : goal.returns-in-Star
+unfolding number_of
+returns-in-Star c = let h = one-kind _ _ c.kind_of-k.ensures c.kind_of.ensures (sym c.ne.ensures ∙ c.if-ne.false) in
+    let k = sym c.kind_of-k.ensures ∙ ap number_of c.in-Star.is in
+    sym (roots-star _ _ _ _ _ 1 k (sym h ∙ k)
+    (λ e. omega (arith, e)) (λ e. omega (arith, e)) (λ e. omega (arith, e)) (λ e. omega (arith, e)) (λ e. omega (arith, e)) (λ e. omega (arith, e)) (λ e. omega (arith, e)))
+
+pub returns-in-Column : goal.returns-in-Column
+unfolding number_of
+returns-in-Column c = let h = one-kind _ _ c.kind_of-k.ensures c.kind_of.ensures (sym c.ne.ensures ∙ c.if-ne.false) in
+    let k = sym c.kind_of-k.ensures ∙ ap number_of c.in-Column.is in
+    c.same_word.ensures ∙ sym (roots-column _ _ _ _ _ k (sym h ∙ k))
 
 pub returns-then-same_word : goal.returns-then-same_word
-returns-then-same_word c = rw (roots-qualified _ _ _ _ _ (sym c.kind-k.ensures ∙ c.in-3.is) (sym c.kind-l.ensures ∙ sym c.if-k-l.false ∙ c.in-3.is), ← c.same_word-in-3.ensures, c.if-same_word.true) c.same_word-then-same_word.ensures
-
-pub returns-then-at : goal.returns-then-at
-returns-then-at c = rw (roots-call _ _ _ _ _ (sym c.kind-k.ensures ∙ c.in-4.is) (sym c.kind-l.ensures ∙ sym c.if-k-l.false ∙ c.in-4.is), ← c.at.ensures, ← c.at-in-4.ensures, ne_eqb _ _ c.if-at.true, and-false)
-
-pub returns-in-2 : goal.returns-in-2
-returns-in-2 c = c.same_word.ensures ∙ sym (roots-column _ _ _ _ _ (sym c.kind-k.ensures ∙ c.in-2.is) (sym c.kind-l.ensures ∙ sym c.if-k-l.false ∙ c.in-2.is))
+unfolding number_of
+returns-then-same_word c = let h = one-kind _ _ c.kind_of-k.ensures c.kind_of.ensures (sym c.ne.ensures ∙ c.if-ne.false) in
+    let k = sym c.kind_of-k.ensures ∙ ap number_of c.in-Qualified.is in
+    rw (roots-qualified _ _ _ _ _ k (sym h ∙ k), ← c.same_word-in-Qualified.ensures, c.if-same_word.true) c.same_word-then-same_word.ensures
 
 pub returns-else-same_word : goal.returns-else-same_word
-returns-else-same_word c = rw (roots-qualified _ _ _ _ _ (sym c.kind-k.ensures ∙ c.in-3.is) (sym c.kind-l.ensures ∙ sym c.if-k-l.false ∙ c.in-3.is), ← c.same_word-in-3.ensures, c.if-same_word.false)
+unfolding number_of
+returns-else-same_word c = let h = one-kind _ _ c.kind_of-k.ensures c.kind_of.ensures (sym c.ne.ensures ∙ c.if-ne.false) in
+    let k = sym c.kind_of-k.ensures ∙ ap number_of c.in-Qualified.is in
+    rw (roots-qualified _ _ _ _ _ k (sym h ∙ k), ← c.same_word-in-Qualified.ensures, c.if-same_word.false)
+
+pub returns-then-at : goal.returns-then-at
+unfolding number_of
+returns-then-at c = let h = one-kind _ _ c.kind_of-k.ensures c.kind_of.ensures (sym c.ne.ensures ∙ c.if-ne.false) in
+    let k = sym c.kind_of-k.ensures ∙ ap number_of c.in-Call.is in
+    rw (roots-call _ _ _ _ _ k (sym h ∙ k), ← c.at.ensures, ← c.at-in-Call.ensures, eq-eqb _ _ c.if-at.true, and-true) c.same_word-then-at.ensures
 
 pub returns-else-at : goal.returns-else-at
-returns-else-at c = rw (roots-call _ _ _ _ _ (sym c.kind-k.ensures ∙ c.in-4.is) (sym c.kind-l.ensures ∙ sym c.if-k-l.false ∙ c.in-4.is), ← c.at.ensures, ← c.at-in-4.ensures, eq-eqb _ _ c.if-at.false, and-true) c.same_word-in-4.ensures
+unfolding number_of
+returns-else-at c = let h = one-kind _ _ c.kind_of-k.ensures c.kind_of.ensures (sym c.ne.ensures ∙ c.if-ne.false) in
+    let k = sym c.kind_of-k.ensures ∙ ap number_of c.in-Call.is in
+    rw (roots-call _ _ _ _ _ k (sym h ∙ k), ← c.at.ensures, ← c.at-in-Call.ensures, ne_eqb _ _ c.if-at.false, and-false)
 
-pub returns-in-5 : goal.returns-in-5
-returns-in-5 c = c.same_operator.ensures ∙ sym (roots-unary _ _ _ _ _ (sym c.kind-k.ensures ∙ c.in-5.is) (sym c.kind-l.ensures ∙ sym c.if-k-l.false ∙ c.in-5.is))
+pub returns-in-Unary : goal.returns-in-Unary
+unfolding number_of
+returns-in-Unary c = let h = one-kind _ _ c.kind_of-k.ensures c.kind_of.ensures (sym c.ne.ensures ∙ c.if-ne.false) in
+    let k = sym c.kind_of-k.ensures ∙ ap number_of c.in-Unary.is in
+    c.same_operator.ensures ∙ sym (roots-unary _ _ _ _ _ k (sym h ∙ k))
 
-pub returns-in-6 : goal.returns-in-6
-returns-in-6 c = c.same_operator-in-6.ensures ∙ sym (roots-binary _ _ _ _ _ (sym c.kind-k.ensures ∙ c.in-6.is) (sym c.kind-l.ensures ∙ sym c.if-k-l.false ∙ c.in-6.is))
+pub returns-in-Binary : goal.returns-in-Binary
+unfolding number_of
+returns-in-Binary c = let h = one-kind _ _ c.kind_of-k.ensures c.kind_of.ensures (sym c.ne.ensures ∙ c.if-ne.false) in
+    let k = sym c.kind_of-k.ensures ∙ ap number_of c.in-Binary.is in
+    c.same_operator-in-Binary.ensures ∙ sym (roots-binary _ _ _ _ _ k (sym h ∙ k))
 
-pub returns-in-7 : goal.returns-in-7
-returns-in-7 c = c.same_literal.ensures ∙ sym (roots-is _ _ _ _ _ (sym c.kind-k.ensures ∙ c.in-7.is) (sym c.kind-l.ensures ∙ sym c.if-k-l.false ∙ c.in-7.is))
-
-pub returns-in-8 : goal.returns-in-8
-returns-in-8 c = c.same_literal-in-8.ensures ∙ sym (roots-literal _ _ _ _ _ (sym c.kind-k.ensures ∙ c.in-8.is) (sym c.kind-l.ensures ∙ sym c.if-k-l.false ∙ c.in-8.is))
-
-pub returns-in_default : goal.returns-in_default
-returns-in_default c = sym (roots-star _ _ _ _ _ _ (sym c.kind-k.ensures) (sym c.kind-l.ensures ∙ sym c.if-k-l.false) c.in_default.in_default-own.rest.0.0.0.0.0.0.1 c.in_default.in_default-own.rest.0.0.0.0.0.1 c.in_default.in_default-own.rest.0.0.0.0.1 c.in_default.in_default-own.rest.0.0.0.1 c.in_default.in_default-own.rest.0.0.1 c.in_default.in_default-own.rest.0.1 c.in_default.in_default-own.rest.1)
+pub returns-in-Is : goal.returns-in-Is
+unfolding number_of
+returns-in-Is c = let h = one-kind _ _ c.kind_of-k.ensures c.kind_of.ensures (sym c.ne.ensures ∙ c.if-ne.false) in
+    ⊎_elim (λ e. let k = sym c.kind_of-k.ensures ∙ ap number_of e in c.same_literal.ensures ∙ sym (roots-is _ _ _ _ _ k (sym h ∙ k)))
+    (λ e. let k = sym c.kind_of-k.ensures ∙ ap number_of e in c.same_literal.ensures ∙ sym (roots-literal _ _ _ _ _ k (sym h ∙ k))) c.in-Is.is

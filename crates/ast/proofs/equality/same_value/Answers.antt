@@ -1,5 +1,6 @@
 -- `equality::same_value`, by the kind of the two literals.
 use native.Mathlib.Omega.{arith}
+use native.Mathlib.Omega.{arith}
 use mathlib.Core.Path.{sym, ◌∙◌}
 use Rattle.rules.specs.Places.{word_at}
 use Rattle.rules.specs.Lists.{same}
@@ -34,4 +35,4 @@ unfolding same_value contents same word_at
 returns-in-5 c = rw (value-text _ _ _ _ _ (sym c.or_least-v.ensures ∙ c.in-5.is), value-text _ _ _ _ _ (sym c.or_least-w.ensures ∙ sym c.if-v-w.false ∙ c.in-5.is)) c.same_bytes.ensures
 
 pub returns-in_default : goal.returns-in_default
-returns-in_default c = sym (both-null _ _ _ _ _ _ _ _ _ (sym c.or_least-v.ensures) (sym c.or_least-w.ensures ∙ sym c.if-v-w.false) c.in_default.in_default-own.rest.0.0.0.1 c.in_default.in_default-own.rest.0.0.1 c.in_default.in_default-own.rest.0.1 c.in_default.in_default-own.rest.1)
+returns-in_default c = sym (both-null _ _ _ _ _ _ _ _ _ (sym c.or_least-v.ensures) (sym c.or_least-w.ensures ∙ sym c.if-v-w.false) (λ e. omega (arith, e)) (λ e. omega (arith, e)) (λ e. omega (arith, e)) (λ e. omega (arith, e)))

@@ -1,4 +1,5 @@
 -- `row::literal_kind`, by the number.
+use native.Mathlib.Omega.{arith}
 use Rattle.numbers.specs.Codes.{coded}
 use Rattle.ast.specs.Row.{literal_kind_of, literal-rest}
 use Rattle.ast.proofs.row.literal_kind.Goals as goal
@@ -20,4 +21,4 @@ unfolding literal_kind_of coded
 returns-in-5 c = rw c.in-5.is
 
 pub returns-in_default : goal.returns-in_default
-returns-in_default c = literal-rest _ c.in_default.in_default-own.rest.0.0.0.1 c.in_default.in_default-own.rest.0.0.1 c.in_default.in_default-own.rest.0.1 c.in_default.in_default-own.rest.1
+returns-in_default c = literal-rest _ (λ e. omega (arith, e)) (λ e. omega (arith, e)) (λ e. omega (arith, e)) (λ e. omega (arith, e))

@@ -10,8 +10,5 @@ use Rattle.ast.proofs.walk.+collect.Given as goal
 abbrev pub decreases-collect : goal.decreases-collect
 decreases-collect l = length l.table.now - l.r
 
-abbrev pub invariant-loop-left : goal.invariant-loop-left
-invariant-loop-left l = (l.r < l.p) × (row_size * l.r < length l.table) × (length l.rows ≡ length l.initial.rows) × (collected (length l.initial.rows) l.n (rows_of (collect_rows l.catalog l.statement l.table) l.table l.left l.p) ≡ collected (length l.initial.rows) l.count (collect_rows l.catalog l.statement l.table l.r)) × (sets l.rows l.n (rows_of (collect_rows l.catalog l.statement l.table) l.table l.left l.p) ≡ sets l.initial.rows l.count (collect_rows l.catalog l.statement l.table l.r))
-
-abbrev pub decreases-loop-left : goal.decreases-loop-left
-decreases-loop-left l = l.left
+abbrev pub invariant-loop : goal.invariant-loop
+invariant-loop l = (l.r < l.p) × (row_size * l.r < length l.table) × (length l.rows ≡ length l.initial.rows) × (collected (length l.initial.rows) l.n (rows_of (collect_rows l.catalog l.statement l.table) l.table (l.operands - l.counter) l.p) ≡ collected (length l.initial.rows) l.count (collect_rows l.catalog l.statement l.table l.r)) × (sets l.rows l.n (rows_of (collect_rows l.catalog l.statement l.table) l.table (l.operands - l.counter) l.p) ≡ sets l.initial.rows l.count (collect_rows l.catalog l.statement l.table l.r))

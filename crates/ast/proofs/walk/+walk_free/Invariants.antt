@@ -10,8 +10,5 @@ use Rattle.ast.proofs.walk.+walk_free.Given as goal
 abbrev pub decreases-walk_free : goal.decreases-walk_free
 decreases-walk_free l = length l.table.now - l.r
 
-abbrev pub invariant-loop-left : goal.invariant-loop-left
-invariant-loop-left l = (l.r < l.p) × (row_size * l.r < length l.table) × (walked l.any (arguments_at (tree_at l.catalog l.statement l.table) l.table l.left l.p) ≡ walk_free (tree_at l.catalog l.statement l.table l.r))
-
-abbrev pub decreases-loop-left : goal.decreases-loop-left
-decreases-loop-left l = l.left
+abbrev pub invariant-loop : goal.invariant-loop
+invariant-loop l = (l.r < l.p) × (row_size * l.r < length l.table) × (walked l.any (arguments_at (tree_at l.catalog l.statement l.table) l.table (l.operands - l.counter) l.p) ≡ walk_free (tree_at l.catalog l.statement l.table l.r))
