@@ -91,7 +91,7 @@ impl<'a> Writer<'a> {
     }
 
     // A source column's target, or that it is dropped.
-    fn target(&mut self, x: u32)
+    fn column_target(&mut self, x: u32)
         ensures { Fields self.old self.new (target_fields 0 (x ∷ [])) }
     {
         if x == 0 {
@@ -104,7 +104,7 @@ impl<'a> Writer<'a> {
         ensures { Fields self.old self.new (targets_fields s.now) }
     {
         for x in s {
-            self.target(*x);
+            self.column_target(*x);
         }
     }
 
