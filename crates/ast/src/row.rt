@@ -7,6 +7,7 @@ ghost use Rattle.ast.specs.Operands.{kind_at};
 ghost use Rattle.ast.specs.Row as row;
 
 use crate::rows::{at, or_least};
+use text::places::Place;
 
 #[derive(Clone, Copy, Debug, PartialEq, Eq)]
 pub enum Kind {
@@ -65,16 +66,14 @@ pub fn name_length(table: &[u32], r: usize) -> u32
 }
 
 // The place of the table's name that qualifies a column.
-pub fn qualifier_address(table: &[u32], r: usize) -> u32
-    ensures { result ≡ row.qualifier_address table.now r }
+pub fn qualifier(table: &[u32], r: usize) -> Place
+    ensures address { result.address ≡ row.qualifier_address table.now r }
+    ensures length { result.length ≡ row.qualifier_length table.now r }
 {
-    at(table, r, 6)
-}
-
-pub fn qualifier_length(table: &[u32], r: usize) -> u32
-    ensures { result ≡ row.qualifier_length table.now r }
-{
-    at(table, r, 7)
+    Place {
+        address: at(table, r, 6),
+        length: at(table, r, 7),
+    }
 }
 
 // How many arguments a call has.

@@ -88,10 +88,7 @@ pub fn qualified<'t, 'a>(
         (take width labels.now) (take width matches.now) (take count tables.now)
         r n area.old area.new result }
 {
-    let qualifier = Place {
-        address: row::qualifier_address(table, r),
-        length: row::qualifier_length(table, r),
-    };
+    let qualifier = row::qualifier(table, r);
     column(
         catalog,
         statement,

@@ -10,7 +10,7 @@ ghost use Rattle.scope.specs.Lookup.{qualifier_of};
 ghost use Rattle.numbers.specs.Options.{option_of};
 ghost use Rattle.build_hidden.specs.Lacking.{NameLacking, ColumnLacking, Lacking};
 
-use ast::row::{Kind, kind_of, name_address, name_length, qualifier_address, qualifier_length};
+use ast::row::{Kind, kind_of, name_address, name_length, qualifier};
 use scope::lookup::lookup;
 use scope::matches::lookup_aggregate;
 use text::places::Place;
@@ -129,10 +129,7 @@ fn lacking_column<'t, 'a>(
         Kind::Qualified => {
             let a = name_address(cells, r);
             let n = name_length(cells, r);
-            let qualifier = Some(Place {
-                address: qualifier_address(cells, r),
-                length: qualifier_length(cells, r),
-            });
+            let place = qualifier(cells, r);
             lacking_name(
                 catalog,
                 statement,
@@ -144,7 +141,7 @@ fn lacking_column<'t, 'a>(
                 child_labels,
                 child_matches,
                 child_width,
-                qualifier,
+                Some(place),
                 a,
                 n,
             )

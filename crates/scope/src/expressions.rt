@@ -6,7 +6,7 @@ ghost use Rattle.scope.specs.Lookup.{qualifier_of};
 ghost use Rattle.scope.specs.LabelOf.{LabelFound, Passed};
 
 use super::lookup::lookup;
-use ast::row::{Kind, kind_of, name_address, name_length, qualifier_address, qualifier_length};
+use ast::row::{Kind, kind_of, name_address, name_length, qualifier};
 use numbers::number;
 use text::places::Place;
 
@@ -65,12 +65,9 @@ pub fn label_of<'t, 'a>(
         Kind::Qualified => {
             let a = name_address(table, r);
             let n = name_length(table, r);
-            let qualifier = Some(Place {
-                address: qualifier_address(table, r),
-                length: qualifier_length(table, r),
-            });
+            let place = qualifier(table, r);
             label_found(
-                catalog, statement, labels, matches, width, tables, count, qualifier, a, n,
+                catalog, statement, labels, matches, width, tables, count, Some(place), a, n,
             )
         }
         Kind::Star => 0,

@@ -14,7 +14,7 @@ returns-in-Column c = passed-column _ _ _ c.kind_of-k.ensures
 pub returns-in-Qualified : goal.returns-in-Qualified
 returns-in-Qualified c = passed-qualified _ _ _ c.kind_of-k.ensures
     c.name_address-a-in-Qualified.ensures c.name_length-n-in-Qualified.ensures
-    c.qualifier_address.ensures c.qualifier_length.ensures
+    c.qualifier-place.ensures.address c.qualifier-place.ensures.length
     c.in-Qualified.is c.label_found-in-Qualified.ensures
 
 pub returns-in-Star : goal.returns-in-Star
