@@ -22,7 +22,7 @@ const FLOAT: u32 = 4;
 
 const TEXT: u32 = 5;
 
-// A literal's kind and its two numbers.
+// A literal's kind and its two numbers. The kind is no enum, which would be no plainer: callers store its number in tables.
 #[derive(Clone, Copy)]
 pub struct Literal {
     pub kind: u32,

@@ -3,6 +3,7 @@ ghost use Rattle.std.specs.Prelude.{◌≡◌, ◌/◌, ◌%◌, ◌^◌};
 ghost use Rattle.numbers.specs.Bits as bits;
 
 // The 64 bits of two halves.
+#[tactic(auto, unfolding(crate::specs::Bits::joined))]
 pub fn joined(low: u32, high: u32) -> u64
     ensures { result ≡ bits.joined low high }
 {

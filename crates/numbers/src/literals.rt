@@ -8,6 +8,7 @@ ghost use Rattle.numbers.specs.Values.{value_at};
 use super::halves::joined;
 
 // Whether the bits n are a NaN's.
+#[tactic(auto, unfolding(rules::specs::BuildExpression::is_null_or_nan))]
 pub fn is_nan(n: u64) -> bool
     ensures { result ≡ is_null_or_nan (float n) }
 {

@@ -132,7 +132,7 @@ fn few(s: [usize; 4], l: [usize; 4], count: usize, next: usize) -> Line
     }
 }
 
-// The fields of the line at a position: most lines have at most four, and a LF.
+// The fields of the line at a position. Most lines have at most four and a LF: for these the loop would be slower.
 pub fn fields(t: &[u8], at: usize) -> Line
     ensures { Fields t.now at result }
 {
@@ -175,7 +175,7 @@ pub fn fields(t: &[u8], at: usize) -> Line
     }
 }
 
-// Whether two byte strings are the same. The last bytes first: names of one length differ mostly there.
+// Whether two byte strings are the same. The last bytes first, and not by `==`: names of one length differ mostly there.
 pub fn equal(x: &[u8], y: &[u8]) -> bool
     ensures { result ≡ same x.now y.now }
 {
@@ -202,6 +202,7 @@ pub fn which(words: &[u8], t: &[u8], a: usize, n: usize) -> usize
     ensures { result ≡ find (words_of words.now) (take n (drop a t.now)) }
 {
     let x = part(t, a, n);
+    // counted by hand: `split` is no plainer, since it gives one word more, behind the last blank
     let mut k: usize = 0;
     let mut i: usize = 0;
     while i < words.len() {
@@ -218,7 +219,8 @@ pub fn which(words: &[u8], t: &[u8], a: usize, n: usize) -> usize
 // Numbers below this have room for a byte more.
 const ROOM: u64 = 0x100000000000000;
 
-// The n bytes at a as one number, the first byte lowest, with a 1 above the last; 0 where there are more than seven.
+// The n bytes at a as one number, the first byte lowest, with a 1 above the last; 0, which no word has, where there are more
+// than seven. An Option is no plainer: callers compare the number with those of words.
 pub fn packed(t: &[u8], a: usize, n: usize) -> u64
     ensures { Packed (take n (drop a t.now)) result }
 {
@@ -241,6 +243,7 @@ pub fn holds(t: &[u8], a: usize, n: usize, word: &[u8]) -> bool
 }
 
 // Whether a name may have n bytes.
+#[tactic(auto, unfolding(crate::specs::Numbers::is_name))]
 pub fn is_name(n: usize) -> bool
     ensures { result ≡ is_name n }
 {
@@ -282,6 +285,7 @@ pub fn decimal(t: &[u8], a: usize, n: usize, most: u64) -> Option<u64>
 }
 
 // The count or position that the n bytes at a are: 513 stands for all above 512.
+#[tactic(auto, unfolding(rules::specs::Reader::count_field))]
 pub fn count(t: &[u8], a: usize, n: usize) -> Option<u64>
     ensures { (o : ℕ) → option_of result ≡ reader.count_field (record { bytes = take n (drop a t.now); start = o }) }
 {
