@@ -176,10 +176,10 @@ module _ (f : ℕ → Expr) (t : List ℕ) (n p : ℕ) where
   unfolding check_all answered
   check-end h = rw (arguments-none f t n p h)
 
-  pub check-more : (x : Result (Unit {0}) Refusal) → x ≡ Ok tt → checked_of x ≡ check (f p) → 0 < n
-      → check_all (arguments_at f t (n - 1) (p + rows_at t p)) ≡ check_all (arguments_at f t n p)
+  pub check-more : (m : ℕ) → m ≡ n - 1 → (x : Result (Unit {0}) Refusal) → x ≡ Ok tt → checked_of x ≡ check (f p) → 0 < n
+      → check_all (arguments_at f t m (p + rows_at t p)) ≡ check_all (arguments_at f t n p)
   unfolding check_all answered first_of ◌>>=◌
-  check-more x e g h = rw (arguments-more f t n p h, ← g, e)
+  check-more m k x e g h = rw (k, arguments-more f t n p h, ← g, e)
 
   pub check-stop : (x : Result (Unit {0}) Refusal) (w : Refusal) → x ≡ Err w → checked_of x ≡ check (f p) → 0 < n
       → checked_of x ≡ check_all (arguments_at f t n p)

@@ -78,18 +78,17 @@ pub fn check_constant(
 ) -> Result<(), Refusal>
     ensures { checked_of result ≡ check (tree_at catalog.now statement.now table.now r) }
 {
-    let mut left = rows::operands(table, r);
-    if left == 0 {
+    let count = rows::operands(table, r);
+    if count == 0 {
         return check_record(catalog, statement, table, r, Ok(()));
     }
     let mut p = r + 1;
-    while 0 < left {
+    for _ in 0..count {
         let operand = check_constant(catalog, statement, table, p);
         let Ok(()) = operand else {
             return check_record(catalog, statement, table, r, operand);
         };
         p = rows::next(table, p);
-        left -= 1;
     }
     check_record(catalog, statement, table, r, Ok(()))
 }

@@ -117,10 +117,7 @@ pub fn ne(catalog: &[u8], statement: &[u8], a: Value, b: Value) -> Result<Value,
 pub fn is_null(a: Value) -> Result<Value, Reason>
     ensures { (c q : Bytes) → worked_of c q result ≡ is_of rule.null (value_of c q a) }
 {
-    match a {
-        Value::Null => Ok(Value::Bool(true)),
-        _ => Ok(Value::Bool(false)),
-    }
+    Ok(Value::Bool(matches!(a, Value::Null)))
 }
 
 // `is` with a NaN, whatever its bits.

@@ -10,11 +10,8 @@ use Rattle.expression.proofs.constants.+check_constant.Given as goal
 abbrev pub decreases-check_constant : goal.decreases-check_constant
 decreases-check_constant l = length l.table.now - l.r
 
-abbrev pub invariant-loop-left : goal.invariant-loop-left
-invariant-loop-left l =
+abbrev pub invariant-loop : goal.invariant-loop
+invariant-loop l =
     (l.r < l.p) × (row_size * l.r < length l.table)
-    × (check_all (arguments_at (tree_at l.catalog l.statement l.table) l.table l.left l.p)
+    × (check_all (arguments_at (tree_at l.catalog l.statement l.table) l.table (operands_at l.table l.r - l.counter) l.p)
     ≡ check_all (arguments_at (tree_at l.catalog l.statement l.table) l.table (operands_at l.table l.r) (suc l.r)))
-
-abbrev pub decreases-loop-left : goal.decreases-loop-left
-decreases-loop-left l = l.left
