@@ -1,5 +1,6 @@
 -- What reading a column comes to, where it takes the fewest bytes of its default's line at least.
-use Rattle.std.specs.Prelude.{ℕ, suc, ◌+◌, ◌≤◌, ◌<◌, ◌≡◌, List, [], ◌∷◌, length, refl}
+use Rattle.std.specs.Prelude.{ℕ, suc, ◌+◌, ◌≤◌, ◌<◌, ◌≡◌, List, [], ◌∷◌, length, refl, Result, Ok, Err, Some, None}
+use Rattle.std.specs.Prelude as std
 use native.Mathlib.Omega.{arith}
 use Rattle.std.proofs.Math.Path.{sym, ap}
 use Rattle.std.proofs.Common.{◌∙◌}
@@ -17,15 +18,15 @@ use Rattle.text.specs.Lines.{line_end, line-most}
 use Rattle.text.specs.Reading.{place, place-next}
 use Rattle.schema.specs.Layout.{column_start, column_of}
 use Rattle.schema.specs.Records.{Position, here, default_said, column_here, column_said, ColumnEnds, ColumnLine}
-use Rattle.text.specs.Answers.{wrong_at, limit_at, prefixed}
+use Rattle.text.specs.Answers.{prefixed}
 use Rattle.numbers.specs.Kept.{kept-all, kept-sets-behind}
 use Rattle.numbers.specs.Stores.{Stored, stored-first, stored-sets, sets-append}
 use Rattle.numbers.specs.Values.{is_one, type_at, default_of}
-use Rattle.schema.specs.declared.record.DefaultRecord.{DefaultRecord}
+use Rattle.numbers.specs.declared.refusals.Reason.TheVariants.{WrongRecord, LimitPassed}
+use Rattle.numbers.specs.declared.refusals.Refusal as code
+use Rattle.numbers.specs.Reasons.{reason_of}
 use Rattle.schema.specs.declared.record.ColumnRecord.{ColumnRecord}
-use Rattle.schema.specs.declared.record.DefaultRecord.TheVariants as D
-use Rattle.schema.specs.declared.record.ColumnRecord.TheVariants as C
-use Rattle.schema.specs.declared.read.ColumnStep.TheVariants as S
+use Rattle.schema.specs.declared.Default.{Default}
 use Rattle.schema.specs.Room.{least_line, least_default, least_column, column_fits, column-bytes, field_bytes, Closed, line-size, named-short, default-short, field-most}
 use Rattle.schema.specs.Columns.{columns, columns-end, columns-wrong, columns-limit, columns-no, columns-on, body-no, body_ok, ColumnReady, columns_from, ColumnMoves, ColumnRead, line-position}
 
@@ -39,19 +40,19 @@ default-least (w ∷ r) d h =
 pub default-bytes : (t : Bytes) (p l : ℕ) (d : Option Value) → one_of (default_records literals) (line_here (here t p l)) ≡ some d → p + least_default ≤ line_end t p
 default-bytes t p l d h = let g = default-least (line_here (here t p l)) d h in line-size t p l least_default g.0 g.1
 
-module _ {t : Bytes} {s : List ℕ} {p l f n : ℕ} (w : ColumnReady t s p l f n) {c : ColumnRecord} (h : ColumnLine t p c) where
-  says-as : (q : Bytes) (d : ColumnRecord) → c ≡ d → column_here (here t p l) ≡ column_said t q d
+module _ {t : Bytes} {s : List ℕ} {p l f n : ℕ} (w : ColumnReady t s p l f n) {c : Result (std.Option ColumnRecord) code.Refusal} (h : ColumnLine t p l c) where
+  says-as : (q : Bytes) (d : Result (std.Option ColumnRecord) code.Refusal) → c ≡ d → column_here (here t p l) ≡ column_said t q d
   says-as q d z = sym (h.says q l) ∙ ap (column_said t q) z
 
-  pub column-end : c ≡ C.Missing → ColumnRead t p l f n s s S.End
+  pub column-end : c ≡ Ok None → ColumnRead t p l f n s s (Ok None)
   unfolding columns_from ColumnMoves column_said
   column-end z = record { says = λ q fuel. sym (columns-end _ fuel n (says-as q _ z)); kept = kept-all _ _ s; moves = tt }
 
-  pub column-wrong : c ≡ C.Wrong → ColumnRead t p l f n s s (S.Wrong l)
-  unfolding columns_from ColumnMoves column_said wrong_at stop place
-  column-wrong z = record { says = λ q fuel. sym (columns-wrong _ fuel n none (says-as q _ z) refl); kept = kept-all _ _ s; moves = tt }
+  pub column-wrong : {w : code.Refusal} → c ≡ Err w → ColumnRead t p l f n s s (Err w)
+  unfolding columns_from ColumnMoves ColumnEnds column_said reason_of stop place
+  column-wrong {w} z = let e : w ≡ record { reason = WrongRecord; line = l } = rw z at h.next in rw e record { says = λ q fuel. sym (columns-wrong _ fuel n none (says-as q _ z) refl); kept = kept-all _ _ s; moves = tt }
 
-  module _ {a m k u e : ℕ} (z : c ≡ C.Column a m k u e) where
+  module _ {a m k u e : ℕ} (z : c ≡ Ok (Some (record { name = record { address = a; length = m }; datatype = k; nullable = u; next = e }))) where
     said : (q : Bytes) → column_here (here t p l) ≡ some (some (word_at t q a m, type_at k, is_one u))
     unfolding column_said
     said q = says-as q _ z
@@ -69,20 +70,20 @@ module _ {t : Bytes} {s : List ℕ} {p l f n : ℕ} (w : ColumnReady t s p l f n
     at_next : next (here t p l) ≡ here t e (l + 1)
     at_next = place-next catalog t p l 0 0 ∙ ap (λ x. here t x (l + 1)) (sym ends)
 
-    pub column-limit : most_table_columns ≤ n → ColumnRead t p l f n s s (S.Limit l)
-    unfolding columns_from ColumnMoves limit_at stop place
+    pub column-limit : most_table_columns ≤ n → ColumnRead t p l f n s s (Err (record { reason = LimitPassed; line = l }))
+    unfolding columns_from ColumnMoves reason_of stop place
     column-limit g = record { says = λ q fuel. sym (columns-limit _ fuel n _ (said q) _ refl g); kept = kept-all _ _ s; moves = tt }
 
-    module _ (g : n < most_table_columns) (d : DefaultRecord) (given : (q : Bytes) (i : ℕ) → default_said t q d ≡ one_of (default_records literals) (line_here (here t e i))) where
-      pub column-default : d ≡ D.Wrong → ColumnRead t p l f n s s (S.Wrong (l + 1))
-      unfolding columns_from ColumnMoves wrong_at stop place default_said
+    module _ (g : n < most_table_columns) (d : std.Option Default) (given : (q : Bytes) (i : ℕ) → default_said t q d ≡ one_of (default_records literals) (line_here (here t e i))) where
+      pub column-default : d ≡ None → ColumnRead t p l f n s s (Err (record { reason = WrongRecord; line = l + 1 }))
+      unfolding columns_from ColumnMoves reason_of stop place default_said
       column-default y = record {
         says = λ q fuel. sym (columns-no _ fuel n _ (said q) _ refl g _ (ap (column_body l _) at_next ∙ body-no l _ (here t e (l + 1)) (sym (given q (l + 1)) ∙ ap (default_said t q) y)));
         kept = kept-all _ _ s;
         moves = tt;
       }
 
-      module _ {x y v : ℕ} (o : d ≡ D.Default x y v) where
+      module _ {x y v : ℕ} (o : d ≡ Some (record { kind = x; first = y; second = v })) where
         given-as : (q : Bytes) → one_of (default_records literals) (line_here (here t e (l + 1))) ≡ some (default_of t q x y v)
         unfolding default_said
         given-as q = sym (given q (l + 1)) ∙ ap (default_said t q) o
@@ -113,7 +114,7 @@ module _ {t : Bytes} {s : List ℕ} {p l f n : ℕ} (w : ColumnReady t s p l f n
                 stands.at 6 (omega arith),
               )
 
-          pub column-read : {e₃ : ℕ} → e₃ ≡ line_end t e → ColumnRead t p l f n s s₂ (S.Column e₃)
+          pub column-read : {e₃ : ℕ} → e₃ ≡ line_end t e → ColumnRead t p l f n s s₂ (Ok (Some e₃))
           unfolding columns_from ColumnMoves place
           column-read {e₃} z₃ = record {
             says = λ q fuel. sym (columns-on _ fuel n _ (said q) _ refl g _ _ (ap (column_body l _) at_next ∙ body_ok l _ (here t e (l + 1)) _ (given-as q)) ∙ goes_on q fuel);

@@ -1,5 +1,5 @@
 -- The column's record, field by field.
-use Rattle.std.specs.Prelude.{ℕ, zero, suc, ◌+◌, ◌-◌, ◌≤◌, ◌<◌, ◌≡◌, refl, Bool, true, false, List, [], ◌∷◌, length, get_or, take, drop}
+use Rattle.std.specs.Prelude.{ℕ, zero, suc, ◌+◌, ◌-◌, ◌≤◌, ◌<◌, ◌≡◌, refl, Bool, true, false, List, [], ◌∷◌, length, get_or, take, drop, Ok, Err, Some, None}
 use Rattle.std.proofs.Common.{arith, ◌∙◌}
 use Rattle.std.proofs.Math.Path.{sym, ap}
 use Rattle.std.proofs.Math.Option.{Option, none, some}
@@ -18,7 +18,7 @@ use Rattle.text.specs.Reading.{field_of, at-is, rest-three, rest-other, name-yes
 use Rattle.numbers.specs.Codes.{coded}
 use Rattle.numbers.specs.Values.{is_one, type_at}
 use Rattle.schema.specs.Records.{Position, here, column_here, column_said, ColumnEnds, ColumnLine, field-here, field-most}
-use Rattle.schema.specs.declared.record.ColumnRecord.TheVariants as C
+use Rattle.numbers.specs.declared.refusals.Reason.TheVariants.{WrongRecord}
 
 -- THE FIELDS OF A COLUMN
 three-fields : (r : List Word) → (length r ≡ 3 → ⊥) → column_fields r ≡ none
@@ -79,8 +79,8 @@ module _ (t : Bytes) (f : Line) (i k : ℕ) where
   null-number e = named_by nullables (bytes "null notnull ") _ k null-keys e
 
 -- THE COLUMN'S LINE
-module _ (t : Bytes) (p : ℕ) (f : Line) (g : Fields t p f) {b : Bool} (key : b ≡ same (take (get_or f.lens 0 0) (drop (get_or f.starts 0 0) t)) (bytes "column")) where
-  pub column-missing : b ≡ false → ColumnLine t p C.Missing
+module _ (t : Bytes) (p line : ℕ) (f : Line) (g : Fields t p f) {b : Bool} (key : b ≡ same (take (get_or f.lens 0 0) (drop (get_or f.starts 0 0) t)) (bytes "column")) where
+  pub column-missing : b ≡ false → ColumnLine t p line (Ok None)
   unfolding column_said ColumnEnds column_here
   column-missing e = record { says = λ q l. sym (rw (column_here, at-is catalog t p l 0 0 f g (bytes "column"), ← key, e)); next = tt }
 
@@ -89,25 +89,25 @@ module _ (t : Bytes) (p : ℕ) (f : Line) (g : Fields t p f) {b : Bool} (key : b
     unfolding column_here
     column-here l = rw (column_here, at-is catalog t p l 0 0 f g (bytes "column"), ← key, e)
 
-    column-wrong : ((l : ℕ) → column_fields (rest (here t p l)) ≡ none) → ColumnLine t p C.Wrong
+    column-wrong : ((l : ℕ) → column_fields (rest (here t p l)) ≡ none) → ColumnLine t p line (Err (record { reason = WrongRecord; line = line }))
     unfolding column_said ColumnEnds
-    column-wrong h = record { says = λ q l. sym (column-here l ∙ ap some (h l)); next = tt }
+    column-wrong h = record { says = λ q l. sym (column-here l ∙ ap some (h l)); next = refl }
 
-    pub column-count : (f.count ≡ 4 → ⊥) → ColumnLine t p C.Wrong
+    pub column-count : (f.count ≡ 4 → ⊥) → ColumnLine t p line (Err (record { reason = WrongRecord; line = line }))
     column-count h = column-wrong (λ l. three-fields (rest (here t p l)) (rest-other catalog t p l 0 0 f g 3 (omega arith) h))
 
     module _ (n : f.count ≡ 4) where
       column-fields : (l : ℕ) (o : Option (Word × Datatype × Bool)) → column_fields (field_of catalog t f 1 ∷ field_of catalog t f 2 ∷ field_of catalog t f 3 ∷ []) ≡ o → column_fields (rest (here t p l)) ≡ o
       column-fields l o h = ap column_fields (rest-three catalog t p l 0 0 f g n) ∙ h
 
-      pub column-name : is_name (get_or f.lens 1 0) ≡ false → ColumnLine t p C.Wrong
+      pub column-name : is_name (get_or f.lens 1 0) ≡ false → ColumnLine t p line (Err (record { reason = WrongRecord; line = line }))
       column-name h = column-wrong (λ l. column-fields l none (column-name-no _ _ _ (name-no catalog t p l 0 0 f g 1 (omega arith) h)))
 
       module _ (h : is_name (get_or f.lens 1 0) ≡ true) {k : ℕ} (ek : k ≡ find (words_of (bytes "bool int float text ")) (take (get_or f.lens 2 0) (drop (get_or f.starts 2 0) t))) where
         named : (l : ℕ) → name (field_of catalog t f 1) ≡ some (field_of catalog t f 1)
         named l = name-yes catalog t p l 0 0 f g 1 (omega arith) h
 
-        pub column-type : 4 ≤ k → ColumnLine t p C.Wrong
+        pub column-type : 4 ≤ k → ColumnLine t p line (Err (record { reason = WrongRecord; line = line }))
         unfolding datatypes
         column-type m = column-wrong (λ l. column-fields l none (column-type-no _ _ _ (named l) (type-number t f 2 k ek ∙ nth-none datatypes k m)))
 
@@ -115,11 +115,11 @@ module _ (t : Bytes) (p : ℕ) (f : Line) (g : Fields t p f) {b : Bool} (key : b
           typed : word datatypes (field_of catalog t f 2) ≡ some (type_at (k + 1))
           typed = type-number t f 2 k ek ∙ type-nth k m
 
-          pub column-null : 2 ≤ u → ColumnLine t p C.Wrong
+          pub column-null : 2 ≤ u → ColumnLine t p line (Err (record { reason = WrongRecord; line = line }))
           unfolding nullables
           column-null v = column-wrong (λ l. column-fields l none (column-null-no _ _ _ _ (named l) typed (null-number t f 3 u eu ∙ nth-none nullables u v)))
 
-          pub column-right : Position t p → u < 2 → ColumnLine t p (C.Column (get_or f.starts 1 0) (get_or f.lens 1 0) (k + 1) (1 - u) f.next)
+          pub column-right : Position t p → u < 2 → ColumnLine t p line (Ok (Some (record { name = record { address = get_or f.starts 1 0; length = get_or f.lens 1 0 }; datatype = k + 1; nullable = 1 - u; next = f.next })))
           unfolding column_said ColumnEnds field_of
           column-right w v = record {
             says = λ q l. sym (column-here l ∙ ap some (column-fields l _ (column-yes _ _ _ _ _ (named l) typed (null-number t f 3 u eu ∙ null-nth u v)

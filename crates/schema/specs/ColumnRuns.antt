@@ -1,40 +1,37 @@
 -- All columns of a table, by a loop over them.
-use Rattle.std.specs.Prelude.{ℕ, suc, ◌+◌, ◌*◌, ◌-◌, ◌≤◌, ◌<◌, ◌≡◌, List, length}
+use Rattle.std.specs.Prelude.{ℕ, suc, ◌+◌, ◌*◌, ◌-◌, ◌≤◌, ◌<◌, ◌≡◌, List, length, Option, Result, Ok, Err, Some, None}
 use Rattle.std.proofs.Common.{arith, add-one, sym, ◌∙◌, append-nil}
 use Rattle.std.proofs.Math.Path.{ap}
-use Rattle.rules.specs.Refusals.{catalog, Answer, ok}
+use Rattle.rules.specs.Refusals.{catalog, Answer, ok, refused}
 use Rattle.rules.specs.Limits.{most_table_columns}
 use Rattle.rules.specs.Lists.{Bytes}
 use Rattle.rules.specs.Schema.{Column}
 use Rattle.rules.specs.Reader.{Place}
 use Rattle.schema.specs.Layout.{column_start, columns_at}
 use Rattle.schema.specs.Records.{here}
-use Rattle.text.specs.Answers.{wrong_at, limit_at, prefixed, prefixed-none, prefixed-twice}
+use Rattle.text.specs.Answers.{prefixed, prefixed-none, prefixed-twice}
 use Rattle.numbers.specs.Kept.{Kept, kept-all, kept-part, kept_on}
 use Rattle.schema.specs.Room.{least_column}
 use Rattle.schema.specs.Store.{columns-kept, columns-more}
 use Rattle.schema.specs.Columns.{columns, columns_from, ColumnReady, ColumnMoves, ColumnRead}
-use Rattle.schema.specs.declared.read.ColumnStep.{ColumnStep}
-use Rattle.schema.specs.declared.read.ColumnStep.TheVariants as S
+use Rattle.numbers.specs.declared.refusals.Refusal as code
+use Rattle.numbers.specs.Reasons.{told}
 use Rattle.schema.specs.declared.read.Run.{Run}
-use Rattle.schema.specs.declared.read.Run.TheVariants as R
 
 -- the columns that were read, the first of them the f-th of all
-unfoldable pub columns_of : Bytes → Bytes → List ℕ → ℕ → Run → Answer (List Column × Place)
-columns_of t q s f (R.Done e l n) = ok (columns_at t q s f n, here t e l)
-columns_of t q s f (R.Wrong k) = wrong_at catalog k
-columns_of t q s f (R.Limit k) = limit_at catalog k
+unfoldable pub columns_of : Bytes → Bytes → List ℕ → ℕ → Result Run code.Refusal → Answer (List Column × Place)
+columns_of t q s f (Ok r) = ok (columns_at t q s f r.count, here t r.position r.line)
+columns_of t q s f (Err w) = refused (told catalog w)
 
-unfoldable pub ColumnsMove : Bytes → ℕ → Run → Type 0
-ColumnsMove t p (R.Done e l n) = (p + least_column * n ≤ e) × (e ≤ length t) × (l ≤ e + 1) × (n ≤ most_table_columns)
-ColumnsMove t p (R.Wrong k) = Unit
-ColumnsMove t p (R.Limit k) = Unit
+unfoldable pub ColumnsMove : Bytes → ℕ → Result Run code.Refusal → Type 0
+ColumnsMove t p (Ok r) = (p + least_column * r.count ≤ r.position) × (r.position ≤ length t) × (r.line ≤ r.position + 1) × (r.count ≤ most_table_columns)
+ColumnsMove t p (Err w) = Unit
 
 -- every column takes a line, so as many turns as there are bytes left are enough
 unfoldable pub turns_at : Bytes → ℕ → ℕ
 turns_at t p = suc (length t - p)
 
-pub record ColumnsRead (t : Bytes) (p l f : ℕ) (s s' : List ℕ) (r : Run) : Type 0 where
+pub record ColumnsRead (t : Bytes) (p l f : ℕ) (s s' : List ℕ) (r : Result Run code.Refusal) : Type 0 where
   pub says : (q : Bytes) → columns_of t q s' f r ≡ columns (turns_at t p) 0 (here t p l)
   pub kept : Kept 0 (column_start f) s s'
   pub moves : ColumnsMove t p r
@@ -52,7 +49,7 @@ columns-begin t p l f s w =
     let z : turns_at t p - 0 ≡ turns_at t p = omega arith in
     record { is = λ q. prefixed-none _ ∙ rw z; passed = omega arith; kept = kept-all _ _ s; ready = w }
 
-module _ {t : Bytes} {p₀ l₀ f : ℕ} {s₀ : List ℕ} {p l n : ℕ} {s s' : List ℕ} {r : ColumnStep}
+module _ {t : Bytes} {p₀ l₀ f : ℕ} {s₀ : List ℕ} {p l n : ℕ} {s s' : List ℕ} {r : Result (Option ℕ) code.Refusal}
     (h : ColumnLoop t p₀ l₀ f s₀ p l n s) (g : ColumnRead t p l f n s s' r) where
   turn : turns_at t p₀ - n ≡ suc (turns_at t p₀ - (n + 1))
   unfolding turns_at
@@ -67,10 +64,10 @@ module _ {t : Bytes} {p₀ l₀ f : ℕ} {s₀ : List ℕ} {p l n : ℕ} {s s' :
   all-kept : Kept 0 (column_start f) s₀ s'
   all-kept = kept_on h.kept (kept-part 0 (column_start f) g.kept (omega arith) (omega arith))
 
-  rest-as : (x : ColumnStep) → r ≡ x → (q : Bytes) → prefixed (columns_at t q s' f n) (columns_from t q s' p l f n (turns_at t p₀ - (n + 1)) x) ≡ columns (turns_at t p₀) 0 (here t p₀ l₀)
+  rest-as : (x : Result (Option ℕ) code.Refusal) → r ≡ x → (q : Bytes) → prefixed (columns_at t q s' f n) (columns_from t q s' p l f n (turns_at t p₀ - (n + 1)) x) ≡ columns (turns_at t p₀) 0 (here t p₀ l₀)
   rest-as x e q = rw e at (rest q)
 
-  pub columns-end : r ≡ S.End → ColumnsRead t p₀ l₀ f s₀ s' (R.Done p l n)
+  pub columns-end : r ≡ Ok None → ColumnsRead t p₀ l₀ f s₀ s' (Ok (record { position = p; line = l; count = n }))
   unfolding columns_of ColumnsMove columns_from prefixed
   columns-end e = record {
     says = λ q. ap (λ x. ok (x, here t p l)) (sym (append-nil _)) ∙ rest-as _ e q;
@@ -78,15 +75,11 @@ module _ {t : Bytes} {p₀ l₀ f : ℕ} {s₀ : List ℕ} {p l n : ℕ} {s s' :
     moves = (omega (arith, h.passed), h.ready.place.within, h.ready.line, h.ready.most);
   }
 
-  pub columns-wrong : {k : ℕ} → r ≡ S.Wrong k → ColumnsRead t p₀ l₀ f s₀ s' (R.Wrong k)
-  unfolding columns_of ColumnsMove columns_from prefixed wrong_at
-  columns-wrong e = record { says = rest-as _ e; kept = all-kept; moves = tt }
+  pub columns-refused : {w : code.Refusal} → r ≡ Err w → ColumnsRead t p₀ l₀ f s₀ s' (Err w)
+  unfolding columns_of ColumnsMove columns_from prefixed
+  columns-refused e = record { says = rest-as _ e; kept = all-kept; moves = tt }
 
-  pub columns-limit : {k : ℕ} → r ≡ S.Limit k → ColumnsRead t p₀ l₀ f s₀ s' (R.Limit k)
-  unfolding columns_of ColumnsMove columns_from prefixed limit_at
-  columns-limit e = record { says = rest-as _ e; kept = all-kept; moves = tt }
-
-  module _ {e : ℕ} (z : r ≡ S.Column e) where
+  module _ {e : ℕ} (z : r ≡ Ok (Some e)) where
     pub column-moved : (n < most_table_columns) × (p + least_column ≤ e) × (e ≤ length t)
     unfolding ColumnMoves
     column-moved = rw z at g.moves

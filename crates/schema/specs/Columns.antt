@@ -2,7 +2,8 @@
 --
 -- Here and in ColumnRuns, Tables, TableRuns: t is the text, s the numbers, p a position in the text and l its line, f the number
 -- of a table's first column among all, n how many columns of the table, or how many tables, stand before p.
-use Rattle.std.specs.Prelude.{ℕ, suc, ◌+◌, ◌*◌, ◌≤◌, ◌<◌, ◌≡◌, Bool, true, false, List, [], ◌∷◌, length}
+use Rattle.std.specs.Prelude.{ℕ, suc, ◌+◌, ◌*◌, ◌≤◌, ◌<◌, ◌≡◌, Bool, true, false, List, [], ◌∷◌, length, Result, Ok, Err, Some, None}
+use Rattle.std.specs.Prelude as std
 use native.Mathlib.Omega.{arith}
 use Rattle.std.proofs.Math.Path.{refl}
 use Rattle.std.proofs.Common.{◌∙◌}
@@ -18,11 +19,11 @@ use Rattle.rules.specs.ReadCatalog.{default_records, default_here, column_body}
 use Rattle.text.specs.Lines.{line_end, line-most}
 use Rattle.schema.specs.Layout.{column_start, column_of}
 use Rattle.schema.specs.Records.{Position, here, column_here}
-use Rattle.text.specs.Answers.{wrong_at, limit_at, bind_ok, bind-no, within-wrong, within-limit, within-ok, prefixed, give-first}
+use Rattle.text.specs.Answers.{bind_ok, bind-no, within-wrong, within-limit, within-ok, prefixed, give-first}
 use Rattle.numbers.specs.Kept.{Kept}
 use Rattle.schema.specs.Room.{least_column, numbers_for}
-use Rattle.schema.specs.declared.read.ColumnStep.{ColumnStep}
-use Rattle.schema.specs.declared.read.ColumnStep.TheVariants as S
+use Rattle.numbers.specs.declared.refusals.Refusal as code
+use Rattle.numbers.specs.Reasons.{told}
 
 -- THE RULES
 -- the columns that stand here, n before them
@@ -91,19 +92,17 @@ pub record ColumnReady (t : Bytes) (s : List ℕ) (p l f n : ℕ) : Type 0 where
   pub most : n ≤ most_table_columns
 
 -- what reading has come to: the columns behind this one, or the end
-unfoldable pub columns_from : Bytes → Bytes → List ℕ → ℕ → ℕ → ℕ → ℕ → ℕ → ColumnStep → Answer (List Column × Place)
-columns_from t q s p l f n fuel (S.Column e) = prefixed (column_of t q s (column_start (f + n)) ∷ []) (columns fuel (suc n) (here t e (l + 2)))
-columns_from t q s p l f n fuel (S.Wrong k) = wrong_at catalog k
-columns_from t q s p l f n fuel (S.Limit k) = limit_at catalog k
-columns_from t q s p l f n fuel S.End = ok ([], here t p l)
+unfoldable pub columns_from : Bytes → Bytes → List ℕ → ℕ → ℕ → ℕ → ℕ → ℕ → Result (std.Option ℕ) code.Refusal → Answer (List Column × Place)
+columns_from t q s p l f n fuel (Ok (Some e)) = prefixed (column_of t q s (column_start (f + n)) ∷ []) (columns fuel (suc n) (here t e (l + 2)))
+columns_from t q s p l f n fuel (Ok None) = ok ([], here t p l)
+columns_from t q s p l f n fuel (Err w) = refused (told catalog w)
 
-unfoldable pub ColumnMoves : Bytes → ℕ → ℕ → ColumnStep → Type 0
-ColumnMoves t p n (S.Column e) = (n < most_table_columns) × (p + least_column ≤ e) × (e ≤ length t)
-ColumnMoves t p n (S.Wrong k) = Unit
-ColumnMoves t p n (S.Limit k) = Unit
-ColumnMoves t p n S.End = Unit
+unfoldable pub ColumnMoves : Bytes → ℕ → ℕ → Result (std.Option ℕ) code.Refusal → Type 0
+ColumnMoves t p n (Ok (Some e)) = (n < most_table_columns) × (p + least_column ≤ e) × (e ≤ length t)
+ColumnMoves t p n (Ok None) = Unit
+ColumnMoves t p n (Err w) = Unit
 
-pub record ColumnRead (t : Bytes) (p l f n : ℕ) (s s' : List ℕ) (r : ColumnStep) : Type 0 where
+pub record ColumnRead (t : Bytes) (p l f n : ℕ) (s s' : List ℕ) (r : Result (std.Option ℕ) code.Refusal) : Type 0 where
   pub says : (q : Bytes) (fuel : ℕ) → columns_from t q s' p l f n fuel r ≡ columns (suc fuel) n (here t p l)
   pub kept : Kept 0 (column_start (f + n)) s s'
   pub moves : ColumnMoves t p n r

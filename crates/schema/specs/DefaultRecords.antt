@@ -1,5 +1,5 @@
 -- The default's record: `nodefault`, or the record of a literal.
-use Rattle.std.specs.Prelude.{ℕ, ◌≡◌, Bool, true, false, List, [], ◌∷◌, get_or, take, drop}
+use Rattle.std.specs.Prelude.{ℕ, ◌≡◌, Bool, true, false, List, [], ◌∷◌, get_or, take, drop, Some, None}
 use Rattle.std.proofs.Common.{arith, ◌∙◌}
 use Rattle.std.proofs.Math.Path.{refl, sym, ap}
 use Rattle.std.proofs.lemmas.Bool.{false≢true}
@@ -21,7 +21,6 @@ use Rattle.text.specs.Records.{no-field}
 use Rattle.literal.specs.Records.{IsLiteral, literal-none, literal-some}
 use Rattle.literal.specs.declared.record.Literal.{Literal}
 use Rattle.schema.specs.Records.{here, default_said}
-use Rattle.schema.specs.declared.record.DefaultRecord.TheVariants as D
 
 same-no : (x y : Bytes) → same x y ≡ false → same y x ≡ false
 same-no x y h = go (same y x) refl
@@ -50,11 +49,11 @@ module _ (t : Bytes) (p : ℕ) (f : Line) (g : Fields t p f) {b : Bool} (e : b �
         let w : key_of (line_here (here t p l)) ≡ bytes "nodefault" = key-is catalog t p l 0 0 f g ∙ same_true _ _ (sym e ∙ h) in
         rw w
 
-    pub default_none : f.count ≡ 1 → default_said t q (D.Default 0 0 0) ≡ one_of (default_records literals) (line_here (here t p l))
+    pub default_none : f.count ≡ 1 → default_said t q (Some (record { kind = 0; first = 0; second = 0 })) ≡ one_of (default_records literals) (line_here (here t p l))
     unfolding default_said default_of no_field map_option
     default_none n = sym (none_here ∙ rw (rest-none catalog t p l 0 0 f g n))
 
-    pub default-crowded : (f.count ≡ 1 → ⊥) → default_said t q D.Wrong ≡ one_of (default_records literals) (line_here (here t p l))
+    pub default-crowded : (f.count ≡ 1 → ⊥) → default_said t q None ≡ one_of (default_records literals) (line_here (here t p l))
     unfolding default_said map_option
     default-crowded n = sym (none_here ∙ rw (no-field _ (rest-other catalog t p l 0 0 f g 0 (omega arith) n)))
 
@@ -67,11 +66,11 @@ module _ (t : Bytes) (p : ℕ) (f : Line) (g : Fields t p f) {b : Bool} (e : b �
     unfolding base_address
     spoken = s catalog l 0 0 refl
 
-    pub default-wrong : r ≡ std.None → default_said t q D.Wrong ≡ one_of (default_records literals) (line_here (here t p l))
+    pub default-wrong : r ≡ std.None → default_said t q None ≡ one_of (default_records literals) (line_here (here t p l))
     unfolding default_said map_option
     default-wrong z = sym (literal-here ∙ rw (literal-none spoken z))
 
-    pub default-value : {v : Literal} → r ≡ std.Some v → default_said t q (D.Default v.kind v.a v.b) ≡ one_of (default_records literals) (line_here (here t p l))
+    pub default-value : {v : Literal} → r ≡ std.Some v → default_said t q (Some (record { kind = v.kind; first = v.a; second = v.b })) ≡ one_of (default_records literals) (line_here (here t p l))
     unfolding default_said map_option base_address text_of
     default-value {v} z =
         let x = literal-some v spoken z in

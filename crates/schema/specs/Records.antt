@@ -1,5 +1,6 @@
 -- What one line of the catalog says: a column's record, a table's, a default's.
-use Rattle.std.specs.Prelude.{ℕ, zero, suc, ◌+◌, ◌≤◌, ◌<◌, ◌≡◌, Bool, true, false, List, [], ◌∷◌, length, get_or}
+use Rattle.std.specs.Prelude.{ℕ, zero, suc, ◌+◌, ◌≤◌, ◌<◌, ◌≡◌, Bool, true, false, List, [], ◌∷◌, length, get_or, Result, Ok, Err, Some, None}
+use Rattle.std.specs.Prelude as std
 use Rattle.std.proofs.Common.{arith, zero-add, ◌∙◌}
 use Rattle.std.proofs.Math.Option.{Option, none, some}
 use Rattle.rules.specs.Limits.{most_bytes}
@@ -16,12 +17,11 @@ use Rattle.text.specs.Lines.{Fields, line_end, field}
 use Rattle.text.specs.Reading.{place, text_of, field-word, field-inside}
 use Rattle.numbers.specs.Values.{is_one, type_at, default_of}
 use Rattle.schema.specs.Layout.{table_start}
+use Rattle.numbers.specs.declared.refusals.Reason.TheVariants.{WrongRecord}
+use Rattle.numbers.specs.declared.refusals.Refusal as code
 use Rattle.schema.specs.declared.record.ColumnRecord.{ColumnRecord}
-use Rattle.schema.specs.declared.record.ColumnRecord.TheVariants as C
 use Rattle.schema.specs.declared.record.TableRecord.{TableRecord}
-use Rattle.schema.specs.declared.record.TableRecord.TheVariants as T
-use Rattle.schema.specs.declared.record.DefaultRecord.{DefaultRecord}
-use Rattle.schema.specs.declared.record.DefaultRecord.TheVariants as D
+use Rattle.schema.specs.declared.Default.{Default}
 
 -- p is a position in a text that is not too long
 pub record Position (t : Bytes) (p : ℕ) : Type 0 where
@@ -37,19 +37,20 @@ here t p l = place catalog t p l 0 0
 unfoldable pub column_here : Place → Option (Option (Word × Datatype × Bool))
 column_here p = elim (at (bytes "column") p) [ true ↦ some (column_fields (rest p)) | false ↦ none ]
 
-unfoldable pub column_said : Bytes → Bytes → ColumnRecord → Option (Option (Word × Datatype × Bool))
-column_said c q (C.Column a n k u e) = some (some (word_at c q a n, type_at k, is_one u))
-column_said c q C.Wrong = some none
-column_said c q C.Missing = none
+unfoldable pub column_said : Bytes → Bytes → Result (std.Option ColumnRecord) code.Refusal → Option (Option (Word × Datatype × Bool))
+column_said c q (Ok (Some r)) = some (some (word_at c q r.name.address r.name.length, type_at r.datatype, is_one r.nullable))
+column_said c q (Ok None) = none
+column_said c q (Err w) = some none
 
-unfoldable pub ColumnEnds : Bytes → ℕ → ColumnRecord → Type 0
-ColumnEnds t p (C.Column a n k u e) = e ≡ line_end t p
-ColumnEnds t p C.Wrong = Unit
-ColumnEnds t p C.Missing = Unit
+-- where the rest stands, or what is refused, at line l
+unfoldable pub ColumnEnds : Bytes → ℕ → ℕ → Result (std.Option ColumnRecord) code.Refusal → Type 0
+ColumnEnds t p l (Ok (Some r)) = r.next ≡ line_end t p
+ColumnEnds t p l (Ok None) = Unit
+ColumnEnds t p l (Err w) = w ≡ record { reason = WrongRecord; line = l }
 
-pub record ColumnLine (t : Bytes) (p : ℕ) (r : ColumnRecord) : Type 0 where
+pub record ColumnLine (t : Bytes) (p line : ℕ) (r : Result (std.Option ColumnRecord) code.Refusal) : Type 0 where
   pub says : (q : Bytes) (l : ℕ) → column_said t q r ≡ column_here (here t p l)
-  pub next : ColumnEnds t p r
+  pub next : ColumnEnds t p line r
 
 -- the names of the first n tables, the last first
 unfoldable pub names : Bytes → List ℕ → ℕ → List Bytes
@@ -60,22 +61,22 @@ names t s (suc n) = bytes_at t t (get_or s (table_start n) 0) (get_or s (table_s
 unfoldable pub table_here : List Bytes → Place → Option (Word × ℕ)
 table_here ns p = elim (at (bytes "table") p) [ true ↦ table_fields ns (rest p) | false ↦ none ]
 
-unfoldable pub table_said : Bytes → Bytes → TableRecord → Option (Word × ℕ)
-table_said c q (T.Table a n k e) = some (word_at c q a n, k)
-table_said c q T.Wrong = none
+unfoldable pub table_said : Bytes → Bytes → std.Option TableRecord → Option (Word × ℕ)
+table_said c q (Some r) = some (word_at c q r.name.address r.name.length, r.key)
+table_said c q None = none
 
-unfoldable pub TableEnds : Bytes → ℕ → TableRecord → Type 0
-TableEnds t p (T.Table a n k e) = e ≡ line_end t p
-TableEnds t p T.Wrong = Unit
+unfoldable pub TableEnds : Bytes → ℕ → std.Option TableRecord → Type 0
+TableEnds t p (Some r) = r.next ≡ line_end t p
+TableEnds t p None = Unit
 
-pub record TableLine (t : Bytes) (s : List ℕ) (n p : ℕ) (r : TableRecord) : Type 0 where
+pub record TableLine (t : Bytes) (s : List ℕ) (n p : ℕ) (r : std.Option TableRecord) : Type 0 where
   pub says : (q : Bytes) (l : ℕ) → table_said t q r ≡ table_here (names t s n) (here t p l)
   pub next : TableEnds t p r
 
 -- a default by its numbers
-unfoldable pub default_said : Bytes → Bytes → DefaultRecord → Option (Option Value)
-default_said c q (D.Default k a b) = some (default_of c q k a b)
-default_said c q D.Wrong = none
+unfoldable pub default_said : Bytes → Bytes → std.Option Default → Option (Option Value)
+default_said c q (Some d) = some (default_of c q d.kind d.first d.second)
+default_said c q None = none
 
 -- FIELDS
 -- a field of the catalog is the word at its position

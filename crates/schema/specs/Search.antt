@@ -2,7 +2,8 @@
 use Prim.Native.Nat.{ℕ, zero, suc, ◌+◌, ◌-◌, ◌≤◌, ◌<◌}
 use native.Mathlib.Omega.{arith}
 use Rattle.std.proofs.Math.Numerals.{add-one}
-use Rattle.std.specs.Prelude.{◌≡◌, Bool, List, [], ◌∷◌, length, get_or}
+use Rattle.std.specs.Prelude.{◌≡◌, Bool, List, [], ◌∷◌, length, get_or, Some, None}
+use Rattle.std.specs.Prelude as std
 use Rattle.std.proofs.Math.Path.{refl, sym}
 use Rattle.std.proofs.Common.{ap, subst, ◌∙◌}
 use Rattle.std.proofs.Math.Bool.{true, false}
@@ -16,18 +17,16 @@ use Rattle.rules.specs.Schema.{Column, Table, Catalog, get_table, column_at, def
 use Rattle.rules.specs.Places.{bytes_at, word_at}
 use Rattle.numbers.specs.Values.{default_of}
 use Rattle.schema.specs.Layout.{table_start, column_start, column_of, columns_at, table_at, tables_at, catalog_at}
-use Rattle.schema.specs.declared.Found.{Found}
-use Rattle.schema.specs.declared.Found.TheVariants.{At, Nothing}
 
 -- what was found: a position, or none
-unfoldable pub found_of : Found → Option ℕ
-found_of (At i) = some i
-found_of Nothing = none
+unfoldable pub found_of : std.Option ℕ → Option ℕ
+found_of (Some i) = some i
+found_of None = none
 
 -- with the table that stands there
-unfoldable pub found_table : Bytes → Bytes → List ℕ → Found → Option (ℕ × Table)
-found_table c q s (At i) = some (i, table_at c q s i)
-found_table c q s Nothing = none
+unfoldable pub found_table : Bytes → Bytes → List ℕ → std.Option ℕ → Option (ℕ × Table)
+found_table c q s (Some i) = some (i, table_at c q s i)
+found_table c q s None = none
 
 cut : (n i : ℕ) → i < n → n - i ≡ suc (n - (i + 1))
 cut n i h = omega arith
@@ -83,7 +82,7 @@ table-begin c q s x n e = let z : n - 0 ≡ get_or s 0 0 = omega (arith, e) in r
 module _ {c q : Bytes} {s : List ℕ} {x : Bytes} {n i : ℕ} (t : TableSearch c q s x n i) where
   -- b tells whether the name that stands there is x
   module _ {a m : ℕ} {b : Bool} (h : i < n) (ea : a ≡ get_or s (table_start i) 0) (em : m ≡ get_or s (table_start i + 1) 0) (eb : b ≡ same (bytes_at c q a m) x) where
-    pub table-hit : b ≡ true → found_table c q s (At i) ≡ table_from 0 (catalog_at c q s) x
+    pub table-hit : b ≡ true → found_table c q s (Some i) ≡ table_from 0 (catalog_at c q s) x
     unfolding tables_at table_from table_at word_at found_table
     table-hit e = rw (cut n i h, table_from, ← ea, ← em, ← eb, e) at t.rest
 
@@ -91,7 +90,7 @@ module _ {c q : Bytes} {s : List ℕ} {x : Bytes} {n i : ℕ} (t : TableSearch c
     unfolding tables_at table_from table_at word_at
     table-miss e = record { rest = rw (add-one i) (rw (cut n i h, table_from, ← ea, ← em, ← eb, e, add-one i) at t.rest) }
 
-  pub table-end : n ≤ i → found_table c q s Nothing ≡ table_from 0 (catalog_at c q s) x
+  pub table-end : n ≤ i → found_table c q s None ≡ table_from 0 (catalog_at c q s) x
   unfolding tables_at table_from found_table
   table-end h = let e : n - i ≡ 0 = omega arith in rw e at t.rest
 
@@ -107,7 +106,7 @@ column-begin c q s x i f n e g = let y : f + 0 ≡ get_or s (table_start i + 3) 
 module _ {c q : Bytes} {s : List ℕ} {x : Bytes} {i f n j : ℕ} (t : ColumnSearch c q s x i f n j) where
   -- b tells whether the name that stands there is x
   module _ {a m : ℕ} {b : Bool} (h : j < n) (ea : a ≡ get_or s (column_start (f + j)) 0) (em : m ≡ get_or s (column_start (f + j) + 1) 0) (eb : b ≡ same (bytes_at c q a m) x) where
-    pub column-hit : b ≡ true → found_of (At j) ≡ column_at 0 (table_at c q s i).columns x
+    pub column-hit : b ≡ true → found_of (Some j) ≡ column_at 0 (table_at c q s i).columns x
     unfolding columns_at column_at column_of word_at found_of
     column-hit e = rw (cut n j h, column_at, ← ea, ← em, ← eb, e) at t.rest
 
@@ -115,7 +114,7 @@ module _ {c q : Bytes} {s : List ℕ} {x : Bytes} {i f n j : ℕ} (t : ColumnSea
     unfolding columns_at column_at column_of word_at
     column-miss e = let z : f + suc j ≡ suc (f + j) = omega arith in record { rest = rw (add-one j, z) (rw (cut n j h, column_at, ← ea, ← em, ← eb, e, add-one j) at t.rest) }
 
-  pub column-end : n ≤ j → found_of Nothing ≡ column_at 0 (table_at c q s i).columns x
+  pub column-end : n ≤ j → found_of None ≡ column_at 0 (table_at c q s i).columns x
   unfolding columns_at column_at found_of
   column-end h = let e : n - j ≡ 0 = omega arith in rw e at t.rest
 

@@ -1,5 +1,5 @@
 -- The table's record, field by field, and the names that the tables before it have.
-use Rattle.std.specs.Prelude.{ℕ, suc, ◌+◌, ◌-◌, ◌≤◌, ◌<◌, ◌≡◌, Bool, true, false, List, [], ◌∷◌, get_or, take, drop}
+use Rattle.std.specs.Prelude.{ℕ, suc, ◌+◌, ◌-◌, ◌≤◌, ◌<◌, ◌≡◌, Bool, true, false, List, [], ◌∷◌, get_or, take, drop, Some, None}
 use native.Mathlib.Omega.{arith}
 use Rattle.std.proofs.Math.Path.{sym, ap}
 use Rattle.std.proofs.Common.{◌∙◌}
@@ -17,7 +17,6 @@ use Rattle.text.specs.Reading.{field_of, at-is, rest-two, rest-other, name-yes, 
 use Rattle.text.specs.Records.{two_fields_lem}
 use Rattle.schema.specs.Layout.{table_start}
 use Rattle.schema.specs.Records.{Position, here, names, table_here, table_said, TableEnds, TableLine, field-here, field-most}
-use Rattle.schema.specs.declared.record.TableRecord.TheVariants as T
 
 -- TABLE NAMES
 -- of the first n tables those before the i-th are still to be looked at
@@ -69,7 +68,7 @@ module _ (w v : Word) where
   two-yes k e f = rw (e, f)
 
 module _ (t : Bytes) (s : List ℕ) (n p : ℕ) (f : Line) (g : Fields t p f) {b : Bool} (key : b ≡ same (take (get_or f.lens 0 0) (drop (get_or f.starts 0 0) t)) (bytes "table")) where
-  pub table-missing : b ≡ false → TableLine t s n p T.Wrong
+  pub table-missing : b ≡ false → TableLine t s n p None
   unfolding table_said TableEnds table_here
   table-missing e = record { says = λ q l. sym (rw (table_here, at-is catalog t p l 0 0 f g (bytes "table"), ← key, e)); next = tt }
 
@@ -78,18 +77,18 @@ module _ (t : Bytes) (s : List ℕ) (n p : ℕ) (f : Line) (g : Fields t p f) {b
     unfolding table_here
     table_here_lem l = rw (table_here, at-is catalog t p l 0 0 f g (bytes "table"), ← key, e)
 
-    table-wrong : ((l : ℕ) → two_fields name count_field (rest (here t p l)) ≡ none) → TableLine t s n p T.Wrong
+    table-wrong : ((l : ℕ) → two_fields name count_field (rest (here t p l)) ≡ none) → TableLine t s n p None
     unfolding table_said TableEnds
     table-wrong h = record { says = λ q l. sym (table_here_lem l ∙ fields-none _ _ (h l)); next = tt }
 
-    pub table-count : (f.count ≡ 3 → ⊥) → TableLine t s n p T.Wrong
+    pub table-count : (f.count ≡ 3 → ⊥) → TableLine t s n p None
     table-count h = table-wrong (λ l. two_fields_lem name count_field (rest (here t p l)) (rest-other catalog t p l 0 0 f g 2 (omega arith) h))
 
     module _ (m : f.count ≡ 3) where
       table-fields : (l : ℕ) (o : Option (Word × ℕ)) → two_fields name count_field (field_of catalog t f 1 ∷ field_of catalog t f 2 ∷ []) ≡ o → two_fields name count_field (rest (here t p l)) ≡ o
       table-fields l o h = ap (two_fields name count_field) (rest-two catalog t p l 0 0 f g m) ∙ h
 
-      pub table-name : is_name (get_or f.lens 1 0) ≡ false → TableLine t s n p T.Wrong
+      pub table-name : is_name (get_or f.lens 1 0) ≡ false → TableLine t s n p None
       table-name h = table-wrong (λ l. table-fields l none (two-name-no _ _ (name-no catalog t p l 0 0 f g 1 (omega arith) h)))
 
       module _ (h : is_name (get_or f.lens 1 0) ≡ true) where
@@ -100,7 +99,7 @@ module _ (t : Bytes) (s : List ℕ) (n p : ℕ) (f : Line) (g : Fields t p f) {b
         unfolding field_of field
         counted v e = sym (e _)
 
-        pub table-key : ((o : ℕ) → none ≡ count_field (record { bytes = take (get_or f.lens 2 0) (drop (get_or f.starts 2 0) t); start = o })) → TableLine t s n p T.Wrong
+        pub table-key : ((o : ℕ) → none ≡ count_field (record { bytes = take (get_or f.lens 2 0) (drop (get_or f.starts 2 0) t); start = o })) → TableLine t s n p None
         table-key z = table-wrong (λ l. table-fields l none (two-count-no _ _ (table-named l) (counted none z)))
 
         module _ {k : ℕ} (z : (o : ℕ) → some k ≡ count_field (record { bytes = take (get_or f.lens 2 0) (drop (get_or f.starts 2 0) t); start = o })) (w : Position t p) {x : Bool} (ex : x ≡ any (same (bytes_at t t (get_or f.starts 1 0) (get_or f.lens 1 0))) (names t s n)) where
@@ -115,11 +114,11 @@ module _ (t : Bytes) (s : List ℕ) (n p : ℕ) (f : Line) (g : Fields t p f) {b
           unfolding word_at
           table-any l = ap (λ y. any (same y.bytes) (names t s n)) (table-first t l) ∙ sym ex
 
-          pub table_taken : x ≡ true → TableLine t s n p T.Wrong
+          pub table_taken : x ≡ true → TableLine t s n p None
           unfolding table_said TableEnds
           table_taken y = record { says = λ q l. sym (table_here_lem l ∙ fields-taken _ _ _ _ (table-both l) (table-any l ∙ y)); next = tt }
 
-          pub table-right : x ≡ false → TableLine t s n p (T.Table (get_or f.starts 1 0) (get_or f.lens 1 0) k f.next)
+          pub table-right : x ≡ false → TableLine t s n p (Some (record { name = record { address = get_or f.starts 1 0; length = get_or f.lens 1 0 }; key = k; next = f.next }))
           unfolding table_said TableEnds
           table-right y = record {
             says = λ q l. sym (table_here_lem l ∙ fields-some _ _ _ _ (table-both l) (table-any l ∙ y) ∙ ap (λ v. some (v, k)) (table-first q l));

@@ -1,12 +1,12 @@
 -- The whole catalog, by a loop over its tables.
-use Rattle.std.specs.Prelude.{ℕ, suc, ◌+◌, ◌*◌, ◌-◌, ◌≤◌, ◌<◌, ◌≡◌, true, false, ltb, length, set}
+use Rattle.std.specs.Prelude.{ℕ, suc, ◌+◌, ◌*◌, ◌-◌, ◌≤◌, ◌<◌, ◌≡◌, true, false, ltb, length, set, Result, Ok, Err}
 use native.Mathlib.Omega.{arith}
 use Rattle.std.proofs.Common.{add-one, ◌∙◌, lt-ltb, le-ltb}
 use Rattle.std.proofs.Math.Path.{sym, ap}
 use mathlib.Core.List.{List, [], ◌∷◌, ◌++◌, append-nil}
 use Rattle.std.proofs.Math.ListN.{get_or}
 use Rattle.std.proofs.Math.Seq.{get_or-set_same}
-use Rattle.rules.specs.Refusals.{catalog, Answer, ok}
+use Rattle.rules.specs.Refusals.{catalog, Answer, ok, refused}
 use Rattle.rules.specs.Limits.{most_bytes, most_tables, most_table_columns}
 use Rattle.rules.specs.Lists.{Bytes}
 use Rattle.rules.specs.Schema.{Catalog}
@@ -15,31 +15,30 @@ use Rattle.rules.specs.ReadCatalog.{tables, read_catalog}
 use Rattle.text.specs.Reading.{place-start, place_end}
 use Rattle.schema.specs.Layout.{table_start, column_start, table_at, tables_at, catalog_at}
 use Rattle.schema.specs.Records.{Position, here, names}
-use Rattle.text.specs.Answers.{wrong_at, limit_at, prefixed, prefixed-none, prefixed-twice}
+use Rattle.text.specs.Answers.{limit_at, prefixed, prefixed-none, prefixed-twice}
 use Rattle.numbers.specs.Kept.{kept_set}
 use Rattle.schema.specs.Room.{least_column, numbers_for}
 use Rattle.schema.specs.Store.{Ranges, tables-kept, tables_more}
 use Rattle.schema.specs.Tables.{TableReady, TableDone, TableMoves, TableRead, tables_from}
 use Rattle.schema.specs.declared.read.Run.{Run}
-use Rattle.schema.specs.declared.read.Run.TheVariants as R
-use Rattle.schema.specs.declared.read.Read as Rd
-use Rattle.schema.specs.declared.read.Read.TheVariants as A
+use Rattle.numbers.specs.declared.refusals.Reason.TheVariants.{LimitPassed}
+use Rattle.numbers.specs.declared.refusals.Refusal as code
+use Rattle.numbers.specs.Reasons.{reason_of, told}
 
 -- the catalog that was read: the one that the numbers s stand for
-unfoldable pub catalog_of : Bytes → Bytes → List ℕ → Rd.Read → Answer Catalog
-catalog_of t q s A.Done = ok (catalog_at t q s)
-catalog_of t q s (A.Wrong l) = wrong_at catalog l
-catalog_of t q s (A.Limit l) = limit_at catalog l
+unfoldable pub catalog_of : Bytes → Bytes → List ℕ → Result (Unit {0}) code.Refusal → Answer Catalog
+catalog_of t q s (Ok u) = ok (catalog_at t q s)
+catalog_of t q s (Err w) = refused (told catalog w)
 
 -- the rules' answer, 3 with no line where the text is too long
 unfoldable pub catalog_answer : Bytes → Answer Catalog
 catalog_answer t = elim (ltb most_bytes (length t)) [ true ↦ limit_at catalog 0 | false ↦ read_catalog t ]
 
-pub too_long : (t q : Bytes) (s : List ℕ) → most_bytes < length t → catalog_of t q s (A.Limit 0) ≡ catalog_answer t
-unfolding catalog_of catalog_answer
+pub too_long : (t q : Bytes) (s : List ℕ) → most_bytes < length t → catalog_of t q s (Err (record { reason = LimitPassed; line = 0 })) ≡ catalog_answer t
+unfolding catalog_of catalog_answer limit_at reason_of
 too_long t q s h = sym (rw (catalog_answer, lt-ltb most_bytes (length t) h))
 
-pub not-too-long : (t q : Bytes) (s : List ℕ) (r : Rd.Read) → length t ≤ most_bytes → catalog_of t q s r ≡ read_catalog t → catalog_of t q s r ≡ catalog_answer t
+pub not-too-long : (t q : Bytes) (s : List ℕ) (r : Result (Unit {0}) code.Refusal) → length t ≤ most_bytes → catalog_of t q s r ≡ read_catalog t → catalog_of t q s r ≡ catalog_answer t
 unfolding catalog_answer
 not-too-long t q s r h e = e ∙ sym (rw (catalog_answer, le-ltb most_bytes (length t) h))
 
@@ -91,7 +90,7 @@ module _ {t : Bytes} {p l n f : ℕ} {s : List ℕ} (h : TableLoop t p l n f s) 
   tables-past : length t ≤ p → (fuel : ℕ) → tables (suc fuel) n (names t s n) (here t p l) ≡ ok ([], here t p l)
   tables-past m fuel = nothing_left_lem (here t p l) fuel n _ (place_end catalog t p l 0 0 m)
 
-  pub tables_end : length t ≤ p → (q : Bytes) → catalog_of t q (set s 0 n) A.Done ≡ read_catalog t
+  pub tables_end : length t ≤ p → (q : Bytes) → catalog_of t q (set s 0 n) (Ok tt) ≡ read_catalog t
   unfolding catalog_of catalog_at value_of prefixed
   tables_end m q =
       let e : get_or (set s 0 n) 0 0 ≡ n = get_or-set_same s 0 n 0 (omega (arith, h.room)) in
@@ -99,20 +98,14 @@ module _ {t : Bytes} {p l n f : ℕ} {s : List ℕ} (h : TableLoop t p l n f s) 
       let x : ok (tables_at t q s 0 n ++ [], here t p l) ≡ tables (suc (length t)) 0 [] (here t 0 1) = (rw (turn, tables-past m) at (h.is q)) in
       rw (e, k) (ap ok (sym (append-nil (tables_at t q s 0 n))) ∙ ap value_of x ∙ sym (whole t))
 
-  module _ {s' : List ℕ} {r : Run} (g : TableRead t p l n f s s' r) where
-    pub tables-wrong : {k : ℕ} → r ≡ R.Wrong k → (q : Bytes) → catalog_of t q s' (A.Wrong k) ≡ read_catalog t
-    unfolding catalog_of tables_from prefixed value_of wrong_at
-    tables-wrong {k} z q =
-        let x : wrong_at catalog k ≡ tables (suc (length t)) 0 [] (here t 0 1) = (rw (turn, ← g.says q (suc (length t) - (n + 1)), z) at (h.is q)) in
+  module _ {s' : List ℕ} {r : Result Run code.Refusal} (g : TableRead t p l n f s s' r) where
+    pub tables-refused : {w : code.Refusal} → r ≡ Err w → (q : Bytes) → catalog_of t q s' (Err w) ≡ read_catalog t
+    unfolding catalog_of tables_from prefixed value_of
+    tables-refused {w} z q =
+        let x : refused (told catalog w) ≡ tables (suc (length t)) 0 [] (here t 0 1) = (rw (turn, ← g.says q (suc (length t) - (n + 1)), z) at (h.is q)) in
         ap value_of x ∙ sym (whole t)
 
-    pub tables-limit : {k : ℕ} → r ≡ R.Limit k → (q : Bytes) → catalog_of t q s' (A.Limit k) ≡ read_catalog t
-    unfolding catalog_of tables_from prefixed value_of limit_at
-    tables-limit {k} z q =
-        let x : limit_at catalog k ≡ tables (suc (length t)) 0 [] (here t 0 1) = (rw (turn, ← g.says q (suc (length t) - (n + 1)), z) at (h.is q)) in
-        ap value_of x ∙ sym (whole t)
-
-    module _ {e l' m : ℕ} (z : r ≡ R.Done e l' m) where
+    module _ {e l' m : ℕ} (z : r ≡ Ok (record { position = e; line = l'; count = m })) where
       pub table_done : TableDone t p n f s s' e l' m
       unfolding TableMoves
       table_done = rw z at g.moves

@@ -1,5 +1,6 @@
 -- A table with its columns: what the rules make of the one that stands here and of the rest, and what stands in the numbers.
-use Rattle.std.specs.Prelude.{ℕ, suc, ◌+◌, ◌*◌, ◌≤◌, ◌<◌, Bool, List, [], ◌∷◌, length, get_or, set, drop}
+use Rattle.std.specs.Prelude.{ℕ, suc, ◌+◌, ◌*◌, ◌≤◌, ◌<◌, Bool, List, [], ◌∷◌, length, get_or, set, drop, Result, Ok, Err, Some, None}
+use Rattle.std.specs.Prelude as std
 use Rattle.std.proofs.Common.{arith, ◌∙◌}
 use Rattle.std.proofs.Math.Decide.{dec_lt}
 use Rattle.std.proofs.Math.Path.{◌≡◌, refl, sym, ap}
@@ -19,7 +20,7 @@ use Rattle.text.specs.Lines.{line_end, line-moves}
 use Rattle.text.specs.Reading.{place, place-next, place-more, place-length}
 use Rattle.schema.specs.Layout.{table_start, column_start, columns_at, table_at, tables_at}
 use Rattle.schema.specs.Records.{Position, here, names, table_here, table_said, TableEnds, TableLine}
-use Rattle.text.specs.Answers.{wrong_at, limit_at, bind_ok, bind-no, then_ok, then-no, within-wrong, within-limit, within-ok, prefixed, give-first}
+use Rattle.text.specs.Answers.{bind_ok, bind-no, then_ok, then-no, within-wrong, within-limit, within-ok, prefixed, give-first}
 use Rattle.schema.specs.Search.{columns-length}
 use Rattle.numbers.specs.Kept.{Kept, kept-part, kept_on, kept_sets, kept-sets-behind}
 use Rattle.numbers.specs.Stores.{Stored, stored-first, stored-sets, sets-append}
@@ -28,9 +29,10 @@ use Rattle.schema.specs.Store.{columns-kept, Ranges, names-kept, ranges-kept, ta
 use Rattle.schema.specs.Columns.{columns, ColumnReady, line-position}
 use Rattle.schema.specs.ColumnRuns.{columns_of, ColumnsMove, turns_at, ColumnsRead}
 use Rattle.schema.specs.declared.record.TableRecord.{TableRecord}
-use Rattle.schema.specs.declared.record.TableRecord.TheVariants as T
+use Rattle.numbers.specs.declared.refusals.Reason.TheVariants.{WrongRecord, LimitPassed}
+use Rattle.numbers.specs.declared.refusals.Refusal as code
+use Rattle.numbers.specs.Reasons.{reason_of, told}
 use Rattle.schema.specs.declared.read.Run.{Run}
-use Rattle.schema.specs.declared.read.Run.TheVariants as R
 
 -- THE RULES
 here-some : (ns : List Bytes) (p : Place) (h : Word × ℕ) → table_here ns p ≡ some h → (at (bytes "table") p ≡ true) × (table_fields ns (rest p) ≡ some h)
@@ -95,10 +97,9 @@ pub record TableReady (t : Bytes) (s : List ℕ) (p l n f : ℕ) : Type 0 where
   pub ranges : Ranges s n f
 
 -- what reading has come to: the tables behind this one
-unfoldable pub tables_from : Bytes → Bytes → List ℕ → ℕ → ℕ → Run → Answer (List Table × Place)
-tables_from t q s n fuel (R.Done e l m) = prefixed (table_at t q s n ∷ []) (tables fuel (suc n) (names t s (suc n)) (here t e l))
-tables_from t q s n fuel (R.Wrong k) = wrong_at catalog k
-tables_from t q s n fuel (R.Limit k) = limit_at catalog k
+unfoldable pub tables_from : Bytes → Bytes → List ℕ → ℕ → ℕ → Result Run code.Refusal → Answer (List Table × Place)
+tables_from t q s n fuel (Ok r) = prefixed (table_at t q s n ∷ []) (tables fuel (suc n) (names t s (suc n)) (here t r.position r.line))
+tables_from t q s n fuel (Err w) = refused (told catalog w)
 
 pub record TableDone (t : Bytes) (p n f : ℕ) (s s' : List ℕ) (e l m : ℕ) : Type 0 where
   pub moved : p + least_column * m < e
@@ -109,24 +110,23 @@ pub record TableDone (t : Bytes) (p n f : ℕ) (s s' : List ℕ) (e l m : ℕ) :
   pub ranges : Ranges s' (suc n) (f + m)
   pub same : (q : Bytes) → tables_at t q s' 0 n ≡ tables_at t q s 0 n
 
-unfoldable pub TableMoves : Bytes → ℕ → ℕ → ℕ → List ℕ → List ℕ → Run → Type 0
-TableMoves t p n f s s' (R.Done e l m) = TableDone t p n f s s' e l m
-TableMoves t p n f s s' (R.Wrong k) = Unit
-TableMoves t p n f s s' (R.Limit k) = Unit
+unfoldable pub TableMoves : Bytes → ℕ → ℕ → ℕ → List ℕ → List ℕ → Result Run code.Refusal → Type 0
+TableMoves t p n f s s' (Ok r) = TableDone t p n f s s' r.position r.line r.count
+TableMoves t p n f s s' (Err w) = Unit
 
-pub record TableRead (t : Bytes) (p l n f : ℕ) (s s' : List ℕ) (r : Run) : Type 0 where
+pub record TableRead (t : Bytes) (p l n f : ℕ) (s s' : List ℕ) (r : Result Run code.Refusal) : Type 0 where
   pub says : (q : Bytes) (fuel : ℕ) → tables_from t q s' n fuel r ≡ tables (suc fuel) n (names t s n) (here t p l)
   pub moves : TableMoves t p n f s s' r
 
-module _ {t : Bytes} {s : List ℕ} {p l n f : ℕ} (w : TableReady t s p l n f) {c : TableRecord} (h : TableLine t s n p c) where
+module _ {t : Bytes} {s : List ℕ} {p l n f : ℕ} (w : TableReady t s p l n f) {c : std.Option TableRecord} (h : TableLine t s n p c) where
   left : (here t p l).left ≡ get_or t p 0 ∷ drop (p + 1) t
   left = place-more catalog t p l 0 0 w.more
 
-  pub table-wrong : c ≡ T.Wrong → TableRead t p l n f s s (R.Wrong l)
-  unfolding tables_from TableMoves table_said wrong_at stop place
+  pub table-wrong : c ≡ None → TableRead t p l n f s s (Err (record { reason = WrongRecord; line = l }))
+  unfolding tables_from TableMoves table_said reason_of stop place
   table-wrong z = record { says = λ q fuel. sym (tables-wrong _ fuel n _ _ _ left (sym (h.says q l) ∙ ap (table_said t q) z)); moves = tt }
 
-  module _ {a b k e : ℕ} (z : c ≡ T.Table a b k e) where
+  module _ {a b k e : ℕ} (z : c ≡ Some (record { name = record { address = a; length = b }; key = k; next = e })) where
     said : (q : Bytes) → table_here (names t s n) (here t p l) ≡ some (word_at t q a b, k)
     unfolding table_said
     said q = sym (h.says q l) ∙ ap (table_said t q) z
@@ -146,8 +146,8 @@ module _ {t : Bytes} {s : List ℕ} {p l n f : ℕ} (w : TableReady t s p l n f)
     moved : p < e
     moved = omega (arith, line-moves t p w.more, ends)
 
-    pub table-limit : most_tables ≤ n → TableRead t p l n f s s (R.Limit l)
-    unfolding tables_from TableMoves limit_at stop place
+    pub table-limit : most_tables ≤ n → TableRead t p l n f s s (Err (record { reason = LimitPassed; line = l }))
+    unfolding tables_from TableMoves reason_of stop place
     table-limit g = record { says = λ q fuel. sym (tables-limit _ fuel n _ _ _ left _ _ (said q) g); moves = tt }
 
     module _ (g : n < most_tables) where
@@ -161,20 +161,16 @@ module _ {t : Bytes} {s : List ℕ} {p l n f : ℕ} (w : TableReady t s p l n f)
         most = omega arith;
       }
 
-      module _ {s₁ : List ℕ} {r : Run} (j : ColumnsRead t e (l + 1) f s s₁ r) where
-        columns-said : (q : Bytes) (x : Run) → r ≡ x → columns (suc (length (next (here t p l)).left)) 0 (next (here t p l)) ≡ columns_of t q s₁ f x
+      module _ {s₁ : List ℕ} {r : Result Run code.Refusal} (j : ColumnsRead t e (l + 1) f s s₁ r) where
+        columns-said : (q : Bytes) (x : Result Run code.Refusal) → r ≡ x → columns (suc (length (next (here t p l)).left)) 0 (next (here t p l)) ≡ columns_of t q s₁ f x
         unfolding turns_at
         columns-said q x y = rw (place-next catalog t p l 0 0, ← ends, place-length catalog t e (l + 1) 0 0) (sym (j.says q) ∙ ap (columns_of t q s₁ f) y)
 
-        pub table-columns-wrong : {x : ℕ} → r ≡ R.Wrong x → TableRead t p l n f s s₁ (R.Wrong x)
-        unfolding tables_from TableMoves columns_of wrong_at
-        table-columns-wrong y = record { says = λ q fuel. sym (tables-no _ fuel n _ _ _ left _ _ (said q) g _ (columns-said q _ y)); moves = tt }
+        pub table-columns-refused : {w : code.Refusal} → r ≡ Err w → TableRead t p l n f s s₁ (Err w)
+        unfolding tables_from TableMoves columns_of
+        table-columns-refused y = record { says = λ q fuel. sym (tables-no _ fuel n _ _ _ left _ _ (said q) g _ (columns-said q _ y)); moves = tt }
 
-        pub table-columns-limit : {x : ℕ} → r ≡ R.Limit x → TableRead t p l n f s s₁ (R.Limit x)
-        unfolding tables_from TableMoves columns_of limit_at
-        table-columns-limit y = record { says = λ q fuel. sym (tables-no _ fuel n _ _ _ left _ _ (said q) g _ (columns-said q _ y)); moves = tt }
-
-        module _ {p' l' m : ℕ} (y : r ≡ R.Done p' l' m) where
+        module _ {p' l' m : ℕ} (y : r ≡ Ok (record { position = p'; line = l'; count = m })) where
           columns-done : (q : Bytes) → columns (suc (length (next (here t p l)).left)) 0 (next (here t p l)) ≡ ok (columns_at t q s₁ f m, here t p' l')
           unfolding columns_of
           columns-done q = columns-said q _ y
@@ -183,8 +179,8 @@ module _ {t : Bytes} {s : List ℕ} {p l n f : ℕ} (w : TableReady t s p l n f)
           unfolding ColumnsMove
           columns-moved = rw y at j.moves
 
-          pub table-key : m ≤ k → TableRead t p l n f s s₁ (R.Wrong l)
-          unfolding tables_from TableMoves wrong_at place
+          pub table-key : m ≤ k → TableRead t p l n f s s₁ (Err (record { reason = WrongRecord; line = l }))
+          unfolding tables_from TableMoves reason_of place
           table-key v = record { says = λ q fuel. sym (tables-key _ fuel n _ _ _ left _ _ (said q) g _ _ (columns-done q) (rw (columns-length t q s₁ f m) v)); moves = tt }
 
           module _ (v : k < m) {s₂ : List ℕ} {i : ℕ} (ei : i ≡ table_start n) (n₁ : length s₁ ≡ length s) (e₂ : s₂ ≡ sets s₁ i (a ∷ b ∷ k ∷ f ∷ [])) (n₂ : length s₂ ≡ length s₁) where
@@ -228,7 +224,7 @@ module _ {t : Bytes} {s : List ℕ} {p l n f : ℕ} (w : TableReady t s p l n f)
                     let d₃ = stands.at 3 (omega arith) in
                     rw (o, ← ei, d₃, stands.at 4 (omega arith)) (omega arith)
 
-            pub table-read : TableRead t p l n f s s₃ (R.Done p' l' m)
+            pub table-read : TableRead t p l n f s s₃ (Ok (record { position = p'; line = l'; count = m }))
             unfolding tables_from TableMoves
             table-read = record {
               says = λ q fuel. sym (tables-on _ fuel n _ _ _ left _ _ (said q) g _ _ (columns-done q) (rw (columns-length t q s₁ f m) v) ∙ (rw (stored q, ← all-names q)));

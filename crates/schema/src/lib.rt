@@ -27,13 +27,6 @@ const COLUMNS: usize = 161;
 
 const COLUMN_SIZE: usize = 8;
 
-// The position of what was looked for.
-#[derive(Clone, Copy)]
-pub enum Found {
-    At(u32),
-    Nothing,
-}
-
 // A name: its address and length.
 #[derive(Clone, Copy)]
 pub struct Name {
@@ -49,13 +42,12 @@ pub struct Default {
     pub second: u32,
 }
 
-// The table of a name, which is the n bytes at an address.
-pub fn get_table(catalog: &[u8], statement: &[u8], tables: &[u32], a: u32, n: u32) -> Found
+// The position of the table of a name, which is the n bytes at an address.
+pub fn get_table(catalog: &[u8], statement: &[u8], tables: &[u32], a: u32, n: u32) -> Option<u32>
     ensures { found_table catalog.now statement.now tables.now result ≡ table_from 0 (catalog_at catalog.now statement.now tables.now) (bytes_at catalog.now statement.now a n) }
 {
     let count = number(tables, 0);
-    let mut i: u32 = 0;
-    while i < count {
+    for i in 0..count {
         let t = TABLES + TABLE_SIZE * (i as usize);
         if text::places::same_bytes(
             catalog,
@@ -65,22 +57,27 @@ pub fn get_table(catalog: &[u8], statement: &[u8], tables: &[u32], a: u32, n: u3
             a,
             n,
         ) {
-            return Found::At(i);
+            return Some(i);
         }
-        i += 1;
     }
-    Found::Nothing
+    None
 }
 
-// The first column of a name in the i-th table.
-pub fn column_at(catalog: &[u8], statement: &[u8], tables: &[u32], i: u32, a: u32, n: u32) -> Found
+// The position of the first column of a name in the i-th table.
+pub fn column_at(
+    catalog: &[u8],
+    statement: &[u8],
+    tables: &[u32],
+    i: u32,
+    a: u32,
+    n: u32,
+) -> Option<u32>
     ensures { found_of result ≡ column_at 0 (table_at catalog.now statement.now tables.now i).columns (bytes_at catalog.now statement.now a n) }
 {
     let t = TABLES + TABLE_SIZE * (i as usize);
     let first = number(tables, t + 3) as usize;
     let count = number(tables, t + 4);
-    let mut j: u32 = 0;
-    while j < count {
+    for j in 0..count {
         let k = COLUMNS + COLUMN_SIZE * (first + j as usize);
         if text::places::same_bytes(
             catalog,
@@ -90,11 +87,10 @@ pub fn column_at(catalog: &[u8], statement: &[u8], tables: &[u32], i: u32, a: u3
             a,
             n,
         ) {
-            return Found::At(j);
+            return Some(j);
         }
-        j += 1;
     }
-    Found::Nothing
+    None
 }
 
 // The key position of the i-th table.

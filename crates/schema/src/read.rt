@@ -9,11 +9,10 @@ ghost use Rattle.schema.specs.ColumnRuns.{ColumnsRead};
 ghost use Rattle.schema.specs.Tables.{TableReady, TableRead};
 ghost use Rattle.schema.specs.TableRuns.{catalog_of, catalog_answer};
 
-use crate::record::{
-    ColumnRecord, DefaultRecord, TableRecord, column_record, default_record, table_record,
-};
+use crate::record::{column_record, default_record, table_record};
 use crate::{COLUMN_SIZE, COLUMNS, NUMBERS, TABLE_SIZE, TABLES};
 use numbers::put_four;
+use numbers::refusals::{Reason, Refusal};
 
 // Most tables a catalog.
 const MOST_TABLES: u32 = 32;
@@ -24,32 +23,15 @@ const MOST_TABLE_COLUMNS: u32 = 64;
 // The fewest bytes of a column with its default: `column x int null`, `null` and their LFs.
 const LEAST_COLUMN: usize = 23;
 
-// A catalog: read, or 2 or 3 at a line.
+// Behind the columns of a table: the position, its line, and how many columns there are.
 #[derive(Clone, Copy)]
-pub enum Read {
-    Done,
-    Wrong(u32),
-    Limit(u32),
+struct Run {
+    position: usize,
+    line: u32,
+    count: u32,
 }
 
-// One column: read, and the position behind it; or 2 or 3 at a line; or none stands there.
-#[derive(Clone, Copy)]
-enum ColumnStep {
-    Column(usize),
-    Wrong(u32),
-    Limit(u32),
-    End,
-}
-
-// Columns or a table: read, with the position behind them, its line and how many columns there are; or 2 or 3 at a line.
-#[derive(Clone, Copy)]
-enum Run {
-    Done(usize, u32, u32),
-    Wrong(u32),
-    Limit(u32),
-}
-
-// The column that stands at a position, by its index in its table, whose first column is `first` of all.
+// The column that stands at a position, if one does, by its index in its table, whose first column is `first` of all; and the position behind it.
 fn read_column(
     catalog: &[u8],
     tables: &mut [u32],
@@ -57,59 +39,57 @@ fn read_column(
     line: u32,
     first: usize,
     index: u32,
-) -> ColumnStep
+) -> Result<Option<usize>, Refusal>
     requires { ColumnReady catalog.now tables.old at line first index }
     ensures { ColumnRead catalog.now at line first index tables.old tables.new result }
 {
-    let c = column_record(catalog, at);
-    match c {
-        ColumnRecord::Missing => ColumnStep::End,
-        ColumnRecord::Wrong => ColumnStep::Wrong(line),
-        ColumnRecord::Column(address, length, kind, nullable, end) => {
-            if MOST_TABLE_COLUMNS <= index {
-                return ColumnStep::Limit(line);
-            }
-            let f = text::fields(catalog, end);
-            let next = f.next;
-            let d = default_record(catalog, end, f);
-            let DefaultRecord::Default(x, y, z) = d else {
-                return ColumnStep::Wrong(line + 1);
-            };
-            let i = COLUMNS + COLUMN_SIZE * (first + index as usize);
-            put_four(tables, i, address, length, kind, nullable);
-            put_four(tables, i + 4, x, y, z, 0);
-            ColumnStep::Column(next)
-        }
+    let Some(c) = column_record(catalog, at, line)? else {
+        return Ok(None);
+    };
+    if MOST_TABLE_COLUMNS <= index {
+        return Err(Reason::LimitPassed.at(line));
     }
+    let f = text::fields(catalog, c.next);
+    let Some(d) = default_record(catalog, c.next, f) else {
+        return Err(Reason::WrongRecord.at(line + 1));
+    };
+    let i = COLUMNS + COLUMN_SIZE * (first + index as usize);
+    put_four(
+        tables,
+        i,
+        c.name.address,
+        c.name.length,
+        c.datatype,
+        c.nullable,
+    );
+    put_four(tables, i + 4, d.kind, d.first, d.second, 0);
+    Ok(Some(f.next))
 }
 
 // The columns that stand at a position.
-fn read_columns(catalog: &[u8], tables: &mut [u32], at: usize, line: u32, first: usize) -> Run
+fn read_columns(
+    catalog: &[u8],
+    tables: &mut [u32],
+    at: usize,
+    line: u32,
+    first: usize,
+) -> Result<Run, Refusal>
     requires { ColumnReady catalog.now tables.old at line first 0 }
     ensures { ColumnsRead catalog.now at line first tables.old tables.new result }
 {
-    let mut p = at;
-    let mut l = line;
-    let mut n: u32 = 0;
-    loop {
-        let r = read_column(catalog, tables, p, l, first, n);
-        match r {
-            ColumnStep::End => {
-                return Run::Done(p, l, n);
-            }
-            ColumnStep::Wrong(k) => {
-                return Run::Wrong(k);
-            }
-            ColumnStep::Limit(k) => {
-                return Run::Limit(k);
-            }
-            ColumnStep::Column(e) => {
-                p = e;
-                l += 2;
-                n += 1;
-            }
-        }
+    let mut run = Run {
+        position: at,
+        line,
+        count: 0,
+    };
+    while let Some(next) = read_column(catalog, tables, run.position, run.line, first, run.count)? {
+        run = Run {
+            position: next,
+            line: run.line + 2,
+            count: run.count + 1,
+        };
     }
+    Ok(run)
 }
 
 // The table that stands at a position, by its index; its first column is `first` of all.
@@ -120,61 +100,51 @@ fn read_table(
     line: u32,
     index: u32,
     first: usize,
-) -> Run
+) -> Result<Run, Refusal>
     requires { TableReady catalog.now tables.old at line index first }
     ensures { TableRead catalog.now at line index first tables.old tables.new result }
 {
-    let h = table_record(catalog, tables, index, at);
-    let TableRecord::Table(address, length, key, end) = h else {
-        return Run::Wrong(line);
+    let Some(h) = table_record(catalog, tables, index, at) else {
+        return Err(Reason::WrongRecord.at(line));
     };
     if MOST_TABLES <= index {
-        return Run::Limit(line);
+        return Err(Reason::LimitPassed.at(line));
     }
-    let r = read_columns(catalog, tables, end, line + 1, first);
-    match r {
-        Run::Wrong(x) => Run::Wrong(x),
-        Run::Limit(x) => Run::Limit(x),
-        Run::Done(p, l, count) => {
-            if count <= key {
-                return Run::Wrong(line);
-            }
-            let i = TABLES + TABLE_SIZE * (index as usize);
-            put_four(tables, i, address, length, key, first as u32);
-            tables[i + 4] = count;
-            Run::Done(p, l, count)
-        }
+    let run = read_columns(catalog, tables, h.next, line + 1, first)?;
+    if run.count <= h.key {
+        return Err(Reason::WrongRecord.at(line));
     }
+    let i = TABLES + TABLE_SIZE * (index as usize);
+    put_four(
+        tables,
+        i,
+        h.name.address,
+        h.name.length,
+        h.key,
+        first as u32,
+    );
+    tables[i + 4] = run.count;
+    Ok(run)
 }
 
 // All tables of a text that is not too long.
-fn read_tables(catalog: &[u8], tables: &mut [u32]) -> Read
+fn read_tables(catalog: &[u8], tables: &mut [u32]) -> Result<(), Refusal>
     requires { (length catalog.now ≤ most_bytes) × (numbers_for (length catalog.now) ≤ length tables.old) }
     ensures { (q : Bytes) → catalog_of catalog.now q tables.new result ≡ read_catalog catalog.now }
 {
     let mut p: usize = 0;
-    let mut l: u32 = 1;
+    let mut line: u32 = 1;
     let mut n: u32 = 0;
     let mut first: usize = 0;
     while p < catalog.len() {
-        let r = read_table(catalog, tables, p, l, n, first);
-        match r {
-            Run::Done(e, line, count) => {
-                p = e;
-                l = line;
-                n += 1;
-                first += count as usize;
-            }
-            Run::Wrong(k) => {
-                return Read::Wrong(k);
-            }
-            Run::Limit(k) => {
-                return Read::Limit(k);
-            }
-        }
+        let run = read_table(catalog, tables, p, line, n, first)?;
+        p = run.position;
+        line = run.line;
+        n += 1;
+        first += run.count as usize;
     }
     tables[0] = n;
-    Read::Done
+    Ok(())
 }
 
 // Enough numbers for a catalog of 2,048 bytes.
@@ -192,12 +162,12 @@ pub fn numbers_for(bytes: usize) -> usize
 }
 
 // The catalog from its text, whatever that is, into enough numbers. Where it is refused the numbers mean nothing.
-pub fn read_catalog(catalog: &[u8], tables: &mut [u32]) -> Read
+pub fn read_catalog(catalog: &[u8], tables: &mut [u32]) -> Result<(), Refusal>
     requires { numbers_for (length catalog.now) ≤ length tables.old }
     ensures { (q : Bytes) → catalog_of catalog.now q tables.new result ≡ catalog_answer catalog.now }
 {
     if (text::MOST_BYTES as usize) < catalog.len() {
-        return Read::Limit(0);
+        return Err(Reason::LimitPassed.at(0));
     }
     read_tables(catalog, tables)
 }

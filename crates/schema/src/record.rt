@@ -8,63 +8,61 @@ ghost use Rattle.rules.specs.ReadCatalog.{default_records};
 ghost use Rattle.text.specs.Lines.{Fields};
 ghost use Rattle.schema.specs.Records.{Position, here, names, default_said, ColumnLine, TableLine};
 
-use crate::{TABLE_SIZE, TABLES};
+use crate::{Default, Name, TABLE_SIZE, TABLES};
 use literal::record::literal_at;
 use numbers::number;
+use numbers::refusals::{Reason, Refusal};
 use text::Line;
 
-// A column's record: the name's address and length, the type, 1 if it is nullable, and the position behind the line.
+// A column's record: its name, its type, 1 if it is nullable, and the position behind the line.
 #[derive(Clone, Copy)]
-pub enum ColumnRecord {
-    Column(u32, u32, u32, u32, usize),
-    Wrong,
-    Missing,
+pub struct ColumnRecord {
+    pub name: Name,
+    pub datatype: u32,
+    pub nullable: u32,
+    pub next: usize,
 }
 
-// A table's record: the name's address and length, the key position, and the position behind the line.
+// A table's record: its name, its key position, and the position behind the line.
 #[derive(Clone, Copy)]
-pub enum TableRecord {
-    Table(u32, u32, u32, usize),
-    Wrong,
+pub struct TableRecord {
+    pub name: Name,
+    pub key: u32,
+    pub next: usize,
 }
 
-// A default's record: its kind and two numbers.
-#[derive(Clone, Copy)]
-pub enum DefaultRecord {
-    Default(u32, u32, u32),
-    Wrong,
-}
-
-// The column's record at a position, where one stands there.
-pub fn column_record(catalog: &[u8], at: usize) -> ColumnRecord
+// The column's record at a position, which is on this line, where one stands there.
+pub fn column_record(catalog: &[u8], at: usize, line: u32) -> Result<Option<ColumnRecord>, Refusal>
     requires { Position catalog.now at }
-    ensures { ColumnLine catalog.now at result }
+    ensures { ColumnLine catalog.now at line result }
 {
     let f = text::fields(catalog, at);
     if !text::holds(catalog, f.starts[0], f.lens[0], b"column") {
-        return ColumnRecord::Missing;
+        return Ok(None);
     }
     if f.count != 4 {
-        return ColumnRecord::Wrong;
+        return Err(Reason::WrongRecord.at(line));
     }
     if !text::is_name(f.lens[1]) {
-        return ColumnRecord::Wrong;
+        return Err(Reason::WrongRecord.at(line));
     }
     let k = text::words::datatype(catalog, f.starts[2], f.lens[2]);
     if 4 <= k {
-        return ColumnRecord::Wrong;
+        return Err(Reason::WrongRecord.at(line));
     }
     let u = text::words::nullable(catalog, f.starts[3], f.lens[3]);
     if 2 <= u {
-        return ColumnRecord::Wrong;
+        return Err(Reason::WrongRecord.at(line));
     }
-    ColumnRecord::Column(
-        f.starts[1] as u32,
-        f.lens[1] as u32,
-        (k + 1) as u32,
-        (1 - u) as u32,
-        f.next,
-    )
+    Ok(Some(ColumnRecord {
+        name: Name {
+            address: f.starts[1] as u32,
+            length: f.lens[1] as u32,
+        },
+        datatype: (k + 1) as u32,
+        nullable: (1 - u) as u32,
+        next: f.next,
+    }))
 }
 
 // Whether one of the first n tables has the name that is the m bytes at an address.
@@ -90,45 +88,56 @@ fn is_taken(catalog: &[u8], tables: &[u32], n: u32, a: u32, m: u32) -> bool
 }
 
 // The table's record at a position, behind n tables, whose names no other may have.
-pub fn table_record(catalog: &[u8], tables: &[u32], n: u32, at: usize) -> TableRecord
+pub fn table_record(catalog: &[u8], tables: &[u32], n: u32, at: usize) -> Option<TableRecord>
     requires { Position catalog.now at }
     ensures { TableLine catalog.now tables.now n at result }
 {
     let f = text::fields(catalog, at);
     if !text::holds(catalog, f.starts[0], f.lens[0], b"table") {
-        return TableRecord::Wrong;
+        return None;
     }
     if f.count != 3 {
-        return TableRecord::Wrong;
+        return None;
     }
     if !text::is_name(f.lens[1]) {
-        return TableRecord::Wrong;
+        return None;
     }
-    let Some(k) = text::count(catalog, f.starts[2], f.lens[2]) else {
-        return TableRecord::Wrong;
-    };
+    let k = text::count(catalog, f.starts[2], f.lens[2])?;
     let a = f.starts[1] as u32;
     let m = f.lens[1] as u32;
     if is_taken(catalog, tables, n, a, m) {
-        return TableRecord::Wrong;
+        return None;
     }
-    TableRecord::Table(a, m, k as u32, f.next)
+    Some(TableRecord {
+        name: Name {
+            address: a,
+            length: m,
+        },
+        key: k as u32,
+        next: f.next,
+    })
 }
 
 // The default's record at a position, by its fields: a literal or `nodefault`.
-pub fn default_record(catalog: &[u8], at: usize, f: Line) -> DefaultRecord
+pub fn default_record(catalog: &[u8], at: usize, f: Line) -> Option<Default>
     requires fact_1 { Position catalog.now at }
     requires fact_2 { Fields catalog.now at f }
     ensures { (q : Bytes) (l : ℕ) → default_said catalog.now q result ≡ one_of (default_records literals) (line_here (here catalog.now at l)) }
 {
     if text::holds(catalog, f.starts[0], f.lens[0], b"nodefault") {
         if f.count != 1 {
-            return DefaultRecord::Wrong;
+            return None;
         }
-        return DefaultRecord::Default(0, 0, 0);
+        return Some(Default {
+            kind: 0,
+            first: 0,
+            second: 0,
+        });
     }
-    let Some(v) = literal_at(catalog, 0, at, f) else {
-        return DefaultRecord::Wrong;
-    };
-    DefaultRecord::Default(v.kind, v.a, v.b)
+    let v = literal_at(catalog, 0, at, f)?;
+    Some(Default {
+        kind: v.kind,
+        first: v.a,
+        second: v.b,
+    })
 }

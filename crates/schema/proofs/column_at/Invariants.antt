@@ -1,11 +1,7 @@
 -- `column_at`: the columns from here on give what all of the table give.
-use Prim.Native.Nat.{◌-◌, ◌≤◌, ◌<◌}
 use Rattle.rules.specs.Places.{bytes_at}
 use Rattle.schema.specs.Search.{ColumnSearch}
 use Rattle.schema.proofs.column_at.Given as goal
 
 abbrev pub invariant-loop-j : goal.invariant-loop-j
-invariant-loop-j l = (l.j ≤ l.count) × (l.count < 4294967296) × (l.first < 4294967296) × ColumnSearch l.catalog l.statement l.tables (bytes_at l.catalog l.statement l.a l.n) l.i l.first l.count l.j
-
-abbrev pub decreases-loop-j : goal.decreases-loop-j
-decreases-loop-j l = l.count - l.j
+invariant-loop-j l = ColumnSearch l.catalog l.statement l.tables (bytes_at l.catalog l.statement l.a l.n) l.i l.first l.count l.j

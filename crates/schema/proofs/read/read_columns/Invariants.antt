@@ -5,8 +5,8 @@ use lib.ListN.{length}
 use Rattle.schema.specs.ColumnRuns.{ColumnLoop}
 use Rattle.schema.proofs.read.read_columns.Given as goal
 
-abbrev pub invariant-loop-k : goal.invariant-loop-k
-invariant-loop-k l = (length l.tables ≡ length l.initial.tables) × ColumnLoop l.catalog l.at l.line l.first l.initial.tables l.p l.l l.n l.tables
+abbrev pub invariant-loop-next : goal.invariant-loop-next
+invariant-loop-next l = (length l.tables ≡ length l.initial.tables) × ColumnLoop l.catalog l.at l.line l.first l.initial.tables l.run.position l.run.line l.run.count l.tables
 
-abbrev pub decreases-loop-k : goal.decreases-loop-k
-decreases-loop-k l = length l.catalog - l.p
+abbrev pub decreases-loop-next : goal.decreases-loop-next
+decreases-loop-next l = length l.catalog - l.run.position

@@ -1,29 +1,23 @@
 -- `read_table`: the rest from here is this table and the rest behind it, or a refusal.
-use mathlib.Core.Path.{refl, ◌∙◌}
-use lib.ListN.{length-set}
-use Rattle.schema.specs.Tables.{table-wrong, table-limit, columns-ready, table-columns-wrong, table-columns-limit, table-key, table-read}
+use mathlib.Core.Path.{refl}
+use Rattle.std.proofs.lemmas.Result.{err_from_is_err_and}
+use Rattle.schema.specs.Tables.{table-wrong, table-limit, columns-ready, table-columns-refused, table-key, table-read}
 use Rattle.schema.proofs.read.read_table.Goals as goal
 
 pub returns-in_default : goal.returns-in_default
-returns-in_default c = table-wrong c.requires c.table_record-h.ensures c.in_default.is
+returns-in_default c = rw c.at.ensures (table-wrong c.requires c.table_record.ensures c.in_default.is)
 
 pub returns-then-index-ge-MOST_TABLES : goal.returns-then-index-ge-MOST_TABLES
-returns-then-index-ge-MOST_TABLES c = table-limit c.requires c.table_record-h.ensures c.in-Table.is c.if-index-ge-MOST_TABLES.true
+returns-then-index-ge-MOST_TABLES c = rw c.at-then-index-ge-MOST_TABLES.ensures (table-limit c.requires c.table_record.ensures c.in-Some.is c.if-index-ge-MOST_TABLES.true)
 
-pub read_columns-r-requires : goal.read_columns-r-requires
-read_columns-r-requires c = columns-ready c.requires c.table_record-h.ensures c.in-Table.is c.if-index-ge-MOST_TABLES.false
+pub read_columns-requires : goal.read_columns-requires
+read_columns-requires c = columns-ready c.requires c.table_record.ensures c.in-Some.is c.if-index-ge-MOST_TABLES.false
 
-pub returns-then-count-key : goal.returns-then-count-key
-returns-then-count-key c = table-key c.requires c.table_record-h.ensures c.in-Table.is c.if-index-ge-MOST_TABLES.false c.read_columns-r.ensures c.in-Done.is c.if-count-key.true
+pub returns-in_err-run : goal.returns-in_err-run
+returns-in_err-run c = let p = err_from_is_err_and c.from_residual.result c.from_residual.ensures.1 in rw (p.1, p.2) (table-columns-refused c.requires c.table_record.ensures c.in-Some.is c.if-index-ge-MOST_TABLES.false c.read_columns.ensures c.in_err-run.was)
 
-pub returns-in-Wrong : goal.returns-in-Wrong
-returns-in-Wrong c = table-columns-wrong c.requires c.table_record-h.ensures c.in-Table.is c.if-index-ge-MOST_TABLES.false c.read_columns-r.ensures c.in-Wrong.is
+pub returns-then-run-h : goal.returns-then-run-h
+returns-then-run-h c = rw c.at-then-run-h.ensures (table-key c.requires c.table_record.ensures c.in-Some.is c.if-index-ge-MOST_TABLES.false c.read_columns.ensures c.in_ok-run.was c.if-run-h.true)
 
-pub returns-in-Limit : goal.returns-in-Limit
-returns-in-Limit c = table-columns-limit c.requires c.table_record-h.ensures c.in-Table.is c.if-index-ge-MOST_TABLES.false c.read_columns-r.ensures c.in-Limit.is
-
-pub shape_of-tables-else-count-key : goal.shape_of-tables-else-count-key
-shape_of-tables-else-count-key c = simp length-set (c.put_four.auto.s ∙ c.read_columns-r.auto.tables)
-
-pub returns-else-count-key : goal.returns-else-count-key
-returns-else-count-key c = table-read c.requires c.table_record-h.ensures c.in-Table.is c.if-index-ge-MOST_TABLES.false c.read_columns-r.ensures c.in-Done.is c.if-count-key.false refl c.read_columns-r.auto.tables c.put_four.ensures c.put_four.auto.s
+pub returns : goal.returns
+returns c = table-read c.requires c.table_record.ensures c.in-Some.is c.if-index-ge-MOST_TABLES.false c.read_columns.ensures c.in_ok-run.was c.if-run-h.false refl c.read_columns.auto.tables c.put_four.ensures c.put_four.auto.s

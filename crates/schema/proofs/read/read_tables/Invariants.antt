@@ -6,7 +6,7 @@ use Rattle.schema.specs.TableRuns.{TableLoop}
 use Rattle.schema.proofs.read.read_tables.Given as goal
 
 abbrev pub invariant-loop-p : goal.invariant-loop-p
-invariant-loop-p l = (length l.tables ≡ length l.initial.tables) × TableLoop l.catalog l.p l.l l.n l.first l.tables
+invariant-loop-p l = (length l.tables ≡ length l.initial.tables) × TableLoop l.catalog l.p l.line l.n l.first l.tables
 
 abbrev pub decreases-loop-p : goal.decreases-loop-p
 decreases-loop-p l = length l.catalog - l.p

@@ -8,23 +8,23 @@ use Rattle.schema.proofs.record.column_record.Goals as goal
 
 pub returns-then-not-holds : goal.returns-then-not-holds
 unfolding bytes
-returns-then-not-holds c = column-missing _ _ _ c.fields-f.ensures c.holds.ensures c.if-not-holds.true
+returns-then-not-holds c = column-missing _ _ _ _ c.fields-f.ensures c.holds.ensures c.if-not-holds.true
 
 pub returns-then-f-ne4 : goal.returns-then-f-ne4
 unfolding bytes
-returns-then-f-ne4 c = column-count _ _ _ c.fields-f.ensures c.holds.ensures c.if-not-holds.false c.if-f-ne4.true
+returns-then-f-ne4 c = rw c.at.ensures (column-count _ _ _ _ c.fields-f.ensures c.holds.ensures c.if-not-holds.false c.if-f-ne4.true)
 
 pub returns-then-not-is_name : goal.returns-then-not-is_name
 unfolding bytes
-returns-then-not-is_name c = column-name _ _ _ c.fields-f.ensures c.holds.ensures c.if-not-holds.false c.if-f-ne4.false (sym c.is_name.ensures ∙ c.if-not-is_name.true)
+returns-then-not-is_name c = rw c.at-then-not-is_name.ensures (column-name _ _ _ _ c.fields-f.ensures c.holds.ensures c.if-not-holds.false c.if-f-ne4.false (sym c.is_name.ensures ∙ c.if-not-is_name.true))
 
 pub returns-then-k-ge4 : goal.returns-then-k-ge4
 unfolding bytes
-returns-then-k-ge4 c = column-type _ _ _ c.fields-f.ensures c.holds.ensures c.if-not-holds.false c.if-f-ne4.false (sym c.is_name.ensures ∙ c.if-not-is_name.false) c.datatype-k.ensures c.if-k-ge4.true
+returns-then-k-ge4 c = rw c.at-then-k-ge4.ensures (column-type _ _ _ _ c.fields-f.ensures c.holds.ensures c.if-not-holds.false c.if-f-ne4.false (sym c.is_name.ensures ∙ c.if-not-is_name.false) c.datatype-k.ensures c.if-k-ge4.true)
 
 pub returns-then-u-ge2 : goal.returns-then-u-ge2
 unfolding bytes
-returns-then-u-ge2 c = column-null _ _ _ c.fields-f.ensures c.holds.ensures c.if-not-holds.false c.if-f-ne4.false (sym c.is_name.ensures ∙ c.if-not-is_name.false) c.datatype-k.ensures c.if-k-ge4.false c.nullable-u.ensures c.if-u-ge2.true
+returns-then-u-ge2 c = rw c.at-then-u-ge2.ensures (column-null _ _ _ _ c.fields-f.ensures c.holds.ensures c.if-not-holds.false c.if-f-ne4.false (sym c.is_name.ensures ∙ c.if-not-is_name.false) c.datatype-k.ensures c.if-k-ge4.false c.nullable-u.ensures c.if-u-ge2.true)
 
 pub overflow_cast-result : goal.overflow_cast-result
 overflow_cast-result c = record { fits = omega (arith, field-most _ _ _ c.fields-f.ensures c.requires 1 (omega (arith, c.if-f-ne4.false))) }
@@ -34,4 +34,4 @@ overflow_cast-result-2 c = record { fits = omega (arith, field-most _ _ _ c.fiel
 
 pub returns : goal.returns
 unfolding bytes
-returns c = column-right _ _ _ c.fields-f.ensures c.holds.ensures c.if-not-holds.false c.if-f-ne4.false (sym c.is_name.ensures ∙ c.if-not-is_name.false) c.datatype-k.ensures c.if-k-ge4.false c.nullable-u.ensures c.requires c.if-u-ge2.false
+returns c = column-right _ _ _ _ c.fields-f.ensures c.holds.ensures c.if-not-holds.false c.if-f-ne4.false (sym c.is_name.ensures ∙ c.if-not-is_name.false) c.datatype-k.ensures c.if-k-ge4.false c.nullable-u.ensures c.requires c.if-u-ge2.false

@@ -11,10 +11,10 @@ pub returns-then-holds : goal.returns-then-holds
 unfolding bytes
 returns-then-holds c q l = default_none _ _ _ c.requires.fact_2 c.holds.ensures q l c.if-holds.true c.if-f-ne1.false
 
-pub returns-in_default : goal.returns-in_default
+pub returns-in_err-v : goal.returns-in_err-v
 unfolding bytes
-returns-in_default c q l = default-wrong _ _ _ c.requires.fact_2 c.holds.ensures q l c.if-holds.false c.literal_at.ensures c.in_default.is
+returns-in_err-v c q l = rw c.from_residual.ensures (default-wrong _ _ _ c.requires.fact_2 c.holds.ensures q l c.if-holds.false c.literal_at.ensures c.in_err-v.was)
 
 pub returns : goal.returns
 unfolding bytes
-returns c q l = default-value _ _ _ c.requires.fact_2 c.holds.ensures q l c.if-holds.false c.literal_at.ensures c.in-Some.is
+returns c q l = default-value _ _ _ c.requires.fact_2 c.holds.ensures q l c.if-holds.false c.literal_at.ensures c.in_ok-v.was

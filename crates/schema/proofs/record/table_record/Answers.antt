@@ -19,9 +19,9 @@ pub returns-then-not-is_name : goal.returns-then-not-is_name
 unfolding bytes
 returns-then-not-is_name c = table-name _ _ _ _ _ c.fields-f.ensures c.holds.ensures c.if-not-holds.false c.if-f-ne3.false (sym c.is_name.ensures ∙ c.if-not-is_name.true)
 
-pub returns-in_default : goal.returns-in_default
+pub returns-in_err-k : goal.returns-in_err-k
 unfolding bytes
-returns-in_default c = table-key _ _ _ _ _ c.fields-f.ensures c.holds.ensures c.if-not-holds.false c.if-f-ne3.false (sym c.is_name.ensures ∙ c.if-not-is_name.false) c.in_default.ensures
+returns-in_err-k c = rw c.from_residual.ensures (table-key _ _ _ _ _ c.fields-f.ensures c.holds.ensures c.if-not-holds.false c.if-f-ne3.false (sym c.is_name.ensures ∙ c.if-not-is_name.false) c.in_err-k.ensures)
 
 pub overflow_cast-a : goal.overflow_cast-a
 overflow_cast-a c = record { fits = omega (arith, field-most _ _ _ c.fields-f.ensures c.requires 1 (omega (arith, c.if-f-ne3.false))) }
@@ -31,11 +31,11 @@ overflow_cast-m c = record { fits = omega (arith, field-most _ _ _ c.fields-f.en
 
 pub returns-then-is_taken : goal.returns-then-is_taken
 unfolding bytes
-returns-then-is_taken c = table_taken _ _ _ _ _ c.fields-f.ensures c.holds.ensures c.if-not-holds.false c.if-f-ne3.false (sym c.is_name.ensures ∙ c.if-not-is_name.false) c.in-Some.ensures c.requires c.is_taken.ensures c.if-is_taken.true
+returns-then-is_taken c = table_taken _ _ _ _ _ c.fields-f.ensures c.holds.ensures c.if-not-holds.false c.if-f-ne3.false (sym c.is_name.ensures ∙ c.if-not-is_name.false) c.in_ok-k.ensures c.requires c.is_taken.ensures c.if-is_taken.true
 
 pub overflow_cast-result : goal.overflow_cast-result
-overflow_cast-result c = record { fits = omega (arith, count_small _ _ (c.in-Some.ensures 0)) }
+overflow_cast-result c = record { fits = omega (arith, count_small _ _ (c.in_ok-k.ensures 0)) }
 
 pub returns : goal.returns
 unfolding bytes
-returns c = table-right _ _ _ _ _ c.fields-f.ensures c.holds.ensures c.if-not-holds.false c.if-f-ne3.false (sym c.is_name.ensures ∙ c.if-not-is_name.false) c.in-Some.ensures c.requires c.is_taken.ensures c.if-is_taken.false
+returns c = table-right _ _ _ _ _ c.fields-f.ensures c.holds.ensures c.if-not-holds.false c.if-f-ne3.false (sym c.is_name.ensures ∙ c.if-not-is_name.false) c.in_ok-k.ensures c.requires c.is_taken.ensures c.if-is_taken.false
