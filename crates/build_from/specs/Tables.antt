@@ -24,8 +24,7 @@ use Rattle.ast.specs.Names.{name_at}
 use Rattle.schema.specs.Layout.{table_at, catalog_at}
 use Rattle.schema.specs.Search as schema
 use Rattle.schema.specs.Search.{found_table, table_from}
-use Rattle.schema.specs.declared.Found.{Found}
-use Rattle.schema.specs.declared.Found.TheVariants.{At, Nothing}
+use Rattle.std.specs.Prelude as std
 use Rattle.scope.specs.Scopes.{scope_of}
 use Rattle.scope.specs.FromTable.{FromTable}
 use Rattle.scope.specs.Read.{found_scope}
@@ -130,7 +129,7 @@ table-room h = (omega (arith, h.numbers), omega (arith, h.numbers, h.few, h.most
 -- THE ITEM
 module _ (c q : Bytes) (ts cells froms : List ℕ) (r : ℕ) {n m k : ℕ} {area nodes : List ℕ}
     (h : ItemRoom c q ts (table_row c q froms r) n m k area nodes) {a s : ℕ} (ea : a ≡ name_address froms r)
-    (es : s ≡ name_length froms r) (f : Found)
+    (es : s ≡ name_length froms r) (f : std.Option ℕ)
     (g : found_table c q ts f ≡ table_from 0 (catalog_at c q ts) (bytes_at c q a s)) where
   found-is : map_option (λ (p : ℕ × Table). p.1) (found_table c q ts f)
       ≡ get_table (catalog_at c q ts) (row_name c q froms r).bytes
@@ -138,7 +137,7 @@ module _ (c q : Bytes) (ts cells froms : List ℕ) (r : ℕ) {n m k : ℕ} {area
   found-is = rw (g, ← ea, ← es) (schema.table-found 0 (catalog_at c q ts) (bytes_at c q a s))
 
   -- no table has its name
-  pub table-missing : {l : ℕ} → f ≡ Nothing → l ≡ line_at froms r
+  pub table-missing : {l : ℕ} → f ≡ std.None → l ≡ line_at froms r
       → Builds c q ts cells (table_row c q froms r) n m k area nodes area nodes
       (Err (record { reason = UnknownTable; line = l }))
   unfolding found_table map_option named refuse
@@ -153,7 +152,7 @@ module _ (c q : Bytes) (ts cells froms : List ℕ) (r : ℕ) {n m k : ℕ} {area
       }
 
   -- the i-th table has it
-  pub table-accepted : {s : Scope} {l i v : ℕ} {nodes' : List ℕ} → f ≡ At i → FromNamed ts froms r i s
+  pub table-accepted : {s : Scope} {l i v : ℕ} {nodes' : List ℕ} → f ≡ std.Some i → FromNamed ts froms r i s
       → Scanned c q froms r k nodes v nodes' → l ≡ line_at froms r
       → Builds c q ts cells (table_row c q froms r) n m k area nodes area nodes'
       (Ok (record { scope = s; line = l; cell = n; node = m + 1; used = v }))
@@ -162,7 +161,7 @@ module _ (c q : Bytes) (ts cells froms : List ℕ) (r : ℕ) {n m k : ℕ} {area
       let t = table_at c q ts i in
       let w = row_name c q froms r in
       let y : get_table (catalog_at c q ts) w.bytes ≡ some t = sym found-is ∙ rw e in
-      let z : found_table c q ts (At i) ≡ table_from 0 (catalog_at c q ts) (bytes_at c q a s) =
+      let z : found_table c q ts (std.Some i) ≡ table_from 0 (catalog_at c q ts) (bytes_at c q a s) =
       ap (found_table c q ts) (sym e) ∙ g in
       let u = rw (o.name c q) at (from-name (line_at froms r) w (row_alias c q froms r) h.parts) in
       let d : scope_of (tree_at c q cells) c q x ≡ rules.from_table (or_else (row_alias c q froms r) w) t =

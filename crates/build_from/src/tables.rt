@@ -9,7 +9,7 @@ use crate::Source;
 use from::row;
 use numbers::refusals::{Reason, Refusal};
 use plan::nodes;
-use schema::{Found, get_table};
+use schema::get_table;
 use scope::Scope;
 use text::lengths::length_at;
 
@@ -76,7 +76,7 @@ pub fn build_table(
     let a = row::name_address(froms, r);
     let len = row::name_length(froms, r);
     let found = get_table(catalog, statement, tables, a, len);
-    let Found::At(i) = found else {
+    let Some(i) = found else {
         return Err(Refusal {
             reason: Reason::UnknownTable,
             line: l,

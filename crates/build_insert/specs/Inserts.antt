@@ -28,8 +28,6 @@ use Rattle.appends.specs.Statements.Insert.{emit_rows, insert-table, insert-map,
 use Rattle.appends.specs.Room.Statements.{numbers-insert}
 use Rattle.schema.specs.Layout.{table_at, catalog_at}
 use Rattle.schema.specs.Search.{table_from, found_table}
-use Rattle.schema.specs.declared.Found.{Found}
-use Rattle.schema.specs.declared.Found.TheVariants.{At, Nothing}
 use Rattle.statement.specs.Layout.{insert_of}
 use Rattle.statement.specs.Access.{line_at, name_address, name_length}
 use Rattle.plan.specs.Layout.{record_head, plan_size, most_plan_cells, nodes_size, insert_code}
@@ -153,12 +151,12 @@ module _ (c q : Bytes) (tables cells parts : List ℕ) {area nodes : List ℕ}
       let k : Given (λ (ns : List Named). length ns ≤ most_entries) (given_names c q cells parts) = h.within.counts.columns in
       rw e k
 
-  module _ (a n : ℕ) (ha : a ≡ name_address parts) (hn : n ≡ name_length parts) (r : Found)
+  module _ (a n : ℕ) (ha : a ≡ name_address parts) (hn : n ≡ name_length parts) (r : std.Option ℕ)
       (f : found_table c q tables r ≡ table_from 0 (catalog_at c q tables) (bytes_at c q a n)) where
     name-is : word_at c q a n ≡ name_of c q parts
     name-is = λ j. word_at c q (ha j) (hn j)
 
-    pub insert-unknown : {y : ℕ} → r ≡ Nothing → y ≡ line_at parts
+    pub insert-unknown : {y : ℕ} → r ≡ std.None → y ≡ line_at parts
         → Plans (build_insert (catalog_at c q tables) (insert_at c q cells parts)) area area
         (Err (record { reason = Re.UnknownTable; line = y }))
     unfolding insert_of refuse named
@@ -166,7 +164,7 @@ module _ (c q : Bytes) (tables cells parts : List ℕ) {area nodes : List ℕ}
         (insert-table (catalog_at c q tables) (insert_at c q cells parts) _
         (rw name-is at (must-not c q tables a n r f (line_at parts) e)))
 
-    module _ (i : ℕ) (e : r ≡ At i) {ps ps' : List ℕ} {x : Result (std.Option ℕ) Refusal}
+    module _ (i : ℕ) (e : r ≡ std.Some i) {ps ps' : List ℕ} {x : Result (std.Option ℕ) Refusal}
         (p : Maps (column_map (table_at c q tables i).columns (given_names c q cells parts)) ps ps' x) where
       abbrev t : Table
       t = table_named c q tables i a n

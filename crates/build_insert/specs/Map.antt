@@ -21,8 +21,6 @@ use Rattle.appends.specs.Answers.{bind_ok, bind-refused}
 use Rattle.appends.specs.Statements.Insert.{map-unknown, map-repeated, map-step, map-done}
 use Rattle.schema.specs.Layout.{table_at}
 use Rattle.schema.specs.Search.{found_of}
-use Rattle.schema.specs.declared.Found.{Found}
-use Rattle.schema.specs.declared.Found.TheVariants as F
 use Rattle.sections.specs.Layout.{section_at}
 use Rattle.sections.specs.Access.{columns_kind, name_kind, numbers_at, after-drop}
 use Rattle.sections.specs.declared.entry.Entry.{Entry}
@@ -146,12 +144,12 @@ module _ (c q : Bytes) (cells parts : List ℕ) (cs : List Column) where
         }
 
     module _ (e : Entry) (x : e ≡ numbers_at parts name_kind v) (l : v < length (section_at c q cells parts name_kind))
-        (a : ℕ) (s : a ≡ name_start e) (r : Found) (f : found_of r ≡ column_at 0 cs (bytes_at c q a e.length)) where
+        (a : ℕ) (s : a ≡ name_start e) (r : std.Option ℕ) (f : found_of r ≡ column_at 0 cs (bytes_at c q a e.length)) where
       here : map ≡ map_from cs (named_of e ∷ drop (suc v) names) v (mappings ps 0 v)
       here = p.left ∙ ap (λ ns. map_from cs ns v (mappings ps 0 v))
           (after-drop v names (named_of e) (named-at c q cells parts name_kind v e x l))
 
-      pub name-unknown : r ≡ F.Nothing
+      pub name-unknown : r ≡ std.None
           → Maps whole ps₀ ps (Err (record { reason = Re.UnknownInsertColumn; line = e.line }))
       unfolding MapsAs table_position found_of word_at named
       name-unknown g =
@@ -163,7 +161,7 @@ module _ (c q : Bytes) (cells parts : List ℕ) (cs : List Column) where
                 (here ∙ map-unknown cs (named_of e) (drop (suc v) names) v (mappings ps 0 v) z)) refl refl;
           }
 
-      module _ (j : ℕ) (g : r ≡ F.At j) where
+      module _ (j : ℕ) (g : r ≡ std.Some j) where
         position : table_position cs (word_of c q e) ≡ some (cindex j)
         unfolding table_position found_of word_at
         position = rw (table_position, ← s, ← f, g)

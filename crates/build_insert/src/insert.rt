@@ -16,7 +16,7 @@ use crate::own::put_own;
 use crate::rows::build_node;
 use numbers::refusals::{Reason, Refusal};
 use plan::finish::{INSERT, finish};
-use schema::{Found, get_table};
+use schema::get_table;
 use statement::access;
 use text::lengths::length_at;
 
@@ -93,7 +93,7 @@ pub fn build_insert<'t>(
     let a = access::name_address(parts);
     let n = access::name_length(parts);
     let found = get_table(catalog, statement, tables, a, n);
-    let Found::At(i) = found else {
+    let Some(i) = found else {
         return Err(Refusal {
             reason: Reason::UnknownTable,
             line: access::line(parts),

@@ -10,7 +10,7 @@ ghost use Rattle.build_insert.specs.Map as map;
 
 use numbers::number;
 use numbers::refusals::{Reason, Refusal};
-use schema::{Found, column_at};
+use schema::column_at;
 use sections::entry;
 use statement::access::name_start;
 
@@ -75,7 +75,7 @@ fn map_names(
         let e = entry::entry_at(parts, entry::NAME, v);
         let a = name_start(e);
         let found = column_at(catalog, statement, tables, i, a, e.length);
-        let Found::At(j) = found else {
+        let Some(j) = found else {
             return Err(Refusal {
                 reason: Reason::UnknownInsertColumn,
                 line: e.line,

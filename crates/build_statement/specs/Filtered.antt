@@ -13,8 +13,7 @@ use Rattle.claims.specs.Words.Within.{StatementName}
 use Rattle.ast.specs.Table.{tree_at}
 use Rattle.schema.specs.Layout.{catalog_at}
 use Rattle.schema.specs.Search.{table_from, found_table}
-use Rattle.schema.specs.declared.Found.{Found}
-use Rattle.schema.specs.declared.Found.TheVariants.{At, Nothing}
+use Rattle.std.specs.Prelude as std
 use Rattle.sections.specs.Layout.{section_at}
 use Rattle.sections.specs.Access.{where_kind}
 use Rattle.sections.specs.Expressions.{outside_row}
@@ -33,15 +32,15 @@ use Rattle.build_statement.specs.Scans.{where-is}
 
 module _ (c q : Bytes) (tables cells parts : List ℕ) {d : Statement} (h : TextsWithin c q (catalog_at c q tables) d)
     (named : StatementName c q (name_of c q parts)) (a n : ℕ) (ha : a ≡ name_address parts) (hn : n ≡ name_length parts)
-    (r : Found) (f : found_table c q tables r ≡ table_from 0 (catalog_at c q tables) (bytes_at c q a n)) where
+    (r : std.Option ℕ) (f : found_table c q tables r ≡ table_from 0 (catalog_at c q tables) (bytes_at c q a n)) where
   name-is : word_at c q a n ≡ name_of c q parts
   name-is = λ j. word_at c q (ha j) (hn j)
 
-  pub not_there : r ≡ Nothing
+  pub not_there : r ≡ std.None
       → must_get_table (catalog_at c q tables) (line_at parts) (name_of c q parts) ≡ refuse unknown_table (line_at parts)
   not_there e = rw name-is at (must-not c q tables a n r f (line_at parts) e)
 
-  module _ (i : ℕ) (e : r ≡ At i) where
+  module _ (i : ℕ) (e : r ≡ std.Some i) where
     pub there : must_get_table (catalog_at c q tables) (line_at parts) (name_of c q parts) ≡ ok (table_named c q tables i a n)
     there = ap (must_get_table (catalog_at c q tables) (line_at parts)) (sym name-is)
         ∙ must-have c q tables a n r f i e (line_at parts)

@@ -14,8 +14,7 @@ use Rattle.claims.specs.Words.Within.{StatementName}
 use Rattle.appends.specs.From.Merge as M
 use Rattle.schema.specs.Layout.{table_at, catalog_at}
 use Rattle.schema.specs.Search.{table_from, found_table, table-found}
-use Rattle.schema.specs.declared.Found.{Found}
-use Rattle.schema.specs.declared.Found.TheVariants.{At, Nothing}
+use Rattle.std.specs.Prelude as std
 use Rattle.scope.specs.Scopes.{scope_of}
 use Rattle.scope.specs.FromTable.{FromTable}
 use Rattle.scope.specs.Read.{found_scope}
@@ -25,16 +24,16 @@ use Rattle.scope.specs.declared.Scope.{Scope}
 abbrev pub table_named : Bytes → Bytes → List ℕ → ℕ → ℕ → ℕ → Table
 table_named c q tables i a n = named_by (word_at c q a n) (table_at c q tables i)
 
-module _ (c q : Bytes) (tables : List ℕ) (a n : ℕ) (r : Found)
+module _ (c q : Bytes) (tables : List ℕ) (a n : ℕ) (r : std.Option ℕ)
     (f : found_table c q tables r ≡ table_from 0 (catalog_at c q tables) (bytes_at c q a n)) where
   got : get_table (catalog_at c q tables) (bytes_at c q a n) ≡ map_option (λ (x : ℕ × Table). x.1) (found_table c q tables r)
   got = sym (ap (map_option (λ (x : ℕ × Table). x.1)) f ∙ table-found 0 (catalog_at c q tables) (bytes_at c q a n))
 
-  pub must-not : (l : ℕ) → r ≡ Nothing → must_get_table (catalog_at c q tables) l (word_at c q a n) ≡ refuse unknown_table l
+  pub must-not : (l : ℕ) → r ≡ std.None → must_get_table (catalog_at c q tables) l (word_at c q a n) ≡ refuse unknown_table l
   unfolding word_at found_table map_option
   must-not l e = M.table-unknown (catalog_at c q tables) l (word_at c q a n) (got ∙ rw e)
 
-  module _ (i : ℕ) (e : r ≡ At i) where
+  module _ (i : ℕ) (e : r ≡ std.Some i) where
     pub must-have : (l : ℕ)
         → must_get_table (catalog_at c q tables) l (word_at c q a n) ≡ ok (table_named c q tables i a n)
     unfolding word_at found_table map_option

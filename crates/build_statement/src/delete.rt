@@ -13,7 +13,7 @@ use numbers::refusals::{Reason, Refusal};
 use plan::finish::{DELETE, finish};
 use plan::nodes::scan;
 use plan::own;
-use schema::{Found, get_table, key};
+use schema::{get_table, key};
 use scope::Scope;
 use sections::entry::WHERE;
 use statement::access;
@@ -62,7 +62,7 @@ pub fn build_delete<'t>(
     let a = access::name_address(parts);
     let n = access::name_length(parts);
     let found = get_table(catalog, statement, tables, a, n);
-    let Found::At(i) = found else {
+    let Some(i) = found else {
         return Err(Refusal {
             reason: Reason::UnknownTable,
             line: access::line(parts),

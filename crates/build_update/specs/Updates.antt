@@ -32,8 +32,7 @@ use Rattle.appends.specs.Lists.Kinds.{emit_seconds}
 use Rattle.appends.specs.Statements.Update as U
 use Rattle.schema.specs.Layout.{table_at, catalog_at}
 use Rattle.schema.specs.Search.{table_from, found_table}
-use Rattle.schema.specs.declared.Found.{Found}
-use Rattle.schema.specs.declared.Found.TheVariants.{At, Nothing}
+use Rattle.std.specs.Prelude as std
 use Rattle.sections.specs.Access.{where_kind}
 use Rattle.sections.specs.Expressions.{outside_row}
 use Rattle.scope.specs.Scopes.{labels_of, table_numbers, scope_of}
@@ -188,13 +187,13 @@ module _ (c q : Bytes) (tables : List ℕ) (i a n l m : ℕ) {area nodes nodes�
 -- THE ANSWER
 module _ (c q : Bytes) (tables cells parts : List ℕ) {area nodes : List ℕ}
     (h : ReadyFor c q tables (Ast.update (update_at c q cells parts)) area nodes) (a n : ℕ) (ha : a ≡ name_address parts)
-    (hn : n ≡ name_length parts) (r : Found)
+    (hn : n ≡ name_length parts) (r : std.Option ℕ)
     (f : found_table c q tables r ≡ table_from 0 (catalog_at c q tables) (bytes_at c q a n)) where
   named : StatementName c q (name_of c q parts)
   unfolding update_of
   named = h.within.parts.0
 
-  pub update-unknown : {y : ℕ} → r ≡ Nothing → y ≡ line_at parts
+  pub update-unknown : {y : ℕ} → r ≡ std.None → y ≡ line_at parts
       → Plans (build_update (catalog_at c q tables) (update_at c q cells parts)) area area
       (Err (record { reason = Re.UnknownTable; line = y }))
   unfolding update_of refuse named_reason
@@ -210,7 +209,7 @@ module _ (c q : Bytes) (tables cells parts : List ℕ) {area nodes : List ℕ}
     unfolding update_of
     update-where-room = where-room c q cells parts hw s h.free (omega (arith, few))
 
-    module _ (i : ℕ) (e : r ≡ At i) {S : Scope} (g : FromTable tables i a n S) {area₁ : List ℕ} {x : Written}
+    module _ (i : ℕ) (e : r ≡ std.Some i) {S : Scope} (g : FromTable tables i a n S) {area₁ : List ℕ} {x : Written}
         (b : Filters c q cells (labels_of S) (take S.width S.matches) (table_numbers S) w area area₁ x) where
       abbrev here : Table
       here = table_named c q tables i a n

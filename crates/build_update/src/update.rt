@@ -17,7 +17,7 @@ use numbers::refusals::{Reason, Refusal};
 use plan::finish::{UPDATE, finish};
 use plan::nodes::scan;
 use plan::own;
-use schema::{Found, get_table, key};
+use schema::{get_table, key};
 use scope::Scope;
 use sections::entry;
 use statement::access;
@@ -86,7 +86,7 @@ pub fn build_update<'t>(
     let a = access::name_address(parts);
     let n = access::name_length(parts);
     let found = get_table(catalog, statement, tables, a, n);
-    let Found::At(i) = found else {
+    let Some(i) = found else {
         return Err(Refusal {
             reason: Reason::UnknownTable,
             line: access::line(parts),

@@ -1,40 +1,45 @@
 -- Both texts read: the statement that is then built, or the refusal of a text.
-use Rattle.std.specs.Prelude.{ℕ, ◌≤◌, ◌≡◌, refl, List, length}
+use Rattle.std.specs.Prelude.{ℕ, ◌≤◌, ◌≡◌, refl, List, length, Result, Ok, Err}
+use Rattle.std.proofs.Common.{◌∙◌}
 use Rattle.rules.specs.Limits.{least_area}
 use Rattle.rules.specs.Lists.{Bytes}
 use Rattle.rules.specs.BuildStatement.{build_statement}
-use Rattle.rules.specs.Entry.{outcome}
+use Rattle.rules.specs.Refusals.{refusal_number}
+use Rattle.rules.specs.Entry.{text_number, outcome}
 use Rattle.schema.specs.Layout.{catalog_at}
 use Rattle.statement.specs.Layout.{statement_at}
 use Rattle.reader.specs.Reading.{TextsRead}
 use Rattle.reader.specs.Within.{texts-accepted, texts-refused, select-stays}
-use Rattle.reader.specs.declared.Texts as texts
-use Rattle.reader.specs.declared.Texts.TheVariants as T
+use Rattle.numbers.specs.Reasons.{reason_of}
+use Rattle.reader.specs.Reading.{text_of}
+use Rattle.reader.specs.declared.Texts.{Texts}
+use Rattle.reader.specs.declared.TextRefusal.{TextRefusal}
 use Rattle.planner.specs.Outcomes.{built_of, reading-refused, reading-built, Answers, Refused, refused-answer}
 use Rattle.planner.specs.Kinds.{StatementReady}
 use Rattle.planner.specs.declared.Outcome.{Outcome}
 
-module _ {c q : Bytes} {tables cells froms parts : List ℕ} {x : texts.Texts}
+module _ {c q : Bytes} {tables cells froms parts : List ℕ} {x : Result Texts TextRefusal}
     (h : TextsRead c q tables cells froms parts x) where
-  as_read : {k n m : ℕ} → x ≡ T.Read k n m → TextsRead c q tables cells froms parts (T.Read k n m)
-  as_read e = rw e at h
+  pub statement-ready : (t : Texts) → x ≡ Ok t → StatementReady c q tables cells froms parts
+  statement-ready t e =
+      let g : TextsRead c q tables cells froms parts (Ok t) = rw e at h in
+      record {
+        within = (texts-accepted g).within;
+        stay = λ z. select-stays g z;
+      }
 
-  pub statement-ready : (k n m : ℕ) → x ≡ T.Read k n m → StatementReady c q tables cells froms parts
-  statement-ready k n m e = record {
-    within = (texts-accepted (as_read {k = k} {n = n} {m = m} e)).within;
-    stay = λ z. select-stays (as_read {k = k} {n = n} {m = m} e) z;
-  }
-
-  pub statement-answer : (k n m : ℕ) (area : List ℕ) {area' : List ℕ} {r : Outcome} → x ≡ T.Read k n m
+  pub statement-answer : (t : Texts) (area : List ℕ) {area' : List ℕ} {r : Outcome} → x ≡ Ok t
       → Answers (outcome area (build_statement (catalog_at c q tables) (statement_at c q cells froms parts))) r area'
       → Answers (outcome area (built_of c q)) r area'
-  statement-answer k n m area {area'} {r} e a =
-      let z = reading-built c q _ (texts-accepted (as_read {k = k} {n = n} {m = m} e)).read in
+  statement-answer t area {area'} {r} e a =
+      let g : TextsRead c q tables cells froms parts (Ok t) = rw e at h in
+      let z = reading-built c q _ (texts-accepted g).read in
       rw z a
 
-  pub text-refused : (k t l : ℕ) (area : List ℕ) {area' : List ℕ} {r : Outcome} → x ≡ T.Refused k t l
-      → least_area ≤ length area → Refused k t l area area' r → Answers (outcome area (built_of c q)) r area'
-  text-refused k t l area e m z =
-      let g : TextsRead c q tables cells froms parts (T.Refused k t l) = rw e at h in
+  pub text-refused : (w : TextRefusal) (k t : ℕ) (area : List ℕ) {area' : List ℕ} {r : Outcome} → x ≡ Err w
+      → k ≡ refusal_number (reason_of w.reason) → t ≡ text_number (text_of w.text)
+      → least_area ≤ length area → Refused k t w.line area area' r → Answers (outcome area (built_of c q)) r area'
+  text-refused w k t area e ek et m z =
+      let g : TextsRead c q tables cells froms parts (Err w) = rw e at h in
       let f = texts-refused g in
-      refused-answer area f.refusal (reading-refused c q f.refusal f.read) m refl f.reason f.text f.line z
+      refused-answer area f.refusal (reading-refused c q f.refusal f.read) m refl (ek ∙ f.reason) (et ∙ f.text) f.line z

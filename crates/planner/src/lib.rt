@@ -17,7 +17,7 @@ ghost use Rattle.planner.specs.Kinds.{StatementReady};
 use building::build;
 use numbers::refusals::Reason;
 use plan::finish::{LAYOUT, clear};
-use reader::{STATEMENT, Texts, read_texts};
+use reader::{Text, read_texts};
 use schema::NUMBERS;
 use schema::read::{SMALL_NUMBERS, numbers_for};
 use statement::{CELL_NUMBERS, FROM_NUMBERS, PART_NUMBERS};
@@ -72,7 +72,7 @@ fn plan_read<'t>(
             line: 0,
             count: n,
         },
-        Err(refusal) => refuse(area, refusal.reason.number(), STATEMENT, refusal.line),
+        Err(w) => refuse(area, w.reason.number(), Text::Statement.number(), w.line),
     }
 }
 
@@ -95,8 +95,8 @@ fn plan_with<'t>(
         catalog, statement, tables, &mut cells, &mut froms, &mut parts,
     );
     match texts {
-        Texts::Refused(x, t, l) => refuse(area, x, t, l),
-        Texts::Read(_, _, _) => plan_read(
+        Err(w) => refuse(area, w.reason.number(), w.text.number(), w.line),
+        Ok(_) => plan_read(
             catalog, statement, tables, &mut cells, &froms, &parts, area,
         ),
     }
@@ -109,7 +109,7 @@ pub fn planner_plan<'t>(catalog: &'t [u8], statement: &'t [u8], area: &mut [u32]
     if area.len() < LEAST_AREA {
         return Outcome {
             number: Reason::ShortArea.number(),
-            text: STATEMENT,
+            text: Text::Statement.number(),
             line: 0,
             count: 0,
         };

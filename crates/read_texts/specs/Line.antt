@@ -1,18 +1,20 @@
 -- The line that is printed: what was read, or the refusal as the planning program prints it (docs/PLAN.md).
-use Rattle.std.specs.Prelude.{ℕ, zero, suc, ◌≡◌, refl, [], ◌∷◌, ◌++◌, length, get_or}
-use Rattle.rules.specs.Refusals.{Text, catalog, statement, Refusal, Answer, ok, refused}
+use Rattle.std.specs.Prelude.{ℕ, zero, suc, ◌≡◌, refl, [], ◌∷◌, ◌++◌, length, get_or, Result, Ok, Err}
+use Rattle.rules.specs.Refusals.{Text, catalog, statement, refusal_number, Refusal, Answer, ok, refused}
 use Rattle.rules.specs.Lists.{Bytes}
 use Rattle.rules.specs.Lines.{bytes}
 use Rattle.rules.specs.Schema.{Catalog}
 use Rattle.rules.specs.Ast.{Statement}
 use Rattle.rules.specs.Ast as Ast
 use Rattle.rules.specs.Sizes.{statement_size}
-use Rattle.rules.specs.Entry.{text_number}
 use Rattle.rules.specs.Print.{decimal_of, tabbed, show_lines, text_name, show_refusal, show_answer}
 use Rattle.reader.specs.Texts.{kind_of}
-use Rattle.reader.specs.Reading.{texts_of}
-use Rattle.reader.specs.declared.Texts as Tx
-use Rattle.reader.specs.declared.Texts.TheVariants as T
+use Rattle.reader.specs.Reading.{text_named, texts_of}
+use Rattle.numbers.specs.Reasons.{reason_of, reason-named}
+use Rattle.reader.specs.declared.Text as Tx
+use Rattle.reader.specs.declared.Text.TheVariants as T
+use Rattle.reader.specs.declared.Texts.{Texts}
+use Rattle.reader.specs.declared.TextRefusal.{TextRefusal}
 
 unfoldable pub kind_name : Statement → Bytes
 kind_name (Ast.select s) = bytes "select"
@@ -28,18 +30,19 @@ unfoldable pub printed : Answer (Catalog × Statement) → Bytes
 printed (ok x) = tabbed (bytes "read" ∷ kind_name x.1 ∷ decimal_of (statement_size x.1) ∷ decimal_of (length x.0) ∷ []) ++ (10 ∷ [])
 printed (refused r) = show_answer (refused r)
 
--- the words of a kind's number and a text's
+-- the words of a kind's number and of a text
 unfoldable pub kind_word : ℕ → Bytes
 kind_word k = get_or (bytes "other" ∷ bytes "select" ∷ bytes "create" ∷ bytes "drop" ∷ bytes "delete" ∷ bytes "insert" ∷ bytes "update" ∷ []) k (bytes "other")
 
-unfoldable pub text_word : ℕ → Bytes
-text_word k = get_or (bytes "statement" ∷ bytes "catalog" ∷ []) k (bytes "statement")
+unfoldable pub text_word : Tx.Text → Bytes
+text_word T.Catalog = bytes "catalog"
+text_word T.Statement = bytes "statement"
 
-unfoldable pub line_of : Tx.Texts → Bytes
-line_of (T.Read k n m) = tabbed (bytes "read" ∷ kind_word k ∷ decimal_of n ∷ decimal_of m ∷ []) ++ (10 ∷ [])
-line_of (T.Refused n x l) = tabbed (bytes "refused" ∷ decimal_of n ∷ text_word x ∷ decimal_of l ∷ []) ++ (10 ∷ [])
+unfoldable pub line_of : Result Texts TextRefusal → Bytes
+line_of (Ok t) = tabbed (bytes "read" ∷ kind_word t.kind ∷ decimal_of t.cells ∷ decimal_of t.tables ∷ []) ++ (10 ∷ [])
+line_of (Err w) = tabbed (bytes "refused" ∷ decimal_of (refusal_number (reason_of w.reason)) ∷ text_word w.text ∷ decimal_of w.line ∷ []) ++ (10 ∷ [])
 
--- a number that is no kind's, and one that is not the catalog's
+-- a number that is no kind's
 pub kind-other : (k : ℕ) → (k ≡ 1 → ⊥) → (k ≡ 2 → ⊥) → (k ≡ 3 → ⊥) → (k ≡ 4 → ⊥) → (k ≡ 5 → ⊥) → (k ≡ 6 → ⊥) → kind_word k ≡ bytes "other"
 unfolding kind_word
 kind-other zero a b c d e f = refl
@@ -51,12 +54,6 @@ kind-other (suc (suc (suc (suc (suc zero))))) a b c d e f = absurd (e refl)
 kind-other (suc (suc (suc (suc (suc (suc zero)))))) a b c d e f = absurd (f refl)
 kind-other (suc (suc (suc (suc (suc (suc (suc k))))))) a b c d e f = refl
 
-pub text-other : (k : ℕ) → (k ≡ 1 → ⊥) → text_word k ≡ bytes "statement"
-unfolding text_word
-text-other zero h = refl
-text-other (suc zero) h = absurd (h refl)
-text-other (suc (suc k)) h = refl
-
 kind-word : (s : Statement) → kind_word (kind_of s) ≡ kind_name s
 unfolding kind_word kind_of kind_name
 kind-word (Ast.select s) = refl
@@ -67,14 +64,14 @@ kind-word (Ast.insert d) = refl
 kind-word (Ast.update d) = refl
 kind-word (Ast.other l) = refl
 
-text-word : (t : Text) → text_word (text_number t) ≡ text_name t
-unfolding text_word text_number text_name
+text-word : (t : Text) → text_word (text_named t) ≡ text_name t
+unfolding text_word text_named text_name
 text-word catalog = refl
 text-word statement = refl
 
 refused-line : (r : Refusal) → line_of (texts_of (refused r)) ≡ printed (refused r)
 unfolding line_of texts_of printed show_answer show_lines show_refusal
-refused-line r = rw (text-word r.text)
+refused-line r = rw (text-word r.text, reason-named r.reason)
 
 -- what is answered is printed so
 pub line-told : (a : Answer (Catalog × Statement)) → line_of (texts_of a) ≡ printed a

@@ -1,12 +1,11 @@
 // The printed line: four fields parted by tabs, and an LF.
-ghost use Rattle.std.specs.Prelude.{◌+◌, ◌≤◌, ◌<◌, ◌≡◌, [], ◌∷◌, ◌++◌, length, take};
+ghost use Rattle.std.specs.Prelude.{◌+◌, ◌≤◌, ◌<◌, ◌≡◌, [], ◌∷◌, ◌++◌, length, take, Ok, Err};
 ghost use Rattle.io.specs.Counts.{IsPrefixLen};
 ghost use Rattle.rules.specs.Print.{decimal_of};
-ghost use Rattle.reader.specs.declared.Texts.TheVariants as T;
 ghost use Rattle.read_texts.specs.Fields.{Put};
 ghost use Rattle.read_texts.specs.Line.{kind_word, text_word, line_of};
 
-use reader::Texts;
+use reader::{Text, TextRefusal, Texts};
 
 // A field and the byte behind it, from at on.
 fn put_field(out: &mut [u8], at: usize, field: &[u8], close: u8) -> usize
@@ -48,43 +47,43 @@ fn put_kind(out: &mut [u8; 64], at: usize, kind: u32) -> usize
     }
 }
 
-// The word of a text's number.
-fn put_text(out: &mut [u8; 64], at: usize, text: u32) -> usize
+// The word of a text.
+fn put_text(out: &mut [u8; 64], at: usize, text: Text) -> usize
     requires { at < 53 }
     ensures { Put out.old out.new at (text_word text ++ (9 ∷ [])) result × (result ≤ at + 10) }
 {
-    if text == reader::CATALOG {
-        return put_field(out, at, b"catalog", b'\t');
+    match text {
+        Text::Catalog => put_field(out, at, b"catalog", b'\t'),
+        Text::Statement => put_field(out, at, b"statement", b'\t'),
     }
-    put_field(out, at, b"statement", b'\t')
 }
 
 // The line of texts that were read.
-fn put_read(out: &mut [u8; 64], kind: u32, cells: u32, tables: u32) -> usize
-    ensures { IsPrefixLen result out.new × (take result out.new ≡ line_of (T.Read kind cells tables)) }
+fn put_read(out: &mut [u8; 64], t: Texts) -> usize
+    ensures { IsPrefixLen result out.new × (take result out.new ≡ line_of (Ok t)) }
 {
     let a = put_field(out, 0, b"read", b'\t');
-    let b = put_kind(out, a, kind);
-    let c = put_number(out, b, cells, b'\t');
-    put_number(out, c, tables, b'\n')
+    let b = put_kind(out, a, t.kind);
+    let c = put_number(out, b, t.cells, b'\t');
+    put_number(out, c, t.tables, b'\n')
 }
 
 // The line of a refusal.
-fn put_refusal(out: &mut [u8; 64], number: u32, text: u32, line: u32) -> usize
-    ensures { IsPrefixLen result out.new × (take result out.new ≡ line_of (T.Refused number text line)) }
+fn put_refusal(out: &mut [u8; 64], w: TextRefusal) -> usize
+    ensures { IsPrefixLen result out.new × (take result out.new ≡ line_of (Err w)) }
 {
     let a = put_field(out, 0, b"refused", b'\t');
-    let b = put_number(out, a, number, b'\t');
-    let c = put_text(out, b, text);
-    put_number(out, c, line, b'\n')
+    let b = put_number(out, a, w.reason.number(), b'\t');
+    let c = put_text(out, b, w.text);
+    put_number(out, c, w.line, b'\n')
 }
 
 // The line of two texts that were read or refused, at the start of `out`.
-pub fn put_texts(t: Texts, out: &mut [u8; 64]) -> usize
+pub fn put_texts(t: Result<Texts, TextRefusal>, out: &mut [u8; 64]) -> usize
     ensures { IsPrefixLen result out.new × (take result out.new ≡ line_of t) }
 {
     match t {
-        Texts::Read(k, n, m) => put_read(out, k, n, m),
-        Texts::Refused(n, x, l) => put_refusal(out, n, x, l),
+        Ok(t) => put_read(out, t),
+        Err(w) => put_refusal(out, w),
     }
 }

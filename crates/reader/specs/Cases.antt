@@ -4,61 +4,58 @@ use Rattle.std.proofs.Common.{arith, ap, ◌∙◌}
 use Rattle.std.specs.Prelude.{◌≡◌, List, [], ◌∷◌, length, get_or, Result, Ok, Err}
 use Rattle.std.proofs.Math.Path.{refl, sym}
 use borrow.Author.Tests.{lt-ltb, le-ltb, eq-eqb, ne_eqb}
-use Rattle.rules.specs.Refusals.{catalog, statement, refusal_number, Refusal, ok, refused, refuse, wrong_record, limit_passed, ◌>>=◌}
+use Rattle.rules.specs.Refusals.{catalog, statement, Refusal, ok, refused, refuse, limit_passed, ◌>>=◌}
 use Rattle.rules.specs.Limits.{most_bytes}
 use Rattle.rules.specs.Lists.{Bytes}
 use Rattle.rules.specs.Schema.{Catalog}
 use Rattle.rules.specs.Ast.{Statement}
 use Rattle.rules.specs.Ast as Ast
 use Rattle.rules.specs.Sizes.{statement_size}
-use Rattle.rules.specs.Entry.{text_number}
 use Rattle.rules.specs.ReadCatalog.{read_catalog}
 use Rattle.rules.specs.ReadStatement.{read_statement}
-use Rattle.text.specs.Answers.{wrong_at, limit_at}
 use Rattle.numbers.specs.Codes.{coded, coded-above}
 use Rattle.schema.specs.Layout.{tables_at, catalog_at}
 use Rattle.schema.specs.TableRuns.{catalog_of, catalog_answer}
-use Rattle.schema.specs.declared.read.Read as Rd
-use Rattle.schema.specs.declared.read.Read.TheVariants as A
 use Rattle.statement.specs.Layout.{statement_at}
 use Rattle.statement.specs.Whole.{statement_of, statement_answer, Counts, SelectStays}
 use Rattle.statement.specs.Access as access
 use Rattle.statement.specs.Stays.{SectionsStay}
 use Rattle.statement.specs.declared.access.Kind.TheVariants as K
 use Rattle.numbers.specs.declared.refusals.Refusal as code
-use Rattle.numbers.specs.Reasons.{reason_of, told}
+use Rattle.numbers.specs.declared.refusals.Reason.TheVariants.{LimitPassed, OtherStatement}
+use Rattle.numbers.specs.Reasons.{told, named, named-reason}
 use Rattle.reader.specs.Texts.{kind_of, not_other, both_of, read_texts}
-use Rattle.reader.specs.Reading.{texts_of, is_other, texts_by, TextsRead}
-use Rattle.reader.specs.declared.Texts.TheVariants as T
+use Rattle.reader.specs.Reading.{text_named, texts_of, is_other, texts_by, TextsRead}
+use Rattle.reader.specs.declared.Text.TheVariants as T
 
 -- REFUSED
 never : {A : Type 0} {ρ : Refusal} {x : A} → refused ρ ≡ ok x → ⊥
 never e = let z : ◌≡◌ {A = ℕ} 0 1 = cc in omega arith
 
 module _ {c q : Bytes} {tables cells froms parts : List ℕ} where
-  refused-read : (ρ : Refusal) → read_texts c q ≡ refused ρ → TextsRead c q tables cells froms parts (T.Refused (refusal_number ρ.reason) (text_number ρ.text) ρ.line)
+  refused-read : (ρ : Refusal) → read_texts c q ≡ refused ρ → TextsRead c q tables cells froms parts (Err (record { reason = named ρ.reason; text = text_named ρ.text; line = ρ.line }))
   unfolding texts_of
   refused-read ρ e = record { is = sym (ap texts_of e); stands = λ x z. absurd (never (sym e ∙ z)); stays = λ x z. absurd (never (sym e ∙ z)) }
 
-  pub catalog-long : most_bytes < length c → TextsRead c q tables cells froms parts (T.Refused 3 1 0)
-  unfolding read_texts refusal_number text_number
+  pub catalog-long : most_bytes < length c → TextsRead c q tables cells froms parts (Err (record { reason = LimitPassed; text = T.Catalog; line = 0 }))
+  unfolding read_texts named text_named
   catalog-long h = refused-read (record { reason = limit_passed; text = catalog; line = 0 }) (rw (read_texts, lt-ltb most_bytes (length c) h))
 
-  pub statement-long : length c ≤ most_bytes → most_bytes < length q → TextsRead c q tables cells froms parts (T.Refused 3 2 0)
-  unfolding read_texts refusal_number text_number
+  pub statement-long : length c ≤ most_bytes → most_bytes < length q → TextsRead c q tables cells froms parts (Err (record { reason = LimitPassed; text = T.Statement; line = 0 }))
+  unfolding read_texts named text_named
   statement-long h g = refused-read (record { reason = limit_passed; text = statement; line = 0 }) (rw (read_texts, le-ltb most_bytes (length c) h, lt-ltb most_bytes (length q) g))
 
 -- READ
 -- a kind of no statement, and of one
-pub texts-zero : {k : ℕ} (l n m : ℕ) → k ≡ 0 → T.Refused 4 2 l ≡ texts_by k l n m
+pub texts-zero : {k : ℕ} (l n m : ℕ) → k ≡ 0 → Err (record { reason = OtherStatement; text = T.Statement; line = l }) ≡ texts_by k l n m
 unfolding texts_by is_other
 texts-zero {k} l n m h = sym (rw (texts_by, is_other, eq-eqb k 0 h))
 
-pub texts-above : {k : ℕ} (l n m : ℕ) → 6 < k → T.Refused 4 2 l ≡ texts_by k l n m
+pub texts-above : {k : ℕ} (l n m : ℕ) → 6 < k → Err (record { reason = OtherStatement; text = T.Statement; line = l }) ≡ texts_by k l n m
 unfolding texts_by is_other
 texts-above {k} l n m h = sym (rw (texts_by, is_other, ne_eqb k 0 (λ z. omega arith), lt-ltb 6 k h))
 
-pub texts-one : {k : ℕ} (l n m : ℕ) → (k ≡ 0 → ⊥) → k ≤ 6 → T.Read k n m ≡ texts_by k l n m
+pub texts-one : {k : ℕ} (l n m : ℕ) → (k ≡ 0 → ⊥) → k ≤ 6 → Ok (record { kind = k; cells = n; tables = m }) ≡ texts_by k l n m
 unfolding texts_by is_other
 texts-one {k} l n m h g = sym (rw (texts_by, is_other, ne_eqb k 0 h, le-ltb 6 k g))
 
@@ -68,7 +65,7 @@ module _ (l : ℕ) (s : Ast.Select) (d : Ast.Create) (e : Ast.Drop) (f : Ast.Del
   of_kind k = coded (Ast.other l) (Ast.select s ∷ Ast.create d ∷ Ast.drop e ∷ Ast.delete f ∷ Ast.insert g ∷ Ast.update h ∷ []) 1 k
 
   texts-of-kind : (ts : Catalog) (k n m : ℕ) → n ≡ statement_size (of_kind k) → m ≡ length ts → texts_of (not_other (of_kind k) >>= λ s'. ok (ts, s')) ≡ texts_by k l n m
-  unfolding coded texts_of texts_by is_other not_other kind_of ◌>>=◌ refuse refusal_number text_number
+  unfolding coded texts_of texts_by is_other not_other kind_of ◌>>=◌ refuse named text_named
   texts-of-kind ts zero n m i j = refl
   texts-of-kind ts (suc zero) n m i j = rw (i, j)
   texts-of-kind ts (suc (suc zero)) n m i j = rw (i, j)
@@ -96,7 +93,7 @@ tables-length c q s i zero = refl
 tables-length c q s i (suc n) = ap suc (tables-length c q s (suc i) n)
 
 -- the catalog was read, and neither text is too long
-pub record CatalogRead (c q : Bytes) (tables : List ℕ) (k : Rd.Read) : Type 0 where
+pub record CatalogRead (c q : Bytes) (tables : List ℕ) (k : Result (Unit {0}) code.Refusal) : Type 0 where
   pub short : length c ≤ most_bytes
   pub short_statement : length q ≤ most_bytes
   pub is : catalog_of c q tables k ≡ catalog_answer c
@@ -107,7 +104,7 @@ pub record StatementRead (c q : Bytes) (cells froms parts : List ℕ) (o : Resul
   pub size : Counts (statement_size (statement_at c q cells froms parts)) o
   pub stays : SelectStays q cells parts o
 
-module _ {c q : Bytes} {tables : List ℕ} {k : Rd.Read} (g : CatalogRead c q tables k) where
+module _ {c q : Bytes} {tables : List ℕ} {k : Result (Unit {0}) code.Refusal} (g : CatalogRead c q tables k) where
   both : read_texts c q ≡ both_of c q
   unfolding read_texts
   both = rw (read_texts, le-ltb most_bytes (length c) g.short, le-ltb most_bytes (length q) g.short_statement)
@@ -117,15 +114,11 @@ module _ {c q : Bytes} {tables : List ℕ} {k : Rd.Read} (g : CatalogRead c q ta
   catalog-read = sym (g.is ∙ rw (catalog_answer, le-ltb most_bytes (length c) g.short))
 
   module _ {cells froms parts : List ℕ} where
-    pub catalog-wrong : {l : ℕ} → k ≡ A.Wrong l → TextsRead c q tables cells froms parts (T.Refused 2 1 l)
-    unfolding both_of ◌>>=◌ catalog_of wrong_at refusal_number text_number
-    catalog-wrong {l} z = refused-read (record { reason = wrong_record; text = catalog; line = l }) (both ∙ rw (both_of, catalog-read, z))
+    pub catalog-refused : {w : code.Refusal} → k ≡ Err w → TextsRead c q tables cells froms parts (Err (record { reason = w.reason; text = T.Catalog; line = w.line }))
+    unfolding both_of ◌>>=◌ catalog_of text_named
+    catalog-refused {w} z = let e = named-reason w.reason in rw e at (refused-read {tables = tables} {cells = cells} {froms = froms} {parts = parts} (told catalog w) (both ∙ rw (both_of, catalog-read, z)))
 
-    pub catalog-limit : {l : ℕ} → k ≡ A.Limit l → TextsRead c q tables cells froms parts (T.Refused 3 1 l)
-    unfolding both_of ◌>>=◌ catalog_of limit_at refusal_number text_number
-    catalog-limit {l} z = refused-read (record { reason = limit_passed; text = catalog; line = l }) (both ∙ rw (both_of, catalog-read, z))
-
-  module _ (z : k ≡ A.Done) {cells froms parts : List ℕ} {o : Result ℕ code.Refusal} (h : StatementRead c q cells froms parts o) where
+  module _ (z : k ≡ Ok tt) {cells froms parts : List ℕ} {o : Result ℕ code.Refusal} (h : StatementRead c q cells froms parts o) where
     statement-read : read_statement q ≡ statement_of c q cells froms parts o
     unfolding statement_answer
     statement-read = sym (h.is ∙ rw (statement_answer, le-ltb most_bytes (length q) g.short_statement))
@@ -134,9 +127,9 @@ module _ {c q : Bytes} {tables : List ℕ} {k : Rd.Read} (g : CatalogRead c q ta
     unfolding both_of ◌>>=◌ catalog_of
     after = both ∙ rw (both_of, catalog-read, z, statement-read)
 
-    pub statement-refused : {w : code.Refusal} → o ≡ Err w → TextsRead c q tables cells froms parts (T.Refused (refusal_number (reason_of w.reason)) 2 w.line)
-    unfolding ◌>>=◌ statement_of text_number
-    statement-refused {w} y = refused-read (told statement w) (after ∙ rw y)
+    pub statement-refused : {w : code.Refusal} → o ≡ Err w → TextsRead c q tables cells froms parts (Err (record { reason = w.reason; text = T.Statement; line = w.line }))
+    unfolding ◌>>=◌ statement_of text_named
+    statement-refused {w} y = let e = named-reason w.reason in rw e at (refused-read {tables = tables} {cells = cells} {froms = froms} {parts = parts} (told statement w) (after ∙ rw y))
 
     taken : {n : ℕ} → o ≡ Ok n → read_texts c q ≡ (not_other (statement_at c q cells froms parts) >>= λ s'. ok (catalog_at c q tables, s'))
     unfolding ◌>>=◌ statement_of

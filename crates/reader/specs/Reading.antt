@@ -1,36 +1,55 @@
 -- What reading both texts answers, and what the slices then stand for.
-use Rattle.std.specs.Prelude.{ℕ, ◌≡◌, Bool, true, false, ◌||◌, List, eqb, ltb, length}
-use Rattle.rules.specs.Refusals.{refusal_number, Answer, ok, refused}
+use Rattle.std.specs.Prelude.{ℕ, ◌≡◌, refl, Bool, true, false, ◌||◌, List, eqb, ltb, length, Result, Ok, Err}
+use Rattle.rules.specs.Refusals as rules
+use Rattle.rules.specs.Refusals.{Answer, ok, refused}
 use Rattle.rules.specs.Lists.{Bytes}
 use Rattle.rules.specs.Schema.{Catalog}
 use Rattle.rules.specs.Ast.{Statement}
 use Rattle.rules.specs.Sizes.{statement_size}
-use Rattle.rules.specs.Entry.{text_number}
 use Rattle.schema.specs.Layout.{catalog_at}
 use Rattle.statement.specs.Layout.{statement_at}
 use Rattle.statement.specs.Access as access
 use Rattle.statement.specs.Stays.{SectionsStay}
 use Rattle.statement.specs.declared.access.Kind.TheVariants as K
 use Rattle.reader.specs.Texts.{kind_of, read_texts}
-use Rattle.reader.specs.declared.Texts as Tx
-use Rattle.reader.specs.declared.Texts.TheVariants as T
+use Rattle.numbers.specs.declared.refusals.Reason.TheVariants.{OtherStatement}
+use Rattle.numbers.specs.Reasons.{named}
+use Rattle.reader.specs.declared.Text as Tx
+use Rattle.reader.specs.declared.Text.TheVariants as T
+use Rattle.reader.specs.declared.Texts.{Texts}
+use Rattle.reader.specs.declared.TextRefusal.{TextRefusal}
 
--- the numbers of an answer: document 01's number of the refusal, its text and line
-unfoldable pub texts_of : Answer (Catalog × Statement) → Tx.Texts
-texts_of (ok x) = T.Read (kind_of x.1) (statement_size x.1) (length x.0)
-texts_of (refused r) = T.Refused (refusal_number r.reason) (text_number r.text) r.line
+-- the code's texts are the rules'
+unfoldable pub text_of : Tx.Text → rules.Text
+text_of T.Catalog = rules.catalog
+text_of T.Statement = rules.statement
+
+-- and back
+unfoldable pub text_named : rules.Text → Tx.Text
+text_named rules.catalog = T.Catalog
+text_named rules.statement = T.Statement
+
+pub text-named : (t : rules.Text) → text_of (text_named t) ≡ t
+unfolding text_of text_named
+text-named rules.catalog = refl
+text-named rules.statement = refl
+
+-- an answer as the code has it: three numbers of what was read, or the refusal
+unfoldable pub texts_of : Answer (Catalog × Statement) → Result Texts TextRefusal
+texts_of (ok x) = Ok (record { kind = kind_of x.1; cells = statement_size x.1; tables = length x.0 })
+texts_of (refused r) = Err (record { reason = named r.reason; text = text_named r.text; line = r.line })
 
 -- no kind of a statement that can be planned
 unfoldable pub is_other : ℕ → Bool
 is_other k = eqb k 0 || ltb 6 k
 
 -- a statement of kind k at line l, with n cells, and m tables
-unfoldable pub texts_by : ℕ → ℕ → ℕ → ℕ → Tx.Texts
-texts_by k l n m = elim (is_other k) [ true ↦ T.Refused 4 2 l | false ↦ T.Read k n m ]
+unfoldable pub texts_by : ℕ → ℕ → ℕ → ℕ → Result Texts TextRefusal
+texts_by k l n m = elim (is_other k) [ true ↦ Err (record { reason = OtherStatement; text = T.Statement; line = l }) | false ↦ Ok (record { kind = k; cells = n; tables = m }) ]
 
 -- what is answered for the catalog c and the statement q, and that the slices stand for both where they are accepted; what is
 -- stored behind the rows of a SELECT then changes none of its sections
-pub record TextsRead (c q : Bytes) (tables cells froms parts : List ℕ) (r : Tx.Texts) : Type 0 where
+pub record TextsRead (c q : Bytes) (tables cells froms parts : List ℕ) (r : Result Texts TextRefusal) : Type 0 where
   pub is : r ≡ texts_of (read_texts c q)
   pub stands : (x : Catalog × Statement) → read_texts c q ≡ ok x → (catalog_at c q tables, statement_at c q cells froms parts) ≡ x
   pub stays : (x : Catalog × Statement) → read_texts c q ≡ ok x → K.Select ≡ access.kind_of (access.kind_number parts) → SectionsStay q cells parts

@@ -2,39 +2,75 @@
 #![tactic(auto)]
 
 ghost use Rattle.std.specs.Prelude.{◌≡◌, ◌≤◌, length};
+ghost use Rattle.rules.specs.Entry.{text_number};
 ghost use Rattle.schema.specs.Room.{numbers_for};
-ghost use Rattle.reader.specs.Reading.{texts_by, TextsRead};
+ghost use Rattle.reader.specs.Reading.{text_of, texts_by, TextsRead};
 
-use numbers::refusals::{LIMIT_PASSED, OTHER_STATEMENT, WRONG_RECORD};
-use schema::read::Read;
+use numbers::refusals::{Reason, Refusal};
+use schema::read::read_catalog;
 use statement::{CELL_NUMBERS, FROM_NUMBERS, PART_NUMBERS, read_statement};
 
-// The texts' numbers.
-pub const CATALOG: u32 = 1;
+// The two texts, by document 01's numbers.
+#[derive(Clone, Copy, Debug, PartialEq, Eq)]
+pub enum Text {
+    Catalog = 1,
+    Statement = 2,
+}
 
-pub const STATEMENT: u32 = 2;
+impl Text {
+    // Document 01's number.
+    pub fn number(self) -> u32
+        ensures { result ≡ text_number (text_of self) }
+    {
+        self as u32
+    }
+
+    // A refusal of this text.
+    fn refuses(self, refusal: Refusal) -> TextRefusal
+        ensures { result ≡ record { reason = refusal.reason; text = self; line = refusal.line } }
+    {
+        TextRefusal {
+            reason: refusal.reason,
+            text: self,
+            line: refusal.line,
+        }
+    }
+}
+
+// Two texts that were read: the statement's kind, how many expression cells it has and how many tables the catalog has.
+#[derive(Clone, Copy)]
+pub struct Texts {
+    pub kind: u32,
+    pub cells: u32,
+    pub tables: u32,
+}
+
+// Why a text is refused, which of the two, and the line of the record where it arose.
+#[derive(Clone, Copy)]
+pub struct TextRefusal {
+    pub reason: Reason,
+    pub text: Text,
+    pub line: u32,
+}
 
 // The last of the kinds of statements that can be planned (parts[0]).
 const LAST_KIND: u32 = 6;
 
-// Two texts: the statement's kind, how many expression cells it has and how many tables the catalog has; or a refusal's number, text and line.
-#[derive(Clone, Copy)]
-pub enum Texts {
-    Read(u32, u32, u32),
-    Refused(u32, u32, u32),
-}
-
-// A statement that was read, by its kind and line: 4 where it is none of the six.
-fn taken(kind: u32, line: u32, cells: u32, tables: u32) -> Texts
+// A statement that was read, by its kind and line: refused where it is none of the six.
+fn taken(kind: u32, line: u32, cells: u32, tables: u32) -> Result<Texts, TextRefusal>
     ensures { result ≡ texts_by kind line cells tables }
 {
     if kind == 0 {
-        return Texts::Refused(OTHER_STATEMENT, STATEMENT, line);
+        return Err(Text::Statement.refuses(Reason::OtherStatement.at(line)));
     }
     if LAST_KIND < kind {
-        return Texts::Refused(OTHER_STATEMENT, STATEMENT, line);
+        return Err(Text::Statement.refuses(Reason::OtherStatement.at(line)));
     }
-    Texts::Read(kind, cells, tables)
+    Ok(Texts {
+        kind,
+        cells,
+        tables,
+    })
 }
 
 // Both texts, whatever they are; `tables` has enough numbers for the catalog (schema::read::numbers_for). Where the texts
@@ -46,26 +82,21 @@ pub fn read_texts(
     cells: &mut [u32; CELL_NUMBERS],
     froms: &mut [u32; FROM_NUMBERS],
     parts: &mut [u32; PART_NUMBERS],
-) -> Texts
+) -> Result<Texts, TextRefusal>
     requires { numbers_for (length catalog.now) ≤ length tables.old }
     ensures { TextsRead catalog.now statement.now tables.new cells.new froms.new parts.new result }
 {
     if (text::MOST_BYTES as usize) < catalog.len() {
-        return Texts::Refused(LIMIT_PASSED, CATALOG, 0);
+        return Err(Text::Catalog.refuses(Reason::LimitPassed.at(0)));
     }
     if (text::MOST_BYTES as usize) < statement.len() {
-        return Texts::Refused(LIMIT_PASSED, STATEMENT, 0);
+        return Err(Text::Statement.refuses(Reason::LimitPassed.at(0)));
     }
-    let c = schema::read::read_catalog(catalog, tables);
-    match c {
-        Read::Wrong(l) => Texts::Refused(WRONG_RECORD, CATALOG, l),
-        Read::Limit(l) => Texts::Refused(LIMIT_PASSED, CATALOG, l),
-        Read::Done => {
-            let s = read_statement(statement, cells, froms, parts);
-            match s {
-                Err(w) => Texts::Refused(w.reason.number(), STATEMENT, w.line),
-                Ok(n) => taken(parts[0], parts[1], n, tables[0]),
-            }
-        }
+    if let Err(w) = read_catalog(catalog, tables) {
+        return Err(Text::Catalog.refuses(w));
+    }
+    match read_statement(statement, cells, froms, parts) {
+        Ok(n) => taken(parts[0], parts[1], n, tables[0]),
+        Err(w) => Err(Text::Statement.refuses(w)),
     }
 }

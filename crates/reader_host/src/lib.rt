@@ -10,7 +10,7 @@ ghost use Rattle.statement.specs.Layout.{statement_at};
 ghost use Rattle.reader.specs.Texts.{read_texts};
 ghost use Rattle.reader_host.specs.Numbers.{answered as answeredBy, answer_of};
 
-use reader::Texts;
+use reader::{TextRefusal, Texts};
 use schema::NUMBERS;
 use statement::{CELL_NUMBERS, FROM_NUMBERS, PART_NUMBERS};
 
@@ -27,26 +27,30 @@ pub struct Answer {
     pub tables: u32,
 }
 
-fn answered(t: Texts) -> Answer
+fn answered(t: Result<Texts, TextRefusal>) -> Answer
     ensures { result ≡ answeredBy t }
 {
     match t {
-        Texts::Read(k, n, m) => Answer {
+        Ok(t) => Answer {
             number: 0,
             text: 0,
             line: 0,
-            kind: k,
-            cells: n,
-            tables: m,
+            kind: t.kind,
+            cells: t.cells,
+            tables: t.tables,
         },
-        Texts::Refused(n, x, l) => Answer {
-            number: n,
-            text: x,
-            line: l,
-            kind: 0,
-            cells: 0,
-            tables: 0,
-        },
+        Err(w) => {
+            let number = w.reason.number();
+            let text = w.text.number();
+            Answer {
+                number,
+                text,
+                line: w.line,
+                kind: 0,
+                cells: 0,
+                tables: 0,
+            }
+        }
     }
 }
 

@@ -14,7 +14,7 @@ use Rattle.claims.specs.Words.Within.{NameWithin, CatalogName, StatementName, na
 use Rattle.claims.specs.Within.{TableWithin, TextsWithin, table-at, column-within}
 use Rattle.schema.specs.Layout.{table_at, catalog_at}
 use Rattle.schema.specs.Search.{found_table, table_from, table-position}
-use Rattle.schema.specs.declared.Found.TheVariants.{At}
+use Rattle.std.specs.Prelude as std
 use Rattle.scope.specs.Labels.{Fits}
 use Rattle.scope.specs.Scopes.{scope_of}
 use Rattle.scope.specs.FromTable.{TableFits, FromTable}
@@ -37,7 +37,7 @@ module _ {c q : Bytes} {ts : Catalog} {s : Statement} (h : TextsWithin c q ts s)
 
   -- a table that is found in the numbers of the catalog
   module _ (tables : List ℕ) (e : catalog_at c q tables ≡ ts) (i : ℕ) (n : Bytes)
-      (f : found_table c q tables (At i) ≡ table_from 0 (catalog_at c q tables) n) where
+      (f : found_table c q tables (std.Some i) ≡ table_from 0 (catalog_at c q tables) n) where
     found-entry : entry_after i ts ≡ some (table_at c q tables i)
     unfolding found_table
     found-entry =

@@ -1,28 +1,19 @@
 -- `read_texts`: the texts' lengths, the catalog, the statement, each with its refusals; what was read goes through `taken`.
 use Rattle.std.proofs.Common.{arith}
-use Rattle.reader.specs.Cases.{catalog-long, statement-long, catalog-wrong, catalog-limit, statement-refused, texts-read}
+use Rattle.reader.specs.Cases.{catalog-long, statement-long, catalog-refused, statement-refused, texts-read}
 use Rattle.reader.proofs.read_texts.Goals as goal
 
 pub returns-then-catalog : goal.returns-then-catalog
-returns-then-catalog c = catalog-long c.if-catalog.true
+returns-then-catalog c = rw (c.refuses.ensures, c.at.ensures) (catalog-long c.if-catalog.true)
 
 pub returns-then-statement : goal.returns-then-statement
-returns-then-statement c = statement-long c.if-catalog.false c.if-statement.true
-
-pub returns-in-Wrong : goal.returns-in-Wrong
-returns-in-Wrong c = let k = c in
-    catalog-wrong (record { short = c.if-catalog.false; short_statement = omega arith; is = k.read_catalog-c.ensures _ }) c.in-Wrong.is
-
-pub returns-in-Limit : goal.returns-in-Limit
-returns-in-Limit c = let k = c in
-    catalog-limit (record { short = c.if-catalog.false; short_statement = omega arith; is = k.read_catalog-c.ensures _ }) c.in-Limit.is
+returns-then-statement c = rw (c.refuses-then-statement.ensures, c.at-then-statement.ensures) (statement-long c.if-catalog.false c.if-statement.true)
 
 pub returns-in-Err : goal.returns-in-Err
-returns-in-Err c = let s = c in
-    let k = c in
-    rw c.number.ensures (statement-refused (record { short = c.if-catalog.false; short_statement = omega arith; is = k.read_catalog-c.ensures _ }) c.in-Done.is (record { is = s.read_statement-s.ensures.0 _; size = s.read_statement-s.ensures.1 _; stays = s.read_statement-s.ensures.2 }) c.in-Err.is)
+returns-in-Err c = rw c.refuses-in-Err.ensures (catalog-refused (record { short = c.if-catalog.false; short_statement = omega arith; is = c.read_catalog.ensures _ }) c.in-Err.is)
 
 pub returns-in-Ok : goal.returns-in-Ok
-returns-in-Ok c = let s = c in
-    let k = c in
-    rw c.taken.ensures (texts-read (record { short = c.if-catalog.false; short_statement = omega arith; is = k.read_catalog-c.ensures _ }) c.in-Done.is (record { is = s.read_statement-s.ensures.0 _; size = s.read_statement-s.ensures.1 _; stays = s.read_statement-s.ensures.2 }) c.in-Ok.is)
+returns-in-Ok c = rw c.taken.ensures (texts-read (record { short = c.if-catalog.false; short_statement = omega arith; is = c.read_catalog.ensures _ }) c.in_default.is (record { is = c.read_statement.ensures.0 _; size = c.read_statement.ensures.1 _; stays = c.read_statement.ensures.2 }) c.in-Ok.is)
+
+pub returns-in-Err-read_statement : goal.returns-in-Err-read_statement
+returns-in-Err-read_statement c = rw c.refuses-in-Err-read_statement.ensures (statement-refused (record { short = c.if-catalog.false; short_statement = omega arith; is = c.read_catalog.ensures _ }) c.in_default.is (record { is = c.read_statement.ensures.0 _; size = c.read_statement.ensures.1 _; stays = c.read_statement.ensures.2 }) c.in-Err-read_statement.is)

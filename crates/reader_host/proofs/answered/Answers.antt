@@ -3,10 +3,10 @@ use mathlib.Core.Path.{sym, ap}
 use Rattle.reader_host.specs.Numbers.{answered}
 use Rattle.reader_host.proofs.answered.Goals as goal
 
-pub returns-in-Read : goal.returns-in-Read
+pub returns-in-Ok : goal.returns-in-Ok
 unfolding answered
-returns-in-Read c = sym (ap answered c.in-Read.is)
+returns-in-Ok c = rw c.in-Ok.is
 
-pub returns-in-Refused : goal.returns-in-Refused
+pub returns-in-Err : goal.returns-in-Err
 unfolding answered
-returns-in-Refused c = sym (ap answered c.in-Refused.is)
+returns-in-Err c = rw (c.in-Err.is, c.number-number.ensures, c.number-text.ensures)

@@ -15,4 +15,4 @@ overflow_add-result c = record { fits = omega (arith, (table-room c.requires).1)
 
 pub returns : goal.returns
 returns c = table-accepted _ _ _ _ _ _ c.requires c.name_address-a.ensures c.name_length-len.ensures _ c.get_table-found.ensures
-    c.in-At.is c.named_scope-s.ensures c.scan_row-e.ensures c.line-l.ensures
+    c.in-Some.is c.named_scope-s.ensures c.scan_row-e.ensures c.line-l.ensures

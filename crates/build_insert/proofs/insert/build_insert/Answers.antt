@@ -13,13 +13,13 @@ column_map-requires c = insert-names c.args.catalog.now c.args.statement.now c.a
 pub build_mapped-requires : goal.build_mapped-requires
 build_mapped-requires c = record {
   free = c.requires.free;
-  insert_fits = insert-fits c.args.catalog.now c.args.statement.now c.args.tables.now c.args.cells.now c.args.parts.now c.requires _ _ c.name_address-a.ensures c.name_length-n.ensures _ c.get_table-found.ensures _ c.in-At.is
+  insert_fits = insert-fits c.args.catalog.now c.args.statement.now c.args.tables.now c.args.cells.now c.args.parts.now c.requires _ _ c.name_address-a.ensures c.name_length-n.ensures _ c.get_table-found.ensures _ c.in-Some.is
       c.column_map.ensures _ c.in_ok-map.was;
 }
 
 pub returns-in_err-map : goal.returns-in_err-map
-returns-in_err-map c = rw (exit c.from_residual.result c.from_residual.ensures.1) (insert-map-refused c.args.catalog.now c.args.statement.now c.args.tables.now c.args.cells.now c.args.parts.now c.requires _ _ c.name_address-a.ensures c.name_length-n.ensures _ c.get_table-found.ensures _ c.in-At.is c.column_map.ensures _ c.in_err-map.was)
+returns-in_err-map c = rw (exit c.from_residual.result c.from_residual.ensures.1) (insert-map-refused c.args.catalog.now c.args.statement.now c.args.tables.now c.args.cells.now c.args.parts.now c.requires _ _ c.name_address-a.ensures c.name_length-n.ensures _ c.get_table-found.ensures _ c.in-Some.is c.column_map.ensures _ c.in_err-map.was)
 
 pub returns : goal.returns
-returns c = insert-planned c.args.catalog.now c.args.statement.now c.args.tables.now c.args.cells.now c.args.parts.now c.requires _ _ c.name_address-a.ensures c.name_length-n.ensures _ c.get_table-found.ensures _ c.in-At.is
+returns c = insert-planned c.args.catalog.now c.args.statement.now c.args.tables.now c.args.cells.now c.args.parts.now c.requires _ _ c.name_address-a.ensures c.name_length-n.ensures _ c.get_table-found.ensures _ c.in-Some.is
     c.column_map.ensures _ c.in_ok-map.was c.build_mapped.ensures

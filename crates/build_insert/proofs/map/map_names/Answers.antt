@@ -16,7 +16,7 @@ returns-in_default c = name-unknown c.args.catalog.now c.args.statement.now c.ar
 pub returns-then-is_mapped : goal.returns-then-is_mapped
 returns-then-is_mapped c = name-repeated c.args.catalog.now c.args.statement.now c.args.cells.now c.args.parts.now (columns_of c.args.catalog.now c.args.statement.now c.args.tables.now c.args.i) c.loop-v.invariant _ c.entry_at-e.ensures (omega
     (arith, c.loop-v-test.true, c.count-count.ensures c.args.catalog.now c.args.statement.now c.args.cells.now)) _
-    c.name_start-a.ensures _ c.column_at-found.ensures _ c.in-At.is _ c.is_mapped.ensures c.if-is_mapped.true
+    c.name_start-a.ensures _ c.column_at-found.ensures _ c.in-Some.is _ c.is_mapped.ensures c.if-is_mapped.true
 
 pub map_value-requires : goal.map_value-requires
 map_value-requires c = omega (
@@ -31,7 +31,7 @@ map_value-requires c = omega (
 pub loop-v-preserved : goal.loop-v-preserved
 loop-v-preserved c = name-mapped c.args.catalog.now c.args.statement.now c.args.cells.now c.args.parts.now (columns_of c.args.catalog.now c.args.statement.now c.args.tables.now c.args.i) c.loop-v.invariant _ c.entry_at-e.ensures (omega
     (arith, c.loop-v-test.true, c.count-count.ensures c.args.catalog.now c.args.statement.now c.args.cells.now)) _
-    c.name_start-a.ensures _ c.column_at-found.ensures _ c.in-At.is _ c.is_mapped.ensures c.if-is_mapped.false (omega (
+    c.name_start-a.ensures _ c.column_at-found.ensures _ c.in-Some.is _ c.is_mapped.ensures c.if-is_mapped.false (omega (
       arith,
       c.loop-v.invariant.same,
       c.requires,

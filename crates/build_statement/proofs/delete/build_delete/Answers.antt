@@ -22,7 +22,7 @@ pub returns-in_err-m : goal.returns-in_err-m
 returns-in_err-m c = rw (exit c.from_residual.result c.from_residual.ensures.1) (delete-refused c.args.catalog.now c.args.statement.now c.args.tables.now c.args.cells.now c.args.parts.now
     c.requires _ _ c.name_address-a.ensures c.name_length-n.ensures _
     c.get_table-found.ensures c.clause_at-clause.ensures
-    (omega (arith, c.well_formed.1.1.1.0.1)) _ c.in-At.is
+    (omega (arith, c.well_formed.1.1.1.0.1)) _ c.in-Some.is
     c.from_table-scope.ensures c.build_where.ensures _ c.in_err-m.was)
 
 pub end_delete-requires : goal.end_delete-requires
@@ -31,7 +31,7 @@ end_delete-requires c = record {
   m_le_most_plan_cells = delete-most c.args.catalog.now c.args.statement.now c.args.tables.now c.args.cells.now c.args.parts.now
       c.requires _ _ c.name_address-a.ensures c.name_length-n.ensures _
       c.get_table-found.ensures c.clause_at-clause.ensures
-      (omega (arith, c.well_formed.1.1.1.0.1)) _ c.in-At.is
+      (omega (arith, c.well_formed.1.1.1.0.1)) _ c.in-Some.is
       c.from_table-scope.ensures c.build_where.ensures _ c.in_ok-m.was;
 }
 
@@ -39,6 +39,6 @@ pub returns : goal.returns
 returns c = delete-planned c.args.catalog.now c.args.statement.now c.args.tables.now c.args.cells.now c.args.parts.now
     c.requires _ _ c.name_address-a.ensures c.name_length-n.ensures _
     c.get_table-found.ensures c.clause_at-clause.ensures
-    (omega (arith, c.well_formed.1.1.1.0.1)) _ c.in-At.is
+    (omega (arith, c.well_formed.1.1.1.0.1)) _ c.in-Some.is
     c.from_table-scope.ensures c.build_where.ensures _ c.in_ok-m.was
     c.end_delete.auto.area c.end_delete.ensures

@@ -18,7 +18,7 @@ build_where-requires c = update-where-room c.args.catalog.now c.args.statement.n
 pub returns-in_err-m : goal.returns-in_err-m
 returns-in_err-m c = rw (exit c.from_residual.result c.from_residual.ensures.1) (update-refused c.args.catalog.now c.args.statement.now c.args.tables.now c.args.cells.now c.args.parts.now
     (c.requires) _ _ c.name_address-a.ensures c.name_length-n.ensures _ c.get_table-found.ensures
-    c.clause_at-clause.ensures (omega (arith, c.well_formed.1.1.1.0.1)) _ c.in-At.is
+    c.clause_at-clause.ensures (omega (arith, c.well_formed.1.1.1.0.1)) _ c.in-Some.is
     c.from_table-scope.ensures c.build_where.ensures _ c.in_err-m.was)
 
 pub end_update-requires : goal.end_update-requires
@@ -26,12 +26,12 @@ end_update-requires c = record {
   free = free-kept c.requires.free c.build_where.auto.area refl;
   few_sets = update-few-sets c.args.catalog.now c.args.statement.now c.args.tables.now c.args.cells.now c.args.parts.now
       (c.requires) _ _ c.name_address-a.ensures c.name_length-n.ensures _ c.get_table-found.ensures
-      c.clause_at-clause.ensures (omega (arith, c.well_formed.1.1.1.0.1)) _ c.in-At.is
+      c.clause_at-clause.ensures (omega (arith, c.well_formed.1.1.1.0.1)) _ c.in-Some.is
       c.from_table-scope.ensures c.build_where.ensures _ c.in_ok-m.was;
 }
 
 pub returns : goal.returns
 returns c = update-planned c.args.catalog.now c.args.statement.now c.args.tables.now c.args.cells.now c.args.parts.now
     (c.requires) _ _ c.name_address-a.ensures c.name_length-n.ensures _ c.get_table-found.ensures
-    c.clause_at-clause.ensures (omega (arith, c.well_formed.1.1.1.0.1)) _ c.in-At.is
+    c.clause_at-clause.ensures (omega (arith, c.well_formed.1.1.1.0.1)) _ c.in-Some.is
     c.from_table-scope.ensures c.build_where.ensures _ c.in_ok-m.was c.end_update.ensures
