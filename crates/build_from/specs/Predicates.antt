@@ -17,8 +17,7 @@ use Rattle.appends.specs.Expressions.Option.{emit_option, option-none, option-st
 use Rattle.numbers.specs.declared.refusals.Refusal.{Refusal}
 use Rattle.ast.specs.Table.{tree_at}
 use Rattle.from.specs.Access.{predicate_number, predicate_row, predicate_of}
-use Rattle.from.specs.declared.row.Predicate.{Predicate}
-use Rattle.from.specs.declared.row.Predicate.TheVariants as F
+use Rattle.std.specs.Prelude as std
 use Rattle.plan.specs.Layout.{cells_end}
 use Rattle.plan.specs.Cells.{Room}
 use Rattle.plan.specs.Emits.{Emits, accepted}
@@ -43,9 +42,9 @@ pub record PredicateBuilt (s : rules.Scope) (o : Option Expr) (n : ℕ) (area ar
   pub kept : length area' ≡ length area
   pub is : MatchResult r (λ x. PredicateStands s o n area area' x.cell x.root) (RefusedWith (emit_option s n o))
 
-module _ (c q : Bytes) (cells froms : List ℕ) (r : ℕ) {f : Predicate} (e : f ≡ predicate_row (predicate_number froms r)) where
+module _ (c q : Bytes) (cells froms : List ℕ) (r : ℕ) {f : std.Option ℕ} (e : f ≡ predicate_row (predicate_number froms r)) where
   -- none
-  pub predicate-missing : (s : rules.Scope) (n : ℕ) (area : List ℕ) → f ≡ F.Missing
+  pub predicate-missing : (s : rules.Scope) (n : ℕ) (area : List ℕ) → f ≡ std.None
       → PredicateBuilt s (predicate_in c q cells froms r) n area area (Ok (record { cell = n; root = 0 }))
   unfolding predicate_of option_number cells_numbers concat
   predicate-missing s n area d = record {
@@ -60,7 +59,7 @@ module _ (c q : Bytes) (cells froms : List ℕ) (r : ℕ) {f : Predicate} (e : f
   }
 
   -- the tree at row p
-  module _ {p : ℕ} (d : f ≡ F.Row p) where
+  module _ {p : ℕ} (d : f ≡ std.Some p) where
     is_some : predicate_in c q cells froms r ≡ some (tree_at c q cells p)
     unfolding predicate_of
     is_some = rw (← e, d)

@@ -7,7 +7,6 @@ ghost use Rattle.build_from.specs.Predicates.{predicate_in, PredicateBuilt};
 
 use build_expression::build_expression;
 use from::row;
-use from::row::Predicate;
 use numbers::refusals::Refusal;
 
 // The next cell, and the root as the join's record holds it: one more than the predicate's, 0 where there is none.
@@ -39,8 +38,8 @@ pub fn build_predicate<'t, 'a>(
         n area.old area.new result }
 {
     match row::predicate_of(froms, r) {
-        Predicate::Missing => Ok(Root { cell: n, root: 0 }),
-        Predicate::Row(p) => {
+        None => Ok(Root { cell: n, root: 0 }),
+        Some(p) => {
             let built = build_expression(
                 catalog, statement, cells, p as usize, labels, matches, width, tables, count, area,
                 n,

@@ -14,8 +14,7 @@ use Rattle.numbers.specs.Codes.{coded-at, coded-below, coded-above}
 use Rattle.from.specs.Layout.{left_at, predicate_at, from_at}
 use Rattle.from.specs.declared.row.Kind.{Kind}
 use Rattle.from.specs.declared.row.Kind.TheVariants as K
-use Rattle.from.specs.declared.row.Predicate.{Predicate}
-use Rattle.from.specs.declared.row.Predicate.TheVariants as P
+use Rattle.std.specs.Prelude as std
 
 -- NUMBERS
 module _ (froms : List ℕ) (r : ℕ) where
@@ -39,25 +38,25 @@ module _ (froms : List ℕ) (r : ℕ) where
   alias_length = at froms r 6
 
 -- PREDICATES
-unfoldable pub predicate_row : ℕ → Predicate
-predicate_row zero = P.Missing
-predicate_row (suc r) = P.Row r
+unfoldable pub predicate_row : ℕ → std.Option ℕ
+predicate_row zero = std.None
+predicate_row (suc r) = std.Some r
 
-unfoldable pub predicate_of : Bytes → Bytes → List ℕ → Predicate → Option Expr
-predicate_of b q cells P.Missing = none
-predicate_of b q cells (P.Row r) = some (tree_at b q cells r)
+unfoldable pub predicate_of : Bytes → Bytes → List ℕ → std.Option ℕ → Option Expr
+predicate_of b q cells std.None = none
+predicate_of b q cells (std.Some r) = some (tree_at b q cells r)
 
 pub predicate-at : (b q : Bytes) (cells : List ℕ) (x : ℕ) → predicate_at b q cells x ≡ predicate_of b q cells (predicate_row x)
 unfolding predicate_at predicate_of predicate_row
 predicate-at b q cells zero = refl
 predicate-at b q cells (suc r) = refl
 
-pub predicate-none : (x : ℕ) → x ≡ 0 → P.Missing ≡ predicate_row x
+pub predicate-none : (x : ℕ) → x ≡ 0 → std.None ≡ predicate_row x
 unfolding predicate_row
 predicate-none zero h = refl
 predicate-none (suc x) h = absurd (omega arith)
 
-pub predicate-some : (x : ℕ) → (x ≡ 0 → ⊥) → P.Row (x - 1) ≡ predicate_row x
+pub predicate-some : (x : ℕ) → (x ≡ 0 → ⊥) → std.Some (x - 1) ≡ predicate_row x
 unfolding predicate_row
 predicate-some zero h = absurd (h refl)
 predicate-some (suc x) h = rw (sub-one (suc x))

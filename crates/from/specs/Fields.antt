@@ -1,5 +1,6 @@
 -- What a FROM record says, by its keyword and its fields.
-use Rattle.std.specs.Prelude.{ℕ, zero, suc, ◌+◌, ◌-◌, ◌≤◌, ◌<◌, ◌≡◌, refl, Bool, true, false, [], ◌∷◌, get_or, take, drop}
+use Rattle.std.specs.Prelude.{ℕ, zero, suc, ◌+◌, ◌-◌, ◌≤◌, ◌<◌, ◌≡◌, refl, Bool, true, false, [], ◌∷◌, get_or, take, drop, Some, None}
+use Rattle.std.specs.Prelude as std
 use Rattle.std.proofs.Common.{arith, sym, ap, ◌∙◌}
 use Rattle.std.proofs.Math.Option.{Option, none, some}
 use Rattle.std.proofs.Math.ListN.{length}
@@ -21,14 +22,18 @@ use Rattle.text.specs.Fields.{Inside, field-length}
 use Rattle.read_expression.specs.Heads.{field_fits}
 use Rattle.read_expression.specs.Reading.{here}
 use Rattle.ast.specs.Names.{NameFits}
-use Rattle.from.specs.Records.{join_number, table_fields, join_fields, from_numbers, FromFits, numbers_of, IsFromRow}
+use Rattle.from.specs.Records.{join_number, table_fields, join_fields, from_numbers, FromFits, numbers_of, RowSays, IsFromRow}
 use Rattle.from.specs.declared.record.FromRecord.{FromRecord}
 
-pub row_as : {t : Bytes} {e : ℕ} {h : Option FromHead} {r : FromRecord} (g : Option FromHead) → g ≡ h → IsFromRow t e h r → IsFromRow t e g r
+pub row_as : {t : Bytes} {e : ℕ} {h : Option FromHead} {r : std.Option FromRecord} (g : Option FromHead) → g ≡ h → IsFromRow t e h r → IsFromRow t e g r
 row_as g e s = rw e s
 
-pub row_next : {t : Bytes} {e e' : ℕ} {h : Option FromHead} {r : FromRecord} → e ≡ e' → IsFromRow t e h r → IsFromRow t e' h r
-row_next z s = record { is = s.is; fits = s.fits; next = s.next ∙ z }
+pub no_row : {t : Bytes} {e : ℕ} {h : Option FromHead} → h ≡ none → IsFromRow t e h None
+unfolding RowSays
+no_row e = record { says = rw e tt }
+
+pub row_next : {t : Bytes} {e e' : ℕ} {h : Option FromHead} {r : std.Option FromRecord} → e ≡ e' → IsFromRow t e h r → IsFromRow t e' h r
+row_next z s = rw (← z) s
 
 -- NAMES
 module _ (t : Bytes) (a n : ℕ) (i : Inside t a n) where
@@ -55,13 +60,13 @@ module _ (t : Bytes) (a n : ℕ) (i : Inside t a n) where
   unfolding table_fields map_option name_alias both
   table_none h = rw (field-none h)
 
-  pub table-some : (e : ℕ) (r : FromRecord) → is_name n ≡ true → numbers_of r ≡ 1 ∷ 0 ∷ (most_bytes + a) ∷ n ∷ 0 ∷ 0 ∷ [] → r.next ≡ e → IsFromRow t e (table_fields (field most_bytes t a n ∷ [])) r
-  unfolding table_fields map_option name_alias both optional_name
-  table-some e r h x y = rw (field-name h) (record {
+  pub table-some : (e : ℕ) (r : FromRecord) → is_name n ≡ true → numbers_of r ≡ 1 ∷ 0 ∷ (most_bytes + a) ∷ n ∷ 0 ∷ 0 ∷ [] → r.next ≡ e → IsFromRow t e (table_fields (field most_bytes t a n ∷ [])) (Some r)
+  unfolding RowSays table_fields map_option name_alias both optional_name
+  table-some e r h x y = record { says = rw (field-name h) (record {
     is = unfold from_numbers option_span span field in rw (field-length t a n i) (sym x);
     fits = λ c. unfold FromFits NameFits in (field_fits t a n i c, tt);
     next = y;
-  })
+  }) }
 
 module _ (t : Bytes) (a n b m : ℕ) (i : Inside t a n) (j : Inside t b m) where
   pub alias-first : is_name n ≡ false → table_fields (field most_bytes t a n ∷ field most_bytes t b m ∷ []) ≡ none
@@ -73,13 +78,13 @@ module _ (t : Bytes) (a n b m : ℕ) (i : Inside t a n) (j : Inside t b m) where
   alias-second h g = rw (field-name t a n i h, field-none t b m j g)
 
   pub alias-some : (e : ℕ) (r : FromRecord) → is_name n ≡ true → is_name m ≡ true → numbers_of r ≡ 1 ∷ 0 ∷ (most_bytes + a) ∷ n ∷ (most_bytes + b) ∷ m ∷ [] → r.next ≡ e
-      → IsFromRow t e (table_fields (field most_bytes t a n ∷ field most_bytes t b m ∷ [])) r
-  unfolding table_fields map_option name_alias both optional_name
-  alias-some e r h g x y = rw (field-name t a n i h, field-name t b m j g) (record {
+      → IsFromRow t e (table_fields (field most_bytes t a n ∷ field most_bytes t b m ∷ [])) (Some r)
+  unfolding RowSays table_fields map_option name_alias both optional_name
+  alias-some e r h g x y = record { says = rw (field-name t a n i h, field-name t b m j g) (record {
     is = unfold from_numbers option_span span field in rw (field-length t a n i, field-length t b m j) (sym x);
     fits = λ c. unfold FromFits in (field_fits t a n i c, field_fit t b m j c g);
     next = y;
-  })
+  }) }
 
 -- JOINS
 pub join-words : keys joins ≡ words_of (bytes "cross inner left right ")
@@ -139,16 +144,16 @@ module _ (t : Bytes) (a n b m j : ℕ) (words : Bytes) (w : keys joins ≡ words
     predicate-none h = rw (predicates-is, nth-none predicates o (unfold predicates in h), neither (word joins (field most_bytes t a n)))
 
     pub join-some : (e : ℕ) (r : FromRecord) → j < 4 → o < 2 → numbers_of r ≡ (j + 2) ∷ (1 - o) ∷ 0 ∷ 0 ∷ 0 ∷ 0 ∷ [] → r.next ≡ e
-        → IsFromRow t e (join_fields (field most_bytes t a n ∷ field most_bytes t b m ∷ [])) r
-    unfolding join_fields map_option two_fields both
+        → IsFromRow t e (join_fields (field most_bytes t a n ∷ field most_bytes t b m ∷ [])) (Some r)
+    unfolding RowSays join_fields map_option two_fields both
     join-some e r hj ho x y =
         let u = join-at j hj in
         let v = flag_at o ho in
-        rw (joins-is, u.is, predicates-is, v.is) (record {
+        record { says = rw (joins-is, u.is, predicates-is, v.is) (record {
           is = unfold from_numbers in rw (u.number, v.number) (sym x);
           fits = λ c. unfold FromFits in tt;
           next = y;
-        })
+        }) }
 
 -- RECORDS BY THEIR KEYWORD
 pub from-words : keys from_heads ≡ words_of (bytes "from join ")

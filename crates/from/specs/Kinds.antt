@@ -1,5 +1,5 @@
 -- What a FROM record is, by its numbers.
-use Rattle.std.specs.Prelude.{ℕ, zero, suc, ◌≤◌, ◌≡◌, Bool, List, length, get_or}
+use Rattle.std.specs.Prelude.{ℕ, zero, suc, ◌≤◌, ◌≡◌, Bool, List, length, get_or, Some, None}
 use Rattle.std.proofs.Common.{arith, ◌∙◌}
 use Rattle.std.proofs.Math.Path.{refl, sym, ap}
 use Rattle.std.proofs.Math.Option.{Option, none, some}
@@ -11,7 +11,7 @@ use Rattle.rules.specs.ReadStatement.{FromHead, table_head, join_head}
 use Rattle.rules.specs.Area.{flag, span, option_span}
 use Rattle.numbers.specs.Values.{WordFits}
 use Rattle.ast.specs.Names.{NameFits, name_at}
-use Rattle.from.specs.Records.{join_number, from_numbers, FromFits, numbers_of, IsFromRow}
+use Rattle.from.specs.Records.{join_number, from_numbers, FromFits, numbers_of, FromRow, RowSays, IsFromRow}
 use Rattle.from.specs.Stack.{join-small}
 use Rattle.from.specs.declared.record.FromRecord.{FromRecord}
 
@@ -40,48 +40,48 @@ name_back b t w f = go (length w.bytes) refl f.1
     go (suc n) e l = unfold name_at in ap some (ap (word_at b t w.start) (sym e) ∙ f.0)
 
 module _ {t : Bytes} {e : ℕ} {r : FromRecord} where
-  number : (h : Option FromHead) (i : ℕ) → IsFromRow t e h r → get_or (from_numbers h) i 0 ≡ get_or (numbers_of r) i 0
+  number : (h : FromHead) (i : ℕ) → FromRow t e h r → get_or (from_numbers h) i 0 ≡ get_or (numbers_of r) i 0
   number h i s = ap (λ (xs : List ℕ). get_or xs i 0) s.is
 
-  pub row-wrong : (h : Option FromHead) → IsFromRow t e h r → r.kind ≡ 0 → h ≡ none
-  unfolding from_numbers
-  row-wrong none s z = refl
-  row-wrong (some (table_head n a)) s z =
-      absurd (let y : 1 ≡ r.kind = number _ 0 s in omega (arith, y))
-  row-wrong (some (join_head j o)) s z =
-      absurd (let y : join_number j ≡ r.kind = number _ 0 s in omega (arith, y, (join-small j).0))
+  pub row-end : (h : Option FromHead) → IsFromRow t e h (Some r) → r.next ≡ e
+  unfolding RowSays
+  row-end none s = absurd s.says
+  row-end (some h) s = s.says.next
 
-  pub row-table : (h : Option FromHead) → IsFromRow t e h r → r.kind ≡ 1 → IsTable t h r
-  unfolding from_numbers option_span span FromFits WordFits NameFits name_at
-  row-table none s z =
-      absurd (let y : 0 ≡ r.kind = number _ 0 s in omega (arith, y))
+  pub row-table : (h : Option FromHead) → IsFromRow t e h (Some r) → r.kind ≡ 1 → IsTable t h r
+  unfolding RowSays from_numbers option_span span FromFits WordFits NameFits name_at
+  row-table none s z = absurd s.says
   row-table (some (join_head j o)) s z =
-      absurd (let y : join_number j ≡ r.kind = number _ 0 s in omega (arith, y, (join-small j).0))
+      absurd (let y : join_number j ≡ r.kind = number _ 0 s.says in omega (arith, y, (join-small j).0))
   row-table (some (table_head n none)) s z = record {
     name = n;
     alias = none;
     is = refl;
-    word = λ b. rw (← number _ 2 s, ← number _ 3 s) (s.fits b).0;
-    other = λ b. rw (← number _ 4 s, ← number _ 5 s);
+    word = λ b. rw (← number _ 2 s.says, ← number _ 3 s.says) (s.says.fits b).0;
+    other = λ b. rw (← number _ 4 s.says, ← number _ 5 s.says);
   }
   row-table (some (table_head n (some w))) s z = record {
     name = n;
     alias = some w;
     is = refl;
-    word = λ b. rw (← number _ 2 s, ← number _ 3 s) (s.fits b).0;
-    other = λ b. rw (← number _ 4 s, ← number _ 5 s) (name_back b t w (s.fits b).1);
+    word = λ b. rw (← number _ 2 s.says, ← number _ 3 s.says) (s.says.fits b).0;
+    other = λ b. rw (← number _ 4 s.says, ← number _ 5 s.says) (name_back b t w (s.says.fits b).1);
   }
 
-  pub row-join : (h : Option FromHead) → IsFromRow t e h r → (r.kind ≡ 0 → ⊥) → (r.kind ≡ 1 → ⊥) → IsJoin h r
-  unfolding from_numbers
-  row-join none s z y =
-      absurd (let w : 0 ≡ r.kind = number _ 0 s in z (sym w))
-  row-join (some (table_head n a)) s z y =
-      absurd (let w : 1 ≡ r.kind = number _ 0 s in y (sym w))
-  row-join (some (join_head j o)) s z y = record {
+  pub row-join : (h : Option FromHead) → IsFromRow t e h (Some r) → (r.kind ≡ 1 → ⊥) → IsJoin h r
+  unfolding RowSays from_numbers
+  row-join none s y = absurd s.says
+  row-join (some (table_head n a)) s y =
+      absurd (let w : 1 ≡ r.kind = number _ 0 s.says in y (sym w))
+  row-join (some (join_head j o)) s y = record {
     join = j;
     on = o;
     is = refl;
-    kind = sym (number _ 0 s);
-    flag = sym (number _ 1 s);
+    kind = sym (number _ 0 s.says);
+    flag = sym (number _ 1 s.says);
   }
+
+pub row-none : {t : Bytes} {e : ℕ} (h : Option FromHead) → IsFromRow t e h None → h ≡ none
+unfolding RowSays
+row-none none s = refl
+row-none (some h) s = absurd s.says

@@ -3,7 +3,7 @@ use Prim.Native.Nat.{ℕ, suc, ◌+◌, ◌*◌, ◌-◌, ◌≤◌, ◌<◌}
 use Rattle.std.proofs.Common.{arith, ◌∙◌}
 use Rattle.std.proofs.Math.Numerals.{add-one}
 use Rattle.std.proofs.Math.Path.{◌≡◌, refl, sym, ap}
-use Rattle.std.specs.Prelude.{Bool, List, [], ◌∷◌, ◌++◌, length, set}
+use Rattle.std.specs.Prelude.{Bool, List, [], ◌∷◌, ◌++◌, length, set, Some, None}
 use Rattle.std.proofs.Math.Bool.{true, false}
 use Rattle.std.proofs.Math.Option.{none}
 use Rattle.std.proofs.Math.ListN.{length-set}
@@ -28,7 +28,7 @@ use Rattle.from.specs.Rules.{Frame, first, rest_of, rest-begin, rest-no, rest-ta
 use Rattle.from.specs.Trees.{TreeReady}
 use Rattle.from.specs.Rows.{table-row}
 use Rattle.from.specs.Stack.{code_of, Holds, lefts, join-small, flag_small, holds-push}
-use Rattle.from.specs.Kinds.{IsTable, IsJoin, row-wrong, row-table, row-join}
+use Rattle.from.specs.Kinds.{IsTable, IsJoin, row-end, row-table, row-join, row-none}
 use Rattle.from.specs.declared.record.FromRecord.{FromRecord}
 
 -- the tree that was read, before the left sides of the open joins
@@ -101,121 +101,121 @@ next-position t p l c e w z m = record {
 }
 
 -- A SIDE IS TO BE READ
-module _ {t : Bytes} {p₀ l₀ c₀ k₀ n₀ : ℕ} {cells₀ rows₀ : List ℕ} {p l c k n d : ℕ} {stack cells rows : List ℕ} (h : TreeLoop t p₀ l₀ c₀ k₀ n₀ cells₀ rows₀ false p l c k n d stack cells rows)
-    {r : FromRecord} (f : (l c k : ℕ) → IsFromRow t (line_end t p) (one_of from_heads (line_here (here t p l c k))) r) where
-  said : IsFromRow t (line_end t p) (one_of from_heads (line_here (here t p l c k))) r
-  said = f l c k
-
-  pub next-within : r.next ≤ length t
-  next-within = omega (arith, said.next, line-most t p, h.position.within)
-
+module _ {t : Bytes} {p₀ l₀ c₀ k₀ n₀ : ℕ} {cells₀ rows₀ : List ℕ} {p l c k n d : ℕ} {stack cells rows : List ℕ} (h : TreeLoop t p₀ l₀ c₀ k₀ n₀ cells₀ rows₀ false p l c k n d stack cells rows) where
   fueled : h.fuel ≡ suc (h.fuel - 1)
   fueled = omega (arith, h.enough, h.position.within)
 
   rest-is : rest_of false (suc (h.fuel - 1)) h.frames h.tree (here t p l c k) ≡ turns from_tree (here t p₀ l₀ c₀ k₀)
   rest-is = rw fueled at h.is
 
-  pub loop-wrong : r.kind ≡ 0 → turns from_tree (here t p₀ l₀ c₀ k₀) ≡ wrong_at statement l
+  pub loop-wrong : ((l c k : ℕ) → IsFromRow t (line_end t p) (one_of from_heads (line_here (here t p l c k))) None) → turns from_tree (here t p₀ l₀ c₀ k₀) ≡ wrong_at statement l
   unfolding wrong_at stop place
-  loop-wrong z = sym rest-is ∙ rest-no (here t p l c k) (h.fuel - 1) h.frames h.tree _ (here-wrong (here t p l c k) (row-wrong _ said z))
+  loop-wrong f = sym rest-is ∙ rest-no (here t p l c k) (h.fuel - 1) h.frames h.tree _ (here-wrong (here t p l c k) (row-none _ (f l c k)))
 
-  module _ (z : r.kind ≡ 1) where
-    named : IsTable t (one_of from_heads (line_here (here t p l c k))) r
-    named = row-table _ said z
+  module _ {r : FromRecord} (f : (l c k : ℕ) → IsFromRow t (line_end t p) (one_of from_heads (line_here (here t p l c k))) (Some r)) where
+    said : IsFromRow t (line_end t p) (one_of from_heads (line_here (here t p l c k))) (Some r)
+    said = f l c k
 
-    pub loop-limit : most_from_tables ≤ k → turns from_tree (here t p₀ l₀ c₀ k₀) ≡ limit_at statement l
-    unfolding limit_at stop place
-    loop-limit m = sym rest-is ∙ rest-no (here t p l c k) (h.fuel - 1) h.frames h.tree _ (here-limit (here t p l c k) named.name named.alias named.is m)
+    pub next-within : r.next ≤ length t
+    next-within = omega (arith, row-end _ said, line-most t p, h.position.within)
 
-    pub table-moves : p < r.next
-    table-moves = omega (arith, record-moves t p l c k _ named.is, said.next)
+    module _ (z : r.kind ≡ 1) where
+      named : IsTable t (one_of from_heads (line_here (here t p l c k))) r
+      named = row-table _ said z
 
-    -- its row has room
-    pub row_room : k < most_from_tables → n ≤ 30
-    row_room m = omega (arith, h.count, h.begun)
+      pub loop-limit : most_from_tables ≤ k → turns from_tree (here t p₀ l₀ c₀ k₀) ≡ limit_at statement l
+      unfolding limit_at stop place
+      loop-limit m = sym rest-is ∙ rest-no (here t p l c k) (h.fuel - 1) h.frames h.tree _ (here-limit (here t p l c k) named.name named.alias named.is m)
 
-    table-next : next (tabled (here t p l c k)) ≡ here t r.next (l + 1) c (k + 1)
-    unfolding tabled place
-    table-next = (unfold place in place-next statement t p l c (suc k)) ∙ rw (said.next, add-one k)
+      pub table-moves : p < r.next
+      table-moves = omega (arith, record-moves t p l c k _ named.is, (row-end _ said))
 
-    pub loop-table : k < most_from_tables → (rows' : List ℕ)
-        → rows' ≡ sets rows (row_size * n) (1 ∷ l ∷ 0 ∷ r.a ∷ r.b ∷ r.c ∷ r.d ∷ 0 ∷ []) → length rows' ≡ length rows
-        → TreeLoop t p₀ l₀ c₀ k₀ n₀ cells₀ rows₀ true r.next (l + 1) c (k + 1) (n + 1) d stack cells rows'
-    unfolding held place
-    loop-table m rows' e g = record {
-      frames = h.frames;
-      fuel = suc (h.fuel - 1);
-      tree = table l named.name named.alias;
-      is = ap (rest_of true (suc (h.fuel - 1)) h.frames (table l named.name named.alias)) (sym table-next)
-          ∙ sym (rest-table (here t p l c k) (h.fuel - 1) h.frames h.tree named.name named.alias _ (here-table (here t p l c k) named.name named.alias named.is m)) ∙ rest-is;
-      opened = h.opened;
-      holds = h.holds;
-      enough = omega (arith, h.enough, table-moves, fueled);
-      deep = omega (arith, h.deep, table-moves);
-      position = next-position t p l c r.next h.position said.next table-moves;
-      moved = omega (arith, h.moved, table-moves);
-      past = λ x. omega (arith, h.moved, table-moves);
-      more = h.more;
-      tables = omega arith;
-      begun = h.begun;
-      count = omega (arith, h.count);
-      stand = λ cells'' y b. rw (add-one n) (table-row rows rows' n 1 l 0 r.a r.b r.c r.d 0
-          (omega (arith, row_room m, h.rows-room)) e b t cells'' refl refl
-          ∙ rw (named.word b, named.other b, h.stand cells'' y b));
-      cells-kept = h.cells-kept;
-      stack-room = h.stack-room;
-      cells-room = h.cells-room;
-      rows-room = g ∙ h.rows-room;
-    }
+      -- its row has room
+      pub row_room : k < most_from_tables → n ≤ 30
+      row_room m = omega (arith, h.count, h.begun)
 
-  -- one more join is open
-  module _ (z : r.kind ≡ 0 → ⊥) (y : r.kind ≡ 1 → ⊥) where
-    joins : IsJoin (one_of from_heads (line_here (here t p l c k))) r
-    joins = row-join _ said z y
+      table-next : next (tabled (here t p l c k)) ≡ here t r.next (l + 1) c (k + 1)
+      unfolding tabled place
+      table-next = (unfold place in place-next statement t p l c (suc k)) ∙ rw ((row-end _ said), add-one k)
 
-    pub push-moves : p + 13 ≤ r.next
-    push-moves = omega (arith, join-moves t p l c k _ _ joins.is, said.next)
+      pub loop-table : k < most_from_tables → (rows' : List ℕ)
+          → rows' ≡ sets rows (row_size * n) (1 ∷ l ∷ 0 ∷ r.a ∷ r.b ∷ r.c ∷ r.d ∷ 0 ∷ []) → length rows' ≡ length rows
+          → TreeLoop t p₀ l₀ c₀ k₀ n₀ cells₀ rows₀ true r.next (l + 1) c (k + 1) (n + 1) d stack cells rows'
+      unfolding held place
+      loop-table m rows' e g = record {
+        frames = h.frames;
+        fuel = suc (h.fuel - 1);
+        tree = table l named.name named.alias;
+        is = ap (rest_of true (suc (h.fuel - 1)) h.frames (table l named.name named.alias)) (sym table-next)
+            ∙ sym (rest-table (here t p l c k) (h.fuel - 1) h.frames h.tree named.name named.alias _ (here-table (here t p l c k) named.name named.alias named.is m)) ∙ rest-is;
+        opened = h.opened;
+        holds = h.holds;
+        enough = omega (arith, h.enough, table-moves, fueled);
+        deep = omega (arith, h.deep, table-moves);
+        position = next-position t p l c r.next h.position (row-end _ said) table-moves;
+        moved = omega (arith, h.moved, table-moves);
+        past = λ x. omega (arith, h.moved, table-moves);
+        more = h.more;
+        tables = omega arith;
+        begun = h.begun;
+        count = omega (arith, h.count);
+        stand = λ cells'' y b. rw (add-one n) (table-row rows rows' n 1 l 0 r.a r.b r.c r.d 0
+            (omega (arith, row_room m, h.rows-room)) e b t cells'' refl refl
+            ∙ rw (named.word b, named.other b, h.stand cells'' y b));
+        cells-kept = h.cells-kept;
+        stack-room = h.stack-room;
+        cells-room = h.cells-room;
+        rows-room = g ∙ h.rows-room;
+      }
 
-    pub push-room : d < 5041
-    push-room = omega (arith, push-moves, next-within, h.position.short, h.deep)
+    -- one more join is open
+    module _ (y : r.kind ≡ 1 → ⊥) where
+      joins : IsJoin (one_of from_heads (line_here (here t p l c k))) r
+      joins = row-join _ said y
 
-    pub push-within : d < length stack
-    push-within = omega (arith, push-moves, next-within, h.stack-room, h.deep)
+      pub push-moves : p + 13 ≤ r.next
+      push-moves = omega (arith, join-moves t p l c k _ _ joins.is, (row-end _ said))
 
-    pub push-small : (r.kind ≤ 5) × (r.on ≤ 1)
-    push-small = (omega (arith, joins.kind, (join-small joins.join).1), omega (arith, joins.flag, flag_small joins.on))
+      pub push-room : d < 5041
+      push-room = omega (arith, push-moves, next-within, h.position.short, h.deep)
 
-    join-next : next (here t p l c k) ≡ here t r.next (l + 1) c k
-    join-next = place-next statement t p l c k ∙ rw said.next
+      pub push-within : d < length stack
+      push-within = omega (arith, push-moves, next-within, h.stack-room, h.deep)
 
-    pub loop-push : TreeLoop t p₀ l₀ c₀ k₀ n₀ cells₀ rows₀ false r.next (l + 1) c k n (d + 1) (set stack d (l * 32 + r.kind * 4 + r.on * 2)) cells rows
-    unfolding held lefts code_of place
-    loop-push =
-        let o = joins.on in
-        let j = joins.join in
-        record {
-          frames = first l j o ∷ h.frames;
-          fuel = h.fuel - 1;
-          tree = h.tree;
-          is = ap (rest_of false (h.fuel - 1) (first l j o ∷ h.frames) h.tree) (sym join-next)
-              ∙ sym (rest-join (here t p l c k) (h.fuel - 1) h.frames h.tree j o _ (here-join (here t p l c k) j o joins.is)) ∙ rest-is;
-          opened = omega (arith, h.opened);
-          holds = holds-push stack d _ (first l j o) h.frames h.opened push-within (omega (arith, joins.kind, joins.flag)) h.holds;
-          enough = omega (arith, h.enough, push-moves);
-          deep = omega (arith, h.deep, push-moves);
-          position = next-position t p l c r.next h.position said.next (omega (arith, push-moves));
-          moved = omega (arith, h.moved, push-moves);
-          past = λ e. absurd (let x : ◌≡◌ {A = ℕ} 0 1 = cc in omega arith);
-          more = h.more;
-          tables = h.tables;
-          begun = h.begun;
-          count = h.count;
-          stand = h.stand;
-          cells-kept = h.cells-kept;
-          stack-room = omega (arith, length-set stack d (l * 32 + r.kind * 4 + r.on * 2), h.stack-room);
-          cells-room = h.cells-room;
-          rows-room = h.rows-room;
-        }
+      pub push-small : (r.kind ≤ 5) × (r.on ≤ 1)
+      push-small = (omega (arith, joins.kind, (join-small joins.join).1), omega (arith, joins.flag, flag_small joins.on))
+
+      join-next : next (here t p l c k) ≡ here t r.next (l + 1) c k
+      join-next = place-next statement t p l c k ∙ rw (row-end _ said)
+
+      pub loop-push : TreeLoop t p₀ l₀ c₀ k₀ n₀ cells₀ rows₀ false r.next (l + 1) c k n (d + 1) (set stack d (l * 32 + r.kind * 4 + r.on * 2)) cells rows
+      unfolding held lefts code_of place
+      loop-push =
+          let o = joins.on in
+          let j = joins.join in
+          record {
+            frames = first l j o ∷ h.frames;
+            fuel = h.fuel - 1;
+            tree = h.tree;
+            is = ap (rest_of false (h.fuel - 1) (first l j o ∷ h.frames) h.tree) (sym join-next)
+                ∙ sym (rest-join (here t p l c k) (h.fuel - 1) h.frames h.tree j o _ (here-join (here t p l c k) j o joins.is)) ∙ rest-is;
+            opened = omega (arith, h.opened);
+            holds = holds-push stack d _ (first l j o) h.frames h.opened push-within (omega (arith, joins.kind, joins.flag)) h.holds;
+            enough = omega (arith, h.enough, push-moves);
+            deep = omega (arith, h.deep, push-moves);
+            position = next-position t p l c r.next h.position (row-end _ said) (omega (arith, push-moves));
+            moved = omega (arith, h.moved, push-moves);
+            past = λ e. absurd (let x : ◌≡◌ {A = ℕ} 0 1 = cc in omega arith);
+            more = h.more;
+            tables = h.tables;
+            begun = h.begun;
+            count = h.count;
+            stand = h.stand;
+            cells-kept = h.cells-kept;
+            stack-room = omega (arith, length-set stack d (l * 32 + r.kind * 4 + r.on * 2), h.stack-room);
+            cells-room = h.cells-room;
+            rows-room = h.rows-room;
+          }
 
 -- WHAT IS LEFT
 -- each turn reads a record, closes a join, or turns to a right side

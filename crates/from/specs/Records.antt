@@ -1,5 +1,6 @@
 -- What the numbers of a FROM record say of it: the contract of reading one.
-use Rattle.std.specs.Prelude.{ℕ, ◌≡◌, Bool, List, [], ◌∷◌, length}
+use Rattle.std.specs.Prelude.{ℕ, ◌≡◌, Bool, List, [], ◌∷◌, length, Some, None}
+use Rattle.std.specs.Prelude as std
 use Rattle.std.proofs.Math.Option.{Option, none, some}
 use Rattle.rules.specs.Lists.{Bytes, map_option}
 use Rattle.rules.specs.Lines.{Word}
@@ -25,23 +26,31 @@ table_fields r = map_option (λ (q : Word × Option Word). table_head q.0 q.1) (
 unfoldable pub join_fields : List Word → Option FromHead
 join_fields r = map_option (λ (q : Join × Bool). join_head q.0 q.1) (two_fields (word joins) (word predicates) r)
 
--- a record's numbers but the position behind it; zeros where it is wrong
-unfoldable pub from_numbers : Option FromHead → List ℕ
-from_numbers none = 0 ∷ 0 ∷ 0 ∷ 0 ∷ 0 ∷ 0 ∷ []
-from_numbers (some (table_head n a)) = 1 ∷ 0 ∷ n.start ∷ length n.bytes ∷ option_span a
-from_numbers (some (join_head j o)) = join_number j ∷ flag o ∷ 0 ∷ 0 ∷ 0 ∷ 0 ∷ []
+-- a record's numbers but the position behind it
+unfoldable pub from_numbers : FromHead → List ℕ
+from_numbers (table_head n a) = 1 ∷ 0 ∷ n.start ∷ length n.bytes ∷ option_span a
+from_numbers (join_head j o) = join_number j ∷ flag o ∷ 0 ∷ 0 ∷ 0 ∷ 0 ∷ []
 
 -- its names are the words at their places, of the catalog c and the statement q
-unfoldable pub FromFits : Bytes → Bytes → Option FromHead → Type 0
-FromFits c q none = Unit {0}
-FromFits c q (some (table_head n a)) = WordFits c q n × NameFits c q a
-FromFits c q (some (join_head j o)) = Unit {0}
+unfoldable pub FromFits : Bytes → Bytes → FromHead → Type 0
+FromFits c q (table_head n a) = WordFits c q n × NameFits c q a
+FromFits c q (join_head j o) = Unit {0}
 
 abbrev pub numbers_of : FromRecord → List ℕ
 numbers_of r = r.kind ∷ r.on ∷ r.a ∷ r.b ∷ r.c ∷ r.d ∷ []
 
 -- the numbers of a record of the statement t, behind which position e lies
-pub record IsFromRow (t : Bytes) (e : ℕ) (h : Option FromHead) (r : FromRecord) : Type 0 where
+pub record FromRow (t : Bytes) (e : ℕ) (h : FromHead) (r : FromRecord) : Type 0 where
   pub is : from_numbers h ≡ numbers_of r
   pub fits : (c : Bytes) → FromFits c t h
   pub next : r.next ≡ e
+
+-- a record that fits has numbers, and no other
+unfoldable pub RowSays : (t : Bytes) (e : ℕ) → Option FromHead → std.Option FromRecord → Type 0
+RowSays t e none None = Unit {0}
+RowSays t e none (Some r) = ⊥
+RowSays t e (some h) None = ⊥
+RowSays t e (some h) (Some r) = FromRow t e h r
+
+pub record IsFromRow (t : Bytes) (e : ℕ) (h : Option FromHead) (r : std.Option FromRecord) : Type 0 where
+  pub says : RowSays t e h r

@@ -1,5 +1,5 @@
 -- All trees of FROM, by a loop over them.
-use Rattle.std.specs.Prelude.{ℕ, suc, ◌+◌, ◌*◌, ◌-◌, ◌≤◌, ◌<◌, ◌≡◌, true, false, length, replicate, Ok, Err}
+use Rattle.std.specs.Prelude.{ℕ, suc, ◌+◌, ◌*◌, ◌-◌, ◌≤◌, ◌<◌, ◌≡◌, true, false, length, replicate, Ok, Err, Some, None}
 use Rattle.std.proofs.Common.{arith, ◌∙◌}
 use Rattle.std.proofs.Math.Path.{refl, sym, ap}
 use mathlib.Core.List.{List, [], ◌∷◌, append-nil, reverse, reverse-cons}
@@ -14,7 +14,7 @@ use Rattle.rules.specs.Reader.{Place, key, line_here, one_of, turns}
 use Rattle.rules.specs.ReadStatement.{from_heads, from_tree, froms}
 use Rattle.text.specs.Lines.{line_end}
 use Rattle.text.specs.Reading.{place-length}
-use Rattle.text.specs.Answers.{limit_at, bind_ok, bind-no, prefixed, prefixed-none, prefixed-twice, give-first}
+use Rattle.text.specs.Answers.{wrong_at, limit_at, bind_ok, bind-no, prefixed, prefixed-none, prefixed-twice, give-first}
 use Rattle.numbers.specs.Kept.{Kept, kept-all, kept_on, kept-first}
 use Rattle.ast.specs.Table.{row_size, table_size}
 use Rattle.read_expression.specs.Reading.{here, Position}
@@ -24,11 +24,11 @@ use Rattle.from.specs.Terms.{FromsRead}
 use Rattle.rules.specs.Limits.{most_bytes}
 use Rattle.from.specs.Records.{IsFromRow}
 use Rattle.from.specs.Trees.{TreeTook, TreeReady, TreeRead}
-use Rattle.from.specs.Loop.{loop-begin, loop-limit, loop-table}
+use Rattle.from.specs.Loop.{loop-begin, loop-wrong, loop-limit, loop-table}
 use Rattle.from.specs.Closed.{loop-end}
 use Rattle.from.specs.declared.record.FromRecord.{FromRecord}
 use Rattle.from.specs.declared.Froms.{Froms}
-use Rattle.numbers.specs.declared.refusals.Reason.TheVariants.{LimitPassed}
+use Rattle.numbers.specs.declared.refusals.Reason.TheVariants.{WrongRecord, LimitPassed}
 use Rattle.numbers.specs.declared.refusals.Refusal as code
 use Rattle.numbers.specs.Reasons.{reason_of}
 
@@ -40,8 +40,14 @@ no_joins_lem : (t : Bytes) (p : ℕ) → length t ≤ most_bytes → length t < 
 unfolding no_joins
 no_joins_lem t p h = omega (arith, length-replicate {A = ℕ} 5041 0)
 
+pub tree-wrong : {t : Bytes} {p l c k n : ℕ} {cells rows : List ℕ} → TreeReady t p l c k n cells rows
+    → ((l c k : ℕ) → IsFromRow t (line_end t p) (one_of from_heads (line_here (here t p l c k))) None)
+    → TreeRead t p l c k n cells cells rows rows (Err (record { reason = WrongRecord; line = l }))
+unfolding TreeRead wrong_at reason_of
+tree-wrong {t} {p} w f = loop-wrong (loop-begin no_joins w (no_joins_lem t p w.position.short)) f
+
 module _ {t : Bytes} {p l c k n : ℕ} {cells rows : List ℕ} (w : TreeReady t p l c k n cells rows) {r : FromRecord}
-    (f : (l c k : ℕ) → IsFromRow t (line_end t p) (one_of from_heads (line_here (here t p l c k))) r) (z : r.kind ≡ 1) where
+    (f : (l c k : ℕ) → IsFromRow t (line_end t p) (one_of from_heads (line_here (here t p l c k))) (Some r)) (z : r.kind ≡ 1) where
   pub table-limit : most_from_tables ≤ k → TreeRead t p l c k n cells cells rows rows (Err (record { reason = LimitPassed; line = l }))
   unfolding TreeRead limit_at reason_of
   table-limit m = loop-limit (loop-begin no_joins w (no_joins_lem t p w.position.short)) f z m

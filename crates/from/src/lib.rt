@@ -114,10 +114,9 @@ fn next_side(
     ensures { (cells : List ℕ) → TurnFrom t.now s stack.old stack.new cells cells rows.old rows.new result }
 {
     let at = s.froms.at;
-    let h = from_record(t, at.position);
-    if h.kind == 0 {
+    let Some(h) = from_record(t, at.position) else {
         return Err(Reason::WrongRecord.at(at.line));
-    }
+    };
     let next = Cursor {
         position: h.next,
         line: at.line + 1,
@@ -250,7 +249,9 @@ fn read_tree(t: &[u8], froms: Froms, cells: &mut [u32], rows: &mut [u32]) -> Res
     ensures { TreeRead t.now froms.at.position froms.at.line froms.at.rows froms.tables froms.rows cells.old cells.new rows.old rows.new result }
 {
     let at = froms.at;
-    let h = from_record(t, at.position);
+    let Some(h) = from_record(t, at.position) else {
+        return Err(Reason::WrongRecord.at(at.line));
+    };
     if h.kind != TABLE {
         return read_joined(t, froms, cells, rows);
     }

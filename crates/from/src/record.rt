@@ -1,6 +1,5 @@
 // What one record of FROM says, as numbers.
-ghost use Rattle.std.specs.Prelude.{◌≡◌, List, [], ◌∷◌, ℕ, ◌≤◌, length};
-ghost use Rattle.std.proofs.Math.Option.{none};
+ghost use Rattle.std.specs.Prelude.{◌≡◌, [], ◌∷◌, ℕ, ◌≤◌, length};
 ghost use Rattle.rules.specs.Limits.{most_bytes};
 ghost use Rattle.rules.specs.Lists.{same, any};
 ghost use Rattle.rules.specs.Lines.{bytes};
@@ -11,11 +10,11 @@ ghost use Rattle.text.specs.Fields.{Inside};
 ghost use Rattle.read_expression.specs.Reading.{here};
 ghost use Rattle.from.specs.Records.{table_fields, join_fields, IsFromRow};
 
-// The kind of a table's row; those of joins are 2 to 5, and 0 stands for a wrong record.
+// The kind of a table's row; those of joins are 2 to 5.
 pub const TABLE: u32 = 1;
 
-// A FROM record: its kind, whether a predicate follows a join (1), the table's address and length in a and b, the alias's in c and d
-// (0 0 where there is none), and the position behind it.
+// A FROM record: the kind of its row, whether a predicate follows a join (1), the table's address and length in a and b, the alias's
+// in c and d (0 0 where there is none), and the position behind it.
 #[derive(Clone, Copy)]
 pub struct FromRecord {
     pub kind: u32,
@@ -27,29 +26,15 @@ pub struct FromRecord {
     pub next: usize,
 }
 
-fn wrong_record(e: usize) -> FromRecord
-    ensures { (t : List ℕ) → IsFromRow t e none result }
-{
-    FromRecord {
-        kind: 0,
-        on: 0,
-        a: 0,
-        b: 0,
-        c: 0,
-        d: 0,
-        next: e,
-    }
-}
-
 // A table's name.
-fn table_record(t: &[u8], a: usize, n: usize, e: usize) -> FromRecord
+fn table_record(t: &[u8], a: usize, n: usize, e: usize) -> Option<FromRecord>
     requires { Inside t.now a n }
     ensures { IsFromRow t.now e (table_fields (field most_bytes t.now a n ∷ [])) result }
 {
     if !text::is_name(n) {
-        return wrong_record(e);
+        return None;
     }
-    FromRecord {
+    Some(FromRecord {
         kind: TABLE,
         on: 0,
         a: text::MOST_BYTES + a as u32,
@@ -57,22 +42,29 @@ fn table_record(t: &[u8], a: usize, n: usize, e: usize) -> FromRecord
         c: 0,
         d: 0,
         next: e,
-    }
+    })
 }
 
 // A table's name and its alias.
-fn alias_record(t: &[u8], a: usize, n: usize, b: usize, m: usize, e: usize) -> FromRecord
+fn alias_record(
+    t: &[u8],
+    a: usize,
+    n: usize,
+    b: usize,
+    m: usize,
+    e: usize,
+) -> Option<FromRecord>
     requires fact_1 { Inside t.now a n }
     requires fact_2 { Inside t.now b m }
     ensures { IsFromRow t.now e (table_fields (field most_bytes t.now a n ∷ field most_bytes t.now b m ∷ [])) result }
 {
     if !text::is_name(n) {
-        return wrong_record(e);
+        return None;
     }
     if !text::is_name(m) {
-        return wrong_record(e);
+        return None;
     }
-    FromRecord {
+    Some(FromRecord {
         kind: TABLE,
         on: 0,
         a: text::MOST_BYTES + a as u32,
@@ -80,22 +72,22 @@ fn alias_record(t: &[u8], a: usize, n: usize, b: usize, m: usize, e: usize) -> F
         c: text::MOST_BYTES + b as u32,
         d: m as u32,
         next: e,
-    }
+    })
 }
 
 // A join's two words.
-fn join_record(t: &[u8], a: usize, n: usize, b: usize, m: usize, e: usize) -> FromRecord
+fn join_record(t: &[u8], a: usize, n: usize, b: usize, m: usize, e: usize) -> Option<FromRecord>
     ensures { IsFromRow t.now e (join_fields (field most_bytes t.now a n ∷ field most_bytes t.now b m ∷ [])) result }
 {
     let j = text::which(b"cross inner left right ", t, a, n);
     if 4 <= j {
-        return wrong_record(e);
+        return None;
     }
     let o = text::which(b"on bare ", t, b, m);
     if 2 <= o {
-        return wrong_record(e);
+        return None;
     }
-    FromRecord {
+    Some(FromRecord {
         kind: j as u32 + 2,
         on: 1 - o as u32,
         a: 0,
@@ -103,11 +95,11 @@ fn join_record(t: &[u8], a: usize, n: usize, b: usize, m: usize, e: usize) -> Fr
         c: 0,
         d: 0,
         next: e,
-    }
+    })
 }
 
-// The FROM record at a position.
-pub fn from_record(t: &[u8], p: usize) -> FromRecord
+// The FROM record at a position, if one stands there and fits.
+pub fn from_record(t: &[u8], p: usize) -> Option<FromRecord>
     requires { (length t.now ≤ 65536) × (p ≤ length t.now) }
     ensures { (l c k : ℕ) → IsFromRow t.now (line_end t.now p) (one_of from_heads (line_here (here t.now p l c k))) result }
 {
@@ -119,15 +111,15 @@ pub fn from_record(t: &[u8], p: usize) -> FromRecord
             return table_record(t, f.starts[1], f.lens[1], f.next);
         }
         if n != 3 {
-            return wrong_record(f.next);
+            return None;
         }
         return alias_record(t, f.starts[1], f.lens[1], f.starts[2], f.lens[2], f.next);
     }
     if k != 1 {
-        return wrong_record(f.next);
+        return None;
     }
     if n != 3 {
-        return wrong_record(f.next);
+        return None;
     }
     join_record(t, f.starts[1], f.lens[1], f.starts[2], f.lens[2], f.next)
 }

@@ -14,13 +14,6 @@ pub enum Kind {
     Right,
 }
 
-// The predicate of a join: none, or its row among the expressions.
-#[derive(Clone, Copy)]
-pub enum Predicate {
-    Missing,
-    Row(u32),
-}
-
 // The first row is a table.
 pub fn kind_of(rows: &[u32], r: u32) -> Kind
     ensures { result ≡ access.kind_at rows.now r }
@@ -44,14 +37,15 @@ pub fn line(rows: &[u32], r: u32) -> u32
     at(rows, r as usize, 1)
 }
 
-pub fn predicate_of(rows: &[u32], r: u32) -> Predicate
+// The row of a join's predicate among the expressions, where it has one.
+pub fn predicate_of(rows: &[u32], r: u32) -> Option<u32>
     ensures { result ≡ access.predicate_row (access.predicate_number rows.now r) }
 {
     let x = at(rows, r as usize, 2);
     if x == 0 {
-        return Predicate::Missing;
+        return None;
     }
-    Predicate::Row(x - 1)
+    Some(x - 1)
 }
 
 // The place of a table's name.

@@ -1,10 +1,13 @@
 -- `read_tree`: one table, or the joins.
 use native.Mathlib.Omega.{arith}
-use Rattle.from.specs.Runs.{table-limit, table-took}
+use Rattle.from.specs.Runs.{tree-wrong, table-limit, table-took}
 use Rattle.from.proofs.read_tree.Goals as goal
 
+pub returns-in_default : goal.returns-in_default
+returns-in_default c = rw c.at.ensures (tree-wrong c.requires c.in_default.ensures)
+
 pub returns-then-froms-ge-MOST_TABLES : goal.returns-then-froms-ge-MOST_TABLES
-returns-then-froms-ge-MOST_TABLES c = rw c.at.ensures (table-limit c.requires c.from_record-h.ensures c.if-h-ne-TABLE.false c.if-froms-ge-MOST_TABLES.true)
+returns-then-froms-ge-MOST_TABLES c = rw c.at-then-froms-ge-MOST_TABLES.ensures (table-limit c.requires c.in-Some.ensures c.if-h-ne-TABLE.false c.if-froms-ge-MOST_TABLES.true)
 
 pub returns : goal.returns
-returns c = table-took c.requires c.from_record-h.ensures c.if-h-ne-TABLE.false (omega (arith, c.if-froms-ge-MOST_TABLES.false)) _ c.put_row.ensures c.put_row.auto.rows
+returns c = table-took c.requires c.in-Some.ensures c.if-h-ne-TABLE.false (omega (arith, c.if-froms-ge-MOST_TABLES.false)) _ c.put_row.ensures c.put_row.auto.rows
