@@ -1,7 +1,8 @@
 -- CREATE's column record: its name, its words, its reference or none.
 use Prim.Native.Nat.{ℕ, suc, ◌+◌, ◌-◌, ◌≤◌}
 use native.Mathlib.Omega.{arith}
-use Rattle.std.specs.Prelude.{◌≡◌, Bool, true, false, List, [], ◌∷◌, length, get_or}
+use Rattle.std.specs.Prelude.{◌≡◌, Bool, true, false, List, [], ◌∷◌, length, get_or, Some, None}
+use Rattle.std.specs.Prelude as std
 use Rattle.std.proofs.Math.Path.{refl}
 use Rattle.std.proofs.Common.{ap, ◌∙◌}
 use Rattle.std.proofs.Math.Option.{Option, none, some}
@@ -20,7 +21,7 @@ use Rattle.text.specs.Fields.{Inside}
 use Rattle.read_expression.specs.Reading.{here}
 use Rattle.entries.specs.Entries.{EntryHead, column_head, fields_of}
 use Rattle.entries.specs.Heads.{numbers_of}
-use Rattle.entries.specs.HeadFields.{LineAt, NameIs, HeadNumbersAre, HeadIs, HeadIsHere, no_name, name-is, field-named, field-unnamed, head-is-as}
+use Rattle.entries.specs.HeadFields.{Numbers, LineAt, NameIs, HeadNumbersAre, HeadIs, HeadIsHere, no_name, name-is, field-named, field-unnamed, head-is-as}
 use Rattle.entries.specs.ColumnWords.{words_by, words_head}
 use Rattle.entries.specs.HeadRecords.{field_at, without}
 use Rattle.entries.specs.declared.Head.{Head}
@@ -111,27 +112,27 @@ column-not (a ∷ (b ∷ (c ∷ (d ∷ (e ∷ (f ∷ (i ∷ (j ∷ (k ∷ ws))))
 
 -- names put to words: what is said of both
 head-named : (t : Bytes) (a n x y : ℕ) (h : EntryHead) (o : Option Word) (v r : Head) → Inside t a n → is_name n ≡ true → HeadNumbersAre t h v → NameIs t o x y
-    → (r.state ≡ 2) × (r.expressions ≡ v.expressions) × (numbers_of r ≡ (most_bytes + a) ∷ n ∷ v.code ∷ v.key ∷ v.nullable ∷ v.unique ∷ v.index ∷ x ∷ y ∷ []) → HeadNumbersAre t (named (field most_bytes t a n) h o) r
+    → (r.expressions ≡ v.expressions) × (numbers_of r ≡ (most_bytes + a) ∷ n ∷ v.code ∷ v.key ∷ v.nullable ∷ v.unique ∷ v.index ∷ x ∷ y ∷ []) → HeadNumbersAre t (named (field most_bytes t a n) h o) r
 unfolding named
 head-named t a n x y h o v r i e s q g = record {
   named = rw (ra, rb) (name-is t a n i e);
   refers = rw (rc, rd) q;
-  codes = s.codes ∙ (cc g.2);
-  expressions = g.1 ∙ s.expressions;
-  few = rw g.1 s.few;
+  codes = s.codes ∙ (cc g.1);
+  expressions = g.0 ∙ s.expressions;
+  few = rw g.0 s.few;
 }
   where
     ra : r.a ≡ most_bytes + a
-    ra = cc g.2
+    ra = cc g.1
 
     rb : r.b ≡ n
-    rb = cc g.2
+    rb = cc g.1
 
     rc : r.c ≡ x
-    rc = cc g.2
+    rc = cc g.1
 
     rd : r.d ≡ y
-    rd = cc g.2
+    rd = cc g.1
 
 -- THE RECORD
 module _ (t : Bytes) (p : ℕ) (f : Line) (g : LineAt t p f) where
@@ -172,56 +173,56 @@ module _ (t : Bytes) (p : ℕ) (f : Line) (g : LineAt t p f) where
   unfolding fields_from optional_name map_option
   reference-no n h = rw (field-unnamed t _ _ (field_at t p f g 8 (omega (arith, n))) h)
 
-  worded : (o : Option EntryHead) (v : Head) → HeadIs t o v → v.state ≡ 2 → (h : EntryHead) × (o ≡ some h) × HeadNumbersAre t h v
+  worded : (o : Option EntryHead) (v : Head) → HeadIs t o (Some v) → (h : EntryHead) × (o ≡ some h) × HeadNumbersAre t h v
   unfolding HeadIs
-  worded none v s z = absurd (omega (arith, s, z))
-  worded (some h) v s z = (h, refl, s.1)
+  worded none v s = absurd (let z : ◌≡◌ {A = std.Option Head} (Some v) None = s in let y : ◌≡◌ {A = ℕ} 0 1 = cc in omega arith)
+  worded (some h) v s = let q : ◌≡◌ {A = std.Option Head} (Some v) (Some s.0) = s.1 in let z : s.0 ≡ v = cc in (h, refl, rw z at s.2)
 
-  wordless : (o : Option EntryHead) (v : Head) → HeadIs t o v → (v.state ≡ 2 → ⊥) → o ≡ none
+  wordless : (o : Option EntryHead) → HeadIs t o None → o ≡ none
   unfolding HeadIs
-  wordless none v s z = refl
-  wordless (some h) v s z = absurd (z s.0)
+  wordless none s = refl
+  wordless (some h) s = absurd (let z : ◌≡◌ {A = std.Option Head} None (Some s.0) = s.1 in let y : ◌≡◌ {A = ℕ} 0 1 = cc in omega arith)
 
-  module _ (r : Head) where
-    pub column-count : (f.count ≡ 8 → ⊥) → (f.count ≡ 9 → ⊥) → r.state ≡ 1 → HeadIsHere t p (fields_of 11 none) r
+  module _ (r : std.Option Head) where
+    pub column-count : (f.count ≡ 8 → ⊥) → (f.count ≡ 9 → ⊥) → r ≡ None → HeadIsHere t p (fields_of 11 none) r
     column-count n m s = without t p f g r (fields_of 11 none) 7 8 (omega arith) (omega arith) n m column-not s
 
     column-as : (o : Option EntryHead) (j : ℕ) → f.count ≡ 8 + j → j ≤ 1 → named_by (name (words 1)) (words_head words) (optional_name (behind j)) ≡ o → HeadIs t o r → HeadIsHere t p (fields_of 11 none) r
     unfolding HeadIsHere
     column-as o j e m d s l c k = head-is-as t _ o r (column-rest j e m l c k ∙ d) s
 
-    column-none : 8 ≤ f.count → f.count ≤ 9 → ((j : ℕ) → named_by (name (words 1)) (words_head words) (optional_name (behind j)) ≡ none) → r.state ≡ 1 → HeadIsHere t p (fields_of 11 none) r
+    column-none : 8 ≤ f.count → f.count ≤ 9 → ((j : ℕ) → named_by (name (words 1)) (words_head words) (optional_name (behind j)) ≡ none) → r ≡ None → HeadIsHere t p (fields_of 11 none) r
     unfolding HeadIs
     column-none n m d s = column-as none (f.count - 8) (omega (arith, n)) (omega (arith, m)) (d (f.count - 8)) s
 
-    pub column-name-no : 8 ≤ f.count → f.count ≤ 9 → is_name (get_or f.lens 1 0) ≡ false → r.state ≡ 1 → HeadIsHere t p (fields_of 11 none) r
+    pub column-name-no : 8 ≤ f.count → f.count ≤ 9 → is_name (get_or f.lens 1 0) ≡ false → r ≡ None → HeadIsHere t p (fields_of 11 none) r
     column-name-no n m h s = column-none n m (λ j. rw (first-no n h) (nameless (words_head words) (optional_name (behind j)))) s
 
-    pub column-words-no : (v : Head) → 8 ≤ f.count → f.count ≤ 9 → HeadIs t (words_head words) v → (v.state ≡ 2 → ⊥) → r.state ≡ 1 → HeadIsHere t p (fields_of 11 none) r
-    column-words-no v n m w z s = column-none n m (λ j. rw (wordless (words_head words) v w z) (no_words (name (words 1)) (optional_name (behind j)))) s
+    pub column-words-no : 8 ≤ f.count → f.count ≤ 9 → HeadIs t (words_head words) None → r ≡ None → HeadIsHere t p (fields_of 11 none) r
+    column-words-no n m w s = column-none n m (λ j. rw (wordless (words_head words) w) (no_words (name (words 1)) (optional_name (behind j)))) s
 
-    pub column-reference-no : f.count ≡ 9 → is_name (get_or f.lens 8 0) ≡ false → r.state ≡ 1 → HeadIsHere t p (fields_of 11 none) r
+    pub column-reference-no : f.count ≡ 9 → is_name (get_or f.lens 8 0) ≡ false → r ≡ None → HeadIsHere t p (fields_of 11 none) r
     unfolding HeadIs
     column-reference-no n h s = column-as none 1 (omega (arith, n)) (omega arith) (rw (reference-no n h) (no-reference (name (words 1)) (words_head words))) s
 
     -- a column whose words fit
-    module _ (v : Head) (w : HeadIs t (words_head words) v) (z : v.state ≡ 2) (n : 8 ≤ f.count) (h : is_name (get_or f.lens 1 0) ≡ true) where
+    module _ (v : Head) (w : HeadIs t (words_head words) (Some v)) (n : 8 ≤ f.count) (h : is_name (get_or f.lens 1 0) ≡ true) where
       abbrev first : Word
       first = field most_bytes t (get_or f.starts 1 0) (get_or f.lens 1 0)
 
       column-named : (x : Option Word) (j c d : ℕ) → f.count ≡ 8 + j → j ≤ 1 → optional_name (behind j) ≡ some x → NameIs t x c d
-          → (r.state ≡ 2) × (r.expressions ≡ v.expressions) × (numbers_of r ≡ (most_bytes + get_or f.starts 1 0) ∷ get_or f.lens 1 0 ∷ v.code ∷ v.key ∷ v.nullable ∷ v.unique ∷ v.index ∷ c ∷ d ∷ [])
+          → Numbers r v.expressions ((most_bytes + get_or f.starts 1 0) ∷ get_or f.lens 1 0 ∷ v.code ∷ v.key ∷ v.nullable ∷ v.unique ∷ v.index ∷ c ∷ d ∷ [])
           → HeadIsHere t p (fields_of 11 none) r
       unfolding HeadIs
       column-named x j c d e m o q s =
-          let y = worded (words_head words) v w z in
+          let y = worded (words_head words) v w in
           column-as (some (named first y.0 x)) j e m (named-all _ _ _ first y.0 x (first-yes n h) y.1 o)
-          (s.0, head-named t _ _ c d y.0 x v r (field_at t p f g 1 (omega (arith, n))) h y.2 q s)
+          (s.0, s.1, head-named t _ _ c d y.0 x v s.0 (field_at t p f g 1 (omega (arith, n))) h y.2 q (s.2, s.3))
 
-      pub column-plain : f.count ≡ 8 → (r.state ≡ 2) × (r.expressions ≡ v.expressions) × (numbers_of r ≡ (most_bytes + get_or f.starts 1 0) ∷ get_or f.lens 1 0 ∷ v.code ∷ v.key ∷ v.nullable ∷ v.unique ∷ v.index ∷ 0 ∷ 0 ∷ []) → HeadIsHere t p (fields_of 11 none) r
+      pub column-plain : f.count ≡ 8 → Numbers r v.expressions ((most_bytes + get_or f.starts 1 0) ∷ get_or f.lens 1 0 ∷ v.code ∷ v.key ∷ v.nullable ∷ v.unique ∷ v.index ∷ 0 ∷ 0 ∷ []) → HeadIsHere t p (fields_of 11 none) r
       column-plain e s = column-named none 0 0 0 (omega (arith, e)) (omega arith) reference-none (no_name t) s
 
       pub column-refers : (a : ℕ) → f.count ≡ 9 → is_name (get_or f.lens 8 0) ≡ true → a ≡ most_bytes + get_or f.starts 8 0
-          → (r.state ≡ 2) × (r.expressions ≡ v.expressions) × (numbers_of r ≡ (most_bytes + get_or f.starts 1 0) ∷ get_or f.lens 1 0 ∷ v.code ∷ v.key ∷ v.nullable ∷ v.unique ∷ v.index ∷ a ∷ get_or f.lens 8 0 ∷ [])
+          → Numbers r v.expressions ((most_bytes + get_or f.starts 1 0) ∷ get_or f.lens 1 0 ∷ v.code ∷ v.key ∷ v.nullable ∷ v.unique ∷ v.index ∷ a ∷ get_or f.lens 8 0 ∷ [])
           → HeadIsHere t p (fields_of 11 none) r
       column-refers a e i q s = column-named _ 1 a _ (omega (arith, e)) (omega arith) (reference-yes e i) (rw q (name-is t _ _ (field_at t p f g 8 (omega (arith, e))) i)) s

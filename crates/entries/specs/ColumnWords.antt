@@ -1,5 +1,6 @@
 -- The words of CREATE's column record, by their numbers.
-use Rattle.std.specs.Prelude.{ℕ, zero, suc, ◌+◌, ◌-◌, ◌%◌, ◌≤◌, ◌<◌, ◌≡◌, refl, Bool, true, false, List, [], ◌∷◌, get_or, take, drop}
+use Rattle.std.specs.Prelude.{ℕ, zero, suc, ◌+◌, ◌-◌, ◌%◌, ◌≤◌, ◌<◌, ◌≡◌, refl, Bool, true, false, List, [], ◌∷◌, get_or, take, drop, Some, None}
+use Rattle.std.specs.Prelude as std
 use Rattle.std.proofs.Common.{arith, ◌∙◌}
 use Rattle.std.proofs.Math.Option.{Option, none, some}
 use Rattle.rules.specs.Refusals.{statement}
@@ -14,8 +15,7 @@ use Rattle.text.specs.Words.{find, words_of, push, keys, nth, named_by, nth-none
 use Rattle.text.specs.Reading.{field_of}
 use Rattle.text.specs.declared.Line.{Line}
 use Rattle.entries.specs.Entries.{EntryHead, null_number}
-use Rattle.entries.specs.Heads.{numbers_of}
-use Rattle.entries.specs.HeadFields.{HeadIs, head-is-as, head-none, head_plain}
+use Rattle.entries.specs.HeadFields.{Numbers, HeadIs, head-is-as, head-none, head_plain}
 use Rattle.entries.specs.declared.Head.{Head}
 
 -- what the words say: type, key, nullable, unique, index, default
@@ -148,46 +148,46 @@ given-words : keys (flags (bytes "default")) ≡ words_of (bytes "default - ")
 unfolding keys words_of bytes push
 given-words = refl
 
-module _ (t : Bytes) (f : Line) (r : Head) {a : ℕ} (e2 : a ≡ find (words_of (bytes "bool int float text ")) (at t f 2)) where
-  pub words-type : 4 ≤ a → r.state ≡ 1 → HeadIs t (words_head (field_of statement t f)) r
+module _ (t : Bytes) (f : Line) (r : std.Option Head) {a : ℕ} (e2 : a ≡ find (words_of (bytes "bool int float text ")) (at t f 2)) where
+  pub words-type : 4 ≤ a → r ≡ None → HeadIs t (words_head (field_of statement t f)) r
   words-type l s = head-none t _ r (type-no _ (word-is t f 2 datatypes _ a type-words e2 ∙ nth-none datatypes a (unfold datatypes in l))) s
 
   module _ (l2 : a < 4) {b : ℕ} (e3 : b ≡ find (words_of (bytes "pk - ")) (at t f 3)) where
     abbrev typed : (d : Datatype) × (word datatypes (field_of statement t f 2) ≡ some d) × (type_code d ≡ a + 1)
     typed = let n = type-nth a l2 in (n.0, word-is t f 2 datatypes _ a type-words e2 ∙ n.1, n.2)
 
-    pub words-key : 2 ≤ b → r.state ≡ 1 → HeadIs t (words_head (field_of statement t f)) r
+    pub words-key : 2 ≤ b → r ≡ None → HeadIs t (words_head (field_of statement t f)) r
     words-key l s = head-none t _ r (key-no _ _ typed.1 (flag_is t f 3 (bytes "pk") _ b pk-words e3 ∙ nth-none _ b l)) s
 
     module _ (l3 : b < 2) {c : ℕ} (e4 : c ≡ find (words_of (bytes "null notnull - ")) (at t f 4)) where
       abbrev keyed : (x : Bool) × (flagged (bytes "pk") (field_of statement t f 3) ≡ some x) × (flag x ≡ 1 - b)
       keyed = let n = flag-nth (bytes "pk") b l3 in (n.0, flag_is t f 3 (bytes "pk") _ b pk-words e3 ∙ n.1, n.2)
 
-      pub words-null : 3 ≤ c → r.state ≡ 1 → HeadIs t (words_head (field_of statement t f)) r
+      pub words-null : 3 ≤ c → r ≡ None → HeadIs t (words_head (field_of statement t f)) r
       words-null l s = head-none t _ r (null-no _ _ typed.1 _ keyed.1 (word-is t f 4 nullness _ c null-words e4 ∙ nth-none nullness c (unfold nullness in l))) s
 
       module _ (l4 : c < 3) {d : ℕ} (e5 : d ≡ find (words_of (bytes "unique - ")) (at t f 5)) where
         abbrev nulled : (x : Option Bool) × (word nullness (field_of statement t f 4) ≡ some x) × (null_number x ≡ (c + 1) % 3)
         nulled = let n = null-nth c l4 in (n.0, word-is t f 4 nullness _ c null-words e4 ∙ n.1, n.2)
 
-        pub words-unique : 2 ≤ d → r.state ≡ 1 → HeadIs t (words_head (field_of statement t f)) r
+        pub words-unique : 2 ≤ d → r ≡ None → HeadIs t (words_head (field_of statement t f)) r
         words-unique l s = head-none t _ r (unique-no _ _ typed.1 _ keyed.1 _ nulled.1 (flag_is t f 5 (bytes "unique") _ d unique-words e5 ∙ nth-none _ d l)) s
 
         module _ (l5 : d < 2) {i : ℕ} (e6 : i ≡ find (words_of (bytes "index - ")) (at t f 6)) where
           abbrev single : (x : Bool) × (flagged (bytes "unique") (field_of statement t f 5) ≡ some x) × (flag x ≡ 1 - d)
           single = let n = flag-nth (bytes "unique") d l5 in (n.0, flag_is t f 5 (bytes "unique") _ d unique-words e5 ∙ n.1, n.2)
 
-          pub words-index : 2 ≤ i → r.state ≡ 1 → HeadIs t (words_head (field_of statement t f)) r
+          pub words-index : 2 ≤ i → r ≡ None → HeadIs t (words_head (field_of statement t f)) r
           words-index l s = head-none t _ r (index-no _ _ typed.1 _ keyed.1 _ nulled.1 _ single.1 (flag_is t f 6 (bytes "index") _ i index-words e6 ∙ nth-none _ i l)) s
 
           module _ (l6 : i < 2) {g : ℕ} (e7 : g ≡ find (words_of (bytes "default - ")) (at t f 7)) where
             abbrev indexed : (x : Bool) × (flagged (bytes "index") (field_of statement t f 6) ≡ some x) × (flag x ≡ 1 - i)
             indexed = let n = flag-nth (bytes "index") i l6 in (n.0, flag_is t f 6 (bytes "index") _ i index-words e6 ∙ n.1, n.2)
 
-            pub words-default : 2 ≤ g → r.state ≡ 1 → HeadIs t (words_head (field_of statement t f)) r
+            pub words-default : 2 ≤ g → r ≡ None → HeadIs t (words_head (field_of statement t f)) r
             words-default l s = head-none t _ r (default-no _ _ typed.1 _ keyed.1 _ nulled.1 _ single.1 _ indexed.1 (flag_is t f 7 (bytes "default") _ g given-words e7 ∙ nth-none _ g l)) s
 
-            pub words_right : g < 2 → (r.state ≡ 2) × (r.expressions ≡ 1 - g) × (numbers_of r ≡ 0 ∷ 0 ∷ (a + 1) ∷ (1 - b) ∷ ((c + 1) % 3) ∷ (1 - d) ∷ (1 - i) ∷ 0 ∷ 0 ∷ []) → HeadIs t (words_head (field_of statement t f)) r
+            pub words_right : g < 2 → Numbers r (1 - g) (0 ∷ 0 ∷ (a + 1) ∷ (1 - b) ∷ ((c + 1) % 3) ∷ (1 - d) ∷ (1 - i) ∷ 0 ∷ 0 ∷ []) → HeadIs t (words_head (field_of statement t f)) r
             words_right l s =
                 let n = flag-nth (bytes "default") g l in
                 head-is-as t _ _ r (words_are _ _ typed.1 _ keyed.1 _ nulled.1 _ single.1 _ indexed.1 _ (flag_is t f 7 (bytes "default") _ g given-words e7 ∙ n.1))

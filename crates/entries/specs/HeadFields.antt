@@ -1,5 +1,6 @@
 -- What the fields of one record say as numbers: names by their places, and the contracts of the functions of each shape.
-use Rattle.std.specs.Prelude.{ℕ, zero, suc, ◌+◌, ◌-◌, ◌≤◌, ◌≡◌, refl, true, false, length, take, drop}
+use Rattle.std.specs.Prelude.{ℕ, zero, suc, ◌+◌, ◌-◌, ◌≤◌, ◌≡◌, refl, true, false, length, take, drop, Some, None}
+use Rattle.std.specs.Prelude as std
 use Rattle.std.proofs.Common.{arith, ◌∙◌}
 use Rattle.std.proofs.Math.Path.{ap}
 use mathlib.Core.List.{List, [], ◌∷◌, ◌++◌}
@@ -19,6 +20,8 @@ use Rattle.read_expression.specs.Reading.{here}
 use Rattle.entries.specs.Entries.{EntryHead, keyword_of, plain_head, named_head, fields_of, name_of}
 use Rattle.entries.specs.Heads.{head_numbers, last_name, numbers_of, Entered, IsHead}
 use Rattle.entries.specs.declared.Head.{Head}
+use Rattle.entries.specs.declared.Record as Re
+use Rattle.entries.specs.declared.Record.TheVariants as R
 
 -- CONTRACTS
 -- f is the line at position p of a statement that is not too long
@@ -42,12 +45,16 @@ pub record HeadNumbersAre (t : Bytes) (h : EntryHead) (r : Head) : Type 0 where
   pub few : r.expressions ≤ suc most_cells
 
 -- fields that do not fit, or what they say
-unfoldable pub HeadIs : Bytes → Option EntryHead → Head → Type 0
-HeadIs t none r = r.state ≡ 1
-HeadIs t (some h) r = (r.state ≡ 2) × HeadNumbersAre t h r
+unfoldable pub HeadIs : Bytes → Option EntryHead → std.Option Head → Type 0
+HeadIs t none r = r ≡ None
+HeadIs t (some h) r = (x : Head) × (r ≡ Some x) × HeadNumbersAre t h x
+
+-- a record with e expressions and these numbers
+abbrev pub Numbers : std.Option Head → ℕ → List ℕ → Type 0
+Numbers r e xs = (x : Head) × (r ≡ Some x) × (x.expressions ≡ e) × (numbers_of x ≡ xs)
 
 -- what a rule says of the fields at position p
-unfoldable pub HeadIsHere : Bytes → ℕ → (List Word → Option EntryHead) → Head → Type 0
+unfoldable pub HeadIsHere : Bytes → ℕ → (List Word → Option EntryHead) → std.Option Head → Type 0
 HeadIsHere t p g r = (l c k : ℕ) → HeadIs t (g (rest (here t p l c k))) r
 
 -- no field, and n expressions
@@ -91,79 +98,81 @@ module _ (t : Bytes) (a n : ℕ) (i : Inside t a n) where
   field-unnamed h = name_out _ (ap is_name (field-length t a n i) ∙ h)
 
 -- RECORDS
-pub head-is-as : (t : Bytes) (g h : Option EntryHead) (r : Head) → g ≡ h → HeadIs t h r → HeadIs t g r
+pub head-is-as : (t : Bytes) (g h : Option EntryHead) (r : std.Option Head) → g ≡ h → HeadIs t h r → HeadIs t g r
 head-is-as t g h r e s = rw e s
 
 -- fields that do not fit
-pub head-none : (t : Bytes) (o : Option EntryHead) (r : Head) → o ≡ none → r.state ≡ 1 → HeadIs t o r
+pub head-none : (t : Bytes) (o : Option EntryHead) (r : std.Option Head) → o ≡ none → r ≡ None → HeadIs t o r
 unfolding HeadIs
 head-none t o r e s = rw e s
 
 -- numbers without names
-pub head_plain : (t : Bytes) (h : EntryHead) (r : Head) → h.name ≡ none → h.reference ≡ none
-    → (r.state ≡ 2) × (r.expressions ≡ h.expressions) × (numbers_of r ≡ 0 ∷ 0 ∷ h.code ∷ h.key ∷ h.nullable ∷ h.unique ∷ h.index ∷ 0 ∷ 0 ∷ []) → h.expressions ≤ suc most_cells → HeadIs t (some h) r
+pub head_plain : (t : Bytes) (h : EntryHead) (r : std.Option Head) → h.name ≡ none → h.reference ≡ none
+    → Numbers r h.expressions (0 ∷ 0 ∷ h.code ∷ h.key ∷ h.nullable ∷ h.unique ∷ h.index ∷ 0 ∷ 0 ∷ []) → h.expressions ≤ suc most_cells → HeadIs t (some h) r
 unfolding HeadIs
 head_plain t h r e f g l = (
   g.0,
+  g.1,
   record {
     named = rw (e, a, b) (no_name t);
     refers = rw (f, c, d) (no_name t);
-    codes = cc g.2;
-    expressions = g.1;
-    few = omega (arith, g.1);
+    codes = cc g.3;
+    expressions = g.2;
+    few = omega (arith, g.2);
   },
 )
   where
-    a : r.a ≡ 0
-    a = cc g.2
+    a : g.0.a ≡ 0
+    a = cc g.3
 
-    b : r.b ≡ 0
-    b = cc g.2
+    b : g.0.b ≡ 0
+    b = cc g.3
 
-    c : r.c ≡ 0
-    c = cc g.2
+    c : g.0.c ≡ 0
+    c = cc g.3
 
-    d : r.d ≡ 0
-    d = cc g.2
+    d : g.0.d ≡ 0
+    d = cc g.3
 
 -- a name
-pub head-name : (t : Bytes) (a n e : ℕ) (r : Head) → Inside t a n → is_name n ≡ true → e ≤ 1
-    → (r.state ≡ 2) × (r.expressions ≡ e) × (numbers_of r ≡ (most_bytes + a) ∷ n ∷ 0 ∷ 0 ∷ 0 ∷ 0 ∷ 0 ∷ 0 ∷ 0 ∷ []) → HeadIs t (name_head e (field most_bytes t a n)) r
+pub head-name : (t : Bytes) (a n e : ℕ) (r : std.Option Head) → Inside t a n → is_name n ≡ true → e ≤ 1
+    → Numbers r e ((most_bytes + a) ∷ n ∷ 0 ∷ 0 ∷ 0 ∷ 0 ∷ 0 ∷ 0 ∷ 0 ∷ []) → HeadIs t (name_head e (field most_bytes t a n)) r
 unfolding name_head map_option named_head HeadIs
 head-name t a n e r i h l g = rw (field-named t a n i h) ((
   g.0,
+  g.1,
   record {
     named = rw (x, y) (name-is t a n i h);
     refers = rw (z, w) (no_name t);
-    codes = cc g.2;
-    expressions = g.1;
-    few = omega (arith, g.1);
+    codes = cc g.3;
+    expressions = g.2;
+    few = omega (arith, g.2);
   },
 ))
   where
-    x : r.a ≡ most_bytes + a
-    x = cc g.2
+    x : g.0.a ≡ most_bytes + a
+    x = cc g.3
 
-    y : r.b ≡ n
-    y = cc g.2
+    y : g.0.b ≡ n
+    y = cc g.3
 
-    z : r.c ≡ 0
-    z = cc g.2
+    z : g.0.c ≡ 0
+    z = cc g.3
 
-    w : r.d ≡ 0
-    w = cc g.2
+    w : g.0.d ≡ 0
+    w = cc g.3
 
-pub head-unnamed : (t : Bytes) (a n e : ℕ) (r : Head) → Inside t a n → is_name n ≡ false → r.state ≡ 1 → HeadIs t (name_head e (field most_bytes t a n)) r
+pub head-unnamed : (t : Bytes) (a n e : ℕ) (r : std.Option Head) → Inside t a n → is_name n ≡ false → r ≡ None → HeadIs t (name_head e (field most_bytes t a n)) r
 unfolding name_head map_option
 head-unnamed t a n e r i h s = head-none t _ r (rw (field-unnamed t a n i h)) s
 
 -- ENTRIES
-module _ (t : Bytes) (kind : ℕ) (b : Option Bytes) (p : Place) (r : Head) where
-  pub no-head : r.state ≡ 0 → at (keyword_of kind) p ≡ false → IsHead t kind b p r
-  no-head z h = record { missing = λ e. h; wrong = λ e. absurd (omega (arith, z, e)); entered = λ e. absurd (omega (arith, z, e)); states = omega (arith, z) }
+module _ (t : Bytes) (kind : ℕ) (b : Option Bytes) (p : Place) where
+  pub no-head : {r : Re.Record} → r ≡ R.Missing → at (keyword_of kind) p ≡ false → IsHead t kind b p r
+  no-head z h = rw z (record { missing = λ e. h; wrong = λ e. absurd (let y : ◌≡◌ {A = ℕ} 0 1 = cc in omega arith); entered = λ x e. absurd (let y : ◌≡◌ {A = ℕ} 0 1 = cc in omega arith) })
 
-  entered-head : (h : EntryHead) → at (keyword_of kind) p ≡ true → fields_of kind b (rest p) ≡ some h → HeadNumbersAre t h r → Entered t kind b p r
-  entered-head h e f s = record {
+  entered-head : (r : Head) (h : EntryHead) → at (keyword_of kind) p ≡ true → fields_of kind b (rest p) ≡ some h → HeadNumbersAre t h r → Entered t kind b p r
+  entered-head r h e f s = record {
     head = h;
     stands = e;
     is = f;
@@ -179,9 +188,24 @@ module _ (t : Bytes) (kind : ℕ) (b : Option Bytes) (p : Place) (r : Head) wher
           → a ∷ b ∷ x ∷ y ∷ z ∷ u ∷ v ∷ c ∷ d ∷ [] ≡ a ∷ b ∷ x' ∷ y' ∷ z' ∷ u' ∷ v' ∷ c ∷ d ∷ []
       codes a b c d x y z u v x' y' z' u' v' e = ap (λ (l : List ℕ). a ∷ b ∷ (l ++ (c ∷ d ∷ []))) e
 
-  pub head-fields : at (keyword_of kind) p ≡ true → HeadIs t (fields_of kind b (rest p)) r → IsHead t kind b p r
-  head-fields h s = go (fields_of kind b (rest p)) refl s
+  pub head-wrong : at (keyword_of kind) p ≡ true → HeadIs t (fields_of kind b (rest p)) None → IsHead t kind b p R.Wrong
+  head-wrong h s = go (fields_of kind b (rest p)) refl s
     where
-      go : (o : Option EntryHead) → fields_of kind b (rest p) ≡ o → HeadIs t o r → IsHead t kind b p r
-      go none e f = unfold HeadIs in record { missing = λ z. absurd (omega (arith, z, f)); wrong = λ z. (h, e); entered = λ z. absurd (omega (arith, z, f)); states = omega (arith, f) }
-      go (some x) e f = unfold HeadIs in record { missing = λ z. absurd (omega (arith, z, f.0)); wrong = λ z. absurd (omega (arith, z, f.0)); entered = λ z. entered-head x h e f.1; states = omega (arith, f.0) }
+      go : (o : Option EntryHead) → fields_of kind b (rest p) ≡ o → HeadIs t o None → IsHead t kind b p R.Wrong
+      go none e f = record { missing = λ z. absurd (let y : ◌≡◌ {A = ℕ} 0 1 = cc in omega arith); wrong = λ z. (h, e); entered = λ x z. absurd (let y : ◌≡◌ {A = ℕ} 0 1 = cc in omega arith) }
+      go (some x) e f = unfold HeadIs in absurd (let z : ◌≡◌ {A = std.Option Head} None (Some f.0) = f.1 in let y : ◌≡◌ {A = ℕ} 0 1 = cc in omega arith)
+
+  pub head-fits : (r : Head) → at (keyword_of kind) p ≡ true → HeadIs t (fields_of kind b (rest p)) (Some r) → IsHead t kind b p (R.Fits r)
+  head-fits r h s = go (fields_of kind b (rest p)) refl s
+    where
+      go : (o : Option EntryHead) → fields_of kind b (rest p) ≡ o → HeadIs t o (Some r) → IsHead t kind b p (R.Fits r)
+      go none e f = unfold HeadIs in absurd (let z : ◌≡◌ {A = std.Option Head} (Some r) None = f in let y : ◌≡◌ {A = ℕ} 0 1 = cc in omega arith)
+      go (some x) e f = unfold HeadIs in
+          let q : ◌≡◌ {A = std.Option Head} (Some r) (Some f.0) = f.1 in
+          let z : f.0 ≡ r = cc in
+          let g : HeadNumbersAre t x r = rw z at f.2 in
+          record {
+            missing = λ y. absurd (let w : ◌≡◌ {A = ℕ} 0 1 = cc in omega arith);
+            wrong = λ y. absurd (let w : ◌≡◌ {A = ℕ} 0 1 = cc in omega arith);
+            entered = λ v y. let u : r ≡ v = cc in rw u at (entered-head r x h e g);
+          }

@@ -1,5 +1,6 @@
 -- The kinds of records by their keywords, and what each kind makes of its fields.
-use Rattle.std.specs.Prelude.{ℕ, zero, suc, ◌≤◌, ◌<◌, ◌≡◌, refl, Bool, true, false, List, [], ◌∷◌, length, get_or, take, drop}
+use Rattle.std.specs.Prelude.{ℕ, zero, suc, ◌≤◌, ◌<◌, ◌≡◌, refl, Bool, true, false, List, [], ◌∷◌, length, get_or, take, drop, Some, None}
+use Rattle.std.specs.Prelude as std
 use Rattle.std.proofs.Common.{arith, ap, ◌∙◌}
 use Rattle.std.proofs.Math.Path.{sym}
 use Rattle.std.proofs.Math.Option.{Option, none}
@@ -15,8 +16,9 @@ use Rattle.text.specs.declared.Line.{Line}
 use Rattle.read_expression.specs.Reading.{here}
 use Rattle.entries.specs.Entries.{EntryHead, keywords, keyword_of, fields_of}
 use Rattle.entries.specs.Heads.{IsHead}
-use Rattle.entries.specs.HeadFields.{HeadIsHere, clause_fields, head-is-as, no-head, head-fields}
+use Rattle.entries.specs.HeadFields.{HeadIsHere, clause_fields, head-is-as, no-head, head-wrong, head-fits}
 use Rattle.entries.specs.declared.Head.{Head}
+use Rattle.entries.specs.declared.Record.TheVariants as R
 
 -- KEYWORDS
 -- the word that was found
@@ -102,23 +104,32 @@ module _ (t : Bytes) (p : ℕ) (f : Line) (g : Fields t p f) {k kind : ℕ} (m :
       go false s = refl
       go true s = absurd (q (e ∙ ap (find _) (same_true _ _ s) ∙ kind-found kind m))
 
-  pub head-missing : (b : Option Bytes) (r : Head) → (k ≡ kind → ⊥) → r.state ≡ 0 → (l c n : ℕ) → IsHead t kind b (here t p l c n) r
-  head-missing b r q z l c n = no-head t kind b _ r z (kind-not q l c n)
+  pub head-missing : (b : Option Bytes) → (k ≡ kind → ⊥) → (l c n : ℕ) → IsHead t kind b (here t p l c n) R.Missing
+  head-missing b q l c n = no-head t kind b _ refl (kind-not q l c n)
 
-  -- the kinds by what they make of their fields
-  head_as : (m : List Word → Option EntryHead) (b : Option Bytes) (r : Head) → k ≡ kind → ((ws : List Word) → fields_of kind b ws ≡ m ws) → HeadIsHere t p m r → (l c n : ℕ) → IsHead t kind b (here t p l c n) r
+  pub head-unfit : (b : Option Bytes) → k ≡ kind → HeadIsHere t p (fields_of kind b) None → (l c n : ℕ) → IsHead t kind b (here t p l c n) R.Wrong
   unfolding HeadIsHere
-  head_as m b r q w s l c n = head-fields t kind b _ r (kind-here q l c n) (head-is-as t _ _ r (w _) (s l c n))
+  head-unfit b q s l c n = head-wrong t kind b _ (kind-here q l c n) (s l c n)
 
-  pub head-by : (j : ℕ) (b : Option Bytes) (r : Head) → k ≡ kind → k ≡ j → (j ≡ 10 → ⊥) → HeadIsHere t p (fields_of j none) r → (l c n : ℕ) → IsHead t kind b (here t p l c n) r
-  head-by j b r q z d = let y : kind ≡ j = sym q ∙ z in head_as (fields_of j none) b r q (λ ws. rw y (last-unused j b ws d))
+  pub head-fit : (b : Option Bytes) (r : Head) → k ≡ kind → HeadIsHere t p (fields_of kind b) (Some r) → (l c n : ℕ) → IsHead t kind b (here t p l c n) (R.Fits r)
+  unfolding HeadIsHere
+  head-fit b r q s l c n = head-fits t kind b _ r (kind-here q l c n) (s l c n)
 
-  pub head-set : (b : Option Bytes) (r : Head) → k ≡ kind → k ≡ 10 → HeadIsHere t p (fields_of 10 b) r → (l c n : ℕ) → IsHead t kind b (here t p l c n) r
-  head-set b r q z = let y : kind ≡ 10 = sym q ∙ z in head_as (fields_of 10 b) b r q (λ ws. rw y)
+-- the kinds by what they make of their fields
+module _ (t : Bytes) (p kind : ℕ) (b : Option Bytes) (r : std.Option Head) where
+  head_as : (m : List Word → Option EntryHead) → ((ws : List Word) → fields_of kind b ws ≡ m ws) → HeadIsHere t p m r → HeadIsHere t p (fields_of kind b) r
+  unfolding HeadIsHere
+  head_as m w s l c n = head-is-as t _ _ r (w _) (s l c n)
 
-  pub head-columns : (b : Option Bytes) (r : Head) → k ≡ kind → k ≡ 7 → HeadIsHere t p (clause_fields 0) r → (l c n : ℕ) → IsHead t kind b (here t p l c n) r
+  pub head-by : (j : ℕ) → kind ≡ j → (j ≡ 10 → ⊥) → HeadIsHere t p (fields_of j none) r → HeadIsHere t p (fields_of kind b) r
+  head-by j y d = head_as (fields_of j none) (λ ws. rw y (last-unused j b ws d))
+
+  pub head-set : kind ≡ 10 → HeadIsHere t p (fields_of 10 b) r → HeadIsHere t p (fields_of kind b) r
+  head-set y = head_as (fields_of 10 b) (λ ws. rw y)
+
+  pub head-columns : kind ≡ 7 → HeadIsHere t p (clause_fields 0) r → HeadIsHere t p (fields_of kind b) r
   unfolding fields_of clause_fields
-  head-columns b r q z = let y : kind ≡ 7 = sym q ∙ z in head_as (clause_fields 0) b r q (λ ws. rw y)
+  head-columns y = head_as (clause_fields 0) (λ ws. rw y)
 
-  pub head-clause : (b : Option Bytes) (r : Head) → k ≡ kind → (k ≡ 0 → ⊥) → (k ≡ 4 → ⊥) → (k ≡ 7 → ⊥) → (k ≡ 8 → ⊥) → (k ≡ 9 → ⊥) → (k ≡ 10 → ⊥) → (k ≡ 11 → ⊥) → HeadIsHere t p (clause_fields 1) r → (l c n : ℕ) → IsHead t kind b (here t p l c n) r
-  head-clause b r q n0 n4 n7 n8 n9 n10 n11 = head_as (clause_fields 1) b r q (λ ws. rw (← q) (clause-kind k b ws (omega (arith, q)) n0 n4 n7 n8 n9 n10 n11))
+  pub head-clause : kind ≤ 11 → (kind ≡ 0 → ⊥) → (kind ≡ 4 → ⊥) → (kind ≡ 7 → ⊥) → (kind ≡ 8 → ⊥) → (kind ≡ 9 → ⊥) → (kind ≡ 10 → ⊥) → (kind ≡ 11 → ⊥) → HeadIsHere t p (clause_fields 1) r → HeadIsHere t p (fields_of kind b) r
+  head-clause m n0 n4 n7 n8 n9 n10 n11 = head_as (clause_fields 1) (λ ws. clause-kind kind b ws m n0 n4 n7 n8 n9 n10 n11)

@@ -1,5 +1,6 @@
 -- The records of clauses, items, order keys, names and rows, by the number of their fields.
-use Rattle.std.specs.Prelude.{ℕ, zero, suc, ◌+◌, ◌≤◌, ◌<◌, ◌≡◌, true, false, List, [], ◌∷◌, length, take, drop}
+use Rattle.std.specs.Prelude.{ℕ, zero, suc, ◌+◌, ◌≤◌, ◌<◌, ◌≡◌, true, false, List, [], ◌∷◌, length, take, drop, Some, None}
+use Rattle.std.specs.Prelude as std
 use Rattle.std.proofs.Common.{arith, ◌∙◌}
 use Rattle.std.proofs.Math.Path.{refl, sym, ap}
 use Rattle.std.proofs.Math.Option.{Option, none, some}
@@ -19,8 +20,7 @@ use Rattle.text.specs.Records.{no-field, one_field_lem, optional-name}
 use Rattle.text.specs.declared.Line.{Line}
 use Rattle.text.specs.Fields.{Inside, inside-field}
 use Rattle.entries.specs.Entries.{EntryHead, plain_head, named_head, order_head, fields_of}
-use Rattle.entries.specs.Heads.{numbers_of}
-use Rattle.entries.specs.HeadFields.{LineAt, HeadIs, HeadIsHere, clause_fields, name_head, head-is-as, head-none, head_plain}
+use Rattle.entries.specs.HeadFields.{Numbers, LineAt, HeadIs, HeadIsHere, clause_fields, name_head, head-is-as, head-none, head_plain}
 use Rattle.entries.specs.declared.Head.{Head}
 
 -- WHAT THE FIELDS SAY
@@ -59,7 +59,7 @@ module _ (t : Bytes) (p : ℕ) (f : Line) (g : LineAt t p f) where
   abbrev second : Word
   second = field most_bytes t (get_or f.starts 2 0) (get_or f.lens 2 0)
 
-  module _ (r : Head) (m : List Word → Option EntryHead) where
+  module _ (r : std.Option Head) (m : List Word → Option EntryHead) where
     pub with_none : f.count ≡ 1 → HeadIs t (m []) r → HeadIsHere t p m r
     unfolding HeadIsHere
     with_none e s l c k = rw (rest-none statement t p l c k f g.fields e) s
@@ -73,30 +73,30 @@ module _ (t : Bytes) (p : ℕ) (f : Line) (g : LineAt t p f) where
     with_two e s l c k = rw (rest-two statement t p l c k f g.fields e) s
 
     -- neither i fields nor j
-    pub without : (i j : ℕ) → suc i < kept_fields → suc j < kept_fields → (f.count ≡ suc i → ⊥) → (f.count ≡ suc j → ⊥) → ((ws : List Word) → (length ws ≡ i → ⊥) → (length ws ≡ j → ⊥) → m ws ≡ none) → r.state ≡ 1 → HeadIsHere t p m r
+    pub without : (i j : ℕ) → suc i < kept_fields → suc j < kept_fields → (f.count ≡ suc i → ⊥) → (f.count ≡ suc j → ⊥) → ((ws : List Word) → (length ws ≡ i → ⊥) → (length ws ≡ j → ⊥) → m ws ≡ none) → r ≡ None → HeadIsHere t p m r
     unfolding HeadIsHere
     without i j h n e d w s l c k = head-none t _ r (w _ (rest-other statement t p l c k f g.fields i h e) (rest-other statement t p l c k f g.fields j n d)) s
 
-  module _ (r : Head) where
+  module _ (r : std.Option Head) where
     -- clauses
-    pub clause-yes : (e : ℕ) → f.count ≡ 1 → e ≤ 1 → (r.state ≡ 2) × (r.expressions ≡ e) × (numbers_of r ≡ 0 ∷ 0 ∷ 0 ∷ 0 ∷ 0 ∷ 0 ∷ 0 ∷ 0 ∷ 0 ∷ []) → HeadIsHere t p (clause_fields e) r
+    pub clause-yes : (e : ℕ) → f.count ≡ 1 → e ≤ 1 → Numbers r e (0 ∷ 0 ∷ 0 ∷ 0 ∷ 0 ∷ 0 ∷ 0 ∷ 0 ∷ 0 ∷ []) → HeadIsHere t p (clause_fields e) r
     clause-yes e n l s = with_none r (clause_fields e) n (unfold clause_fields no_field map_option in head_plain t (plain_head e) r (unfold plain_head in refl) (unfold plain_head in refl) (unfold plain_head in s) (unfold plain_head in omega (arith, l)))
 
-    pub clause-no : (e : ℕ) → (f.count ≡ 1 → ⊥) → r.state ≡ 1 → HeadIsHere t p (clause_fields e) r
+    pub clause-no : (e : ℕ) → (f.count ≡ 1 → ⊥) → r ≡ None → HeadIsHere t p (clause_fields e) r
     clause-no e n s = without r (clause_fields e) 0 0 (omega arith) (omega arith) n n (λ ws x y. unfold clause_fields map_option in rw (no-field ws x)) s
 
     -- items
-    pub item-plain : f.count ≡ 1 → (r.state ≡ 2) × (r.expressions ≡ 1) × (numbers_of r ≡ 0 ∷ 0 ∷ 0 ∷ 0 ∷ 0 ∷ 0 ∷ 0 ∷ 0 ∷ 0 ∷ []) → HeadIsHere t p (fields_of 0 none) r
+    pub item-plain : f.count ≡ 1 → Numbers r 1 (0 ∷ 0 ∷ 0 ∷ 0 ∷ 0 ∷ 0 ∷ 0 ∷ 0 ∷ 0 ∷ []) → HeadIsHere t p (fields_of 0 none) r
     item-plain n s = with_none r (fields_of 0 none) n (unfold fields_of optional_name map_option in head_plain t (named_head 1 none) r (unfold named_head in refl) (unfold named_head in refl) (unfold named_head in s) (unfold named_head in omega arith))
 
     pub item-named : f.count ≡ 2 → HeadIs t (name_head 1 first) r → HeadIsHere t p (fields_of 0 none) r
     item-named n s = with-one r (fields_of 0 none) n (head-is-as t _ _ r (item-fields first) s)
 
-    pub item-no : (f.count ≡ 1 → ⊥) → (f.count ≡ 2 → ⊥) → r.state ≡ 1 → HeadIsHere t p (fields_of 0 none) r
+    pub item-no : (f.count ≡ 1 → ⊥) → (f.count ≡ 2 → ⊥) → r ≡ None → HeadIsHere t p (fields_of 0 none) r
     item-no n m s = without r (fields_of 0 none) 0 1 (omega arith) (omega arith) n m (λ ws x y. unfold fields_of map_option in rw (optional-name ws x y)) s
 
     -- order keys
-    pub order-no : (f.count ≡ 2 → ⊥) → r.state ≡ 1 → HeadIsHere t p (fields_of 4 none) r
+    pub order-no : (f.count ≡ 2 → ⊥) → r ≡ None → HeadIsHere t p (fields_of 4 none) r
     order-no n s = without r (fields_of 4 none) 1 1 (omega arith) (omega arith) n n (λ ws x y. unfold fields_of map_option in rw (one_field_lem (word directions) ws x)) s
 
     module _ (n : f.count ≡ 2) {k : ℕ} (e : k ≡ find (words_of (bytes "asc desc ")) (take (get_or f.lens 1 0) (drop (get_or f.starts 1 0) t))) where
@@ -104,26 +104,26 @@ module _ (t : Bytes) (p : ℕ) (f : Line) (g : LineAt t p f) where
       unfolding word field
       direction-is = named_by directions (bytes "asc desc ") _ k direction-words e
 
-      pub order-word : 2 ≤ k → r.state ≡ 1 → HeadIsHere t p (fields_of 4 none) r
+      pub order-word : 2 ≤ k → r ≡ None → HeadIsHere t p (fields_of 4 none) r
       order-word l s = with-one r (fields_of 4 none) n (head-none t _ r (order-fields first ∙ rw (direction-is ∙ nth-none directions k (unfold directions in l)) (unfold map_option in refl)) s)
 
-      pub order-yes : k < 2 → (r.state ≡ 2) × (r.expressions ≡ 1) × (numbers_of r ≡ 0 ∷ 0 ∷ k ∷ 0 ∷ 0 ∷ 0 ∷ 0 ∷ 0 ∷ 0 ∷ []) → HeadIsHere t p (fields_of 4 none) r
+      pub order-yes : k < 2 → Numbers r 1 (0 ∷ 0 ∷ k ∷ 0 ∷ 0 ∷ 0 ∷ 0 ∷ 0 ∷ 0 ∷ []) → HeadIsHere t p (fields_of 4 none) r
       order-yes l s = with-one r (fields_of 4 none) n (head-is-as t _ (map_option order_head (nth directions k)) r (order-fields first ∙ ap (map_option order_head) direction-is) (go k l s))
         where
-          go : (k : ℕ) → k < 2 → (r.state ≡ 2) × (r.expressions ≡ 1) × (numbers_of r ≡ 0 ∷ 0 ∷ k ∷ 0 ∷ 0 ∷ 0 ∷ 0 ∷ 0 ∷ 0 ∷ []) → HeadIs t (map_option order_head (nth directions k)) r
+          go : (k : ℕ) → k < 2 → Numbers r 1 (0 ∷ 0 ∷ k ∷ 0 ∷ 0 ∷ 0 ∷ 0 ∷ 0 ∷ 0 ∷ []) → HeadIs t (map_option order_head (nth directions k)) r
           go zero l s = unfold nth directions map_option in head_plain t (order_head false) r (unfold order_head in refl) (unfold order_head in refl) (unfold order_head flag in s) (unfold order_head in omega arith)
           go (suc zero) l s = unfold nth directions map_option in head_plain t (order_head true) r (unfold order_head in refl) (unfold order_head in refl) (unfold order_head flag in s) (unfold order_head in omega arith)
           go (suc (suc k)) l s = absurd (omega arith)
 
     -- names
-    pub name-no : (f.count ≡ 2 → ⊥) → r.state ≡ 1 → HeadIsHere t p (fields_of 8 none) r
+    pub name-no : (f.count ≡ 2 → ⊥) → r ≡ None → HeadIsHere t p (fields_of 8 none) r
     name-no n s = without r (fields_of 8 none) 1 1 (omega arith) (omega arith) n n (λ ws x y. unfold fields_of map_option in rw (one_field_lem name ws x)) s
 
     pub name-yes : f.count ≡ 2 → HeadIs t (name_head 0 first) r → HeadIsHere t p (fields_of 8 none) r
     name-yes n s = with-one r (fields_of 8 none) n (head-is-as t _ _ r (name-fields first) s)
 
     -- rows
-    pub row-no : (f.count ≡ 2 → ⊥) → r.state ≡ 1 → HeadIsHere t p (fields_of 9 none) r
+    pub row-no : (f.count ≡ 2 → ⊥) → r ≡ None → HeadIsHere t p (fields_of 9 none) r
     row-no n s = without r (fields_of 9 none) 1 1 (omega arith) (omega arith) n n (λ ws x y. unfold fields_of map_option in rw (one_field_lem count_field ws x)) s
 
     module _ (n : f.count ≡ 2) where
@@ -131,8 +131,8 @@ module _ (t : Bytes) (p : ℕ) (f : Line) (g : LineAt t p f) where
       unfolding field
       counted v e = sym (e (most_bytes + get_or f.starts 1 0))
 
-      pub row-wrong : ((o : ℕ) → none ≡ count_field (record { bytes = take (get_or f.lens 1 0) (drop (get_or f.starts 1 0) t); start = o })) → r.state ≡ 1 → HeadIsHere t p (fields_of 9 none) r
+      pub row-wrong : ((o : ℕ) → none ≡ count_field (record { bytes = take (get_or f.lens 1 0) (drop (get_or f.starts 1 0) t); start = o })) → r ≡ None → HeadIsHere t p (fields_of 9 none) r
       row-wrong e s = with-one r (fields_of 9 none) n (head-none t _ r (row-fields first ∙ rw (counted none e) (unfold map_option in refl)) s)
 
-      pub row-yes : (k : ℕ) → ((o : ℕ) → some k ≡ count_field (record { bytes = take (get_or f.lens 1 0) (drop (get_or f.starts 1 0) t); start = o })) → (r.state ≡ 2) × (r.expressions ≡ k) × (numbers_of r ≡ 0 ∷ 0 ∷ 0 ∷ 0 ∷ 0 ∷ 0 ∷ 0 ∷ 0 ∷ 0 ∷ []) → HeadIsHere t p (fields_of 9 none) r
+      pub row-yes : (k : ℕ) → ((o : ℕ) → some k ≡ count_field (record { bytes = take (get_or f.lens 1 0) (drop (get_or f.starts 1 0) t); start = o })) → Numbers r k (0 ∷ 0 ∷ 0 ∷ 0 ∷ 0 ∷ 0 ∷ 0 ∷ 0 ∷ 0 ∷ []) → HeadIsHere t p (fields_of 9 none) r
       row-yes k e s = with-one r (fields_of 9 none) n (head-is-as t _ (some (plain_head k)) r (row-fields first ∙ rw (counted (some k) e) (unfold map_option in refl)) (head_plain t (plain_head k) r (unfold plain_head in refl) (unfold plain_head in refl) (unfold plain_head in s) (unfold plain_head in count_small _ k (e 0))))

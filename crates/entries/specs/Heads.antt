@@ -8,6 +8,8 @@ use Rattle.rules.specs.Area.{option_span}
 use Rattle.ast.specs.Names.{NameFits}
 use Rattle.entries.specs.Entries.{EntryHead, keyword_of, fields_of, name_of}
 use Rattle.entries.specs.declared.Head.{Head}
+use Rattle.entries.specs.declared.Record as Re
+use Rattle.entries.specs.declared.Record.TheVariants as R
 
 -- the numbers of an entry behind its line, the number of its expressions and their first row
 unfoldable pub head_numbers : EntryHead → List ℕ
@@ -33,9 +35,8 @@ pub record Entered (t : Bytes) (kind : ℕ) (b : Option Bytes) (p : Place) (r : 
   pub refers : (c : Bytes) → NameFits c t head.reference
   pub last : last_name t r.a r.b ≡ name_of head
 
--- state 0: no such record stands here; 1: its fields do not fit; 2: it says these numbers
-pub record IsHead (t : Bytes) (kind : ℕ) (b : Option Bytes) (p : Place) (r : Head) : Type 0 where
-  pub missing : r.state ≡ 0 → at (keyword_of kind) p ≡ false
-  pub wrong : r.state ≡ 1 → (at (keyword_of kind) p ≡ true) × (fields_of kind b (rest p) ≡ none)
-  pub entered : r.state ≡ 2 → Entered t kind b p r
-  pub states : r.state ≤ 2
+-- no such record stands here; or its fields do not fit; or it says these numbers
+pub record IsHead (t : Bytes) (kind : ℕ) (b : Option Bytes) (p : Place) (r : Re.Record) : Type 0 where
+  pub missing : r ≡ R.Missing → at (keyword_of kind) p ≡ false
+  pub wrong : r ≡ R.Wrong → (at (keyword_of kind) p ≡ true) × (fields_of kind b (rest p) ≡ none)
+  pub entered : (x : Head) → r ≡ R.Fits x → Entered t kind b p x

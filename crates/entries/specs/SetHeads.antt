@@ -1,7 +1,8 @@
 -- The records of sets: names that rise, each with a value or its default.
 use Prim.Native.Nat.{ℕ, zero, suc, ◌-◌, ◌≤◌}
 use Rattle.std.proofs.Common.{arith, sym, ◌∙◌}
-use Rattle.std.specs.Prelude.{◌≡◌, Bool, List, [], ◌∷◌, length, get_or, take, drop}
+use Rattle.std.specs.Prelude.{◌≡◌, Bool, List, [], ◌∷◌, length, get_or, take, drop, Some, None}
+use Rattle.std.specs.Prelude as std
 use Rattle.std.proofs.Math.Path.{refl}
 use Rattle.std.proofs.Math.Bool.{true, false}
 use Rattle.std.proofs.Math.Option.{Option, none, some}
@@ -100,17 +101,17 @@ set-not b (w ∷ (v ∷ [])) h g = absurd (g refl)
 set-not b (w ∷ (v ∷ (u ∷ ws))) h g = refl
 
 -- RECORDS BY THE NUMBER OF THEIR FIELDS
-module _ (t : Bytes) (p : ℕ) (f : Line) (g : LineAt t p f) (r : Head) (b : Option Bytes) where
+module _ (t : Bytes) (p : ℕ) (f : Line) (g : LineAt t p f) (r : std.Option Head) (b : Option Bytes) where
   abbrev first : Word
   first = field most_bytes t (get_or f.starts 1 0) (get_or f.lens 1 0)
 
   abbrev second : Word
   second = field most_bytes t (get_or f.starts 2 0) (get_or f.lens 2 0)
 
-  pub set-count : (f.count ≡ 2 → ⊥) → (f.count ≡ 3 → ⊥) → r.state ≡ 1 → HeadIsHere t p (fields_of 10 b) r
+  pub set-count : (f.count ≡ 2 → ⊥) → (f.count ≡ 3 → ⊥) → r ≡ None → HeadIsHere t p (fields_of 10 b) r
   set-count n m s = without t p f g r (fields_of 10 b) 1 2 (omega arith) (omega arith) n m (λ ws x y. set-fields b _ ∙ set-not b ws x y) s
 
-  pub set_below : 2 ≤ f.count → f.count ≤ 3 → rises b first ≡ false → r.state ≡ 1 → HeadIsHere t p (fields_of 10 b) r
+  pub set_below : 2 ≤ f.count → f.count ≤ 3 → rises b first ≡ false → r ≡ None → HeadIsHere t p (fields_of 10 b) r
   set_below n m h s = go f.count refl n m
     where
       go : (k : ℕ) → f.count ≡ k → 2 ≤ k → k ≤ 3 → HeadIsHere t p (fields_of 10 b) r
@@ -128,7 +129,7 @@ module _ (t : Bytes) (p : ℕ) (f : Line) (g : LineAt t p f) (r : Head) (b : Opt
     unfolding word field
     default-is = named_by defaults (bytes "default ") _ k default-words e
 
-    pub set_other : (k ≡ 0 → ⊥) → r.state ≡ 1 → HeadIsHere t p (fields_of 10 b) r
+    pub set_other : (k ≡ 0 → ⊥) → r ≡ None → HeadIsHere t p (fields_of 10 b) r
     set_other h s = with_two t p f g r (fields_of 10 b) n (head-none t _ r (set-fields b _ ∙ set_word b first second (default-is ∙ nth-none defaults k (unfold defaults in omega (arith, h)))) s)
 
     pub set-two : k ≡ 0 → rises b first ≡ true → HeadIs t (name_head 0 first) r → HeadIsHere t p (fields_of 10 b) r

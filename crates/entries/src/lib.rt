@@ -18,17 +18,9 @@ ghost use Rattle.entries.specs.ColumnWords.{words_head};
 use text::Line;
 use text::places::address;
 
-// The states of a record: none of the kind stands there, its fields do not fit, it says numbers.
-const MISSING: u32 = 0;
-
-const WRONG: u32 = 1;
-
-const FITS: u32 = 2;
-
-// What a record says, by its state: a and b are the address and the length of its name, c and d those of its reference.
+// What a record says: a and b are the address and the length of its name, c and d those of its reference.
 #[derive(Clone, Copy)]
 pub struct Head {
-    pub state: u32,
     pub expressions: u32,
     pub a: u32,
     pub b: u32,
@@ -41,16 +33,23 @@ pub struct Head {
     pub d: u32,
 }
 
-// The numbers of a record that has no names, or zeros.
-fn plain(state: u32, expressions: u32, code: u32) -> Head
-    ensures { (result.state ≡ state) × (result.expressions ≡ expressions) × (numbers_of result ≡ 0 ∷ 0 ∷ code ∷ 0 ∷ 0 ∷ 0 ∷ 0 ∷ 0 ∷ 0 ∷ []) }
+// The record of a kind at a position: none of the kind stands there, its fields do not fit, or what it says.
+#[derive(Clone, Copy)]
+pub enum Record {
+    Missing,
+    Wrong,
+    Fits(Head),
+}
+
+// A record that has no names.
+fn plain(expressions: u32, code: u32) -> Head
+    ensures { (result.expressions ≡ expressions) × (numbers_of result ≡ 0 ∷ 0 ∷ code ∷ 0 ∷ 0 ∷ 0 ∷ 0 ∷ 0 ∷ 0 ∷ []) }
 {
     Head {
-        state: state,
-        expressions: expressions,
+        expressions,
         a: 0,
         b: 0,
-        code: code,
+        code,
         key: 0,
         nullable: 0,
         unique: 0,
@@ -60,35 +59,28 @@ fn plain(state: u32, expressions: u32, code: u32) -> Head
     }
 }
 
-fn wrong() -> Head
-    ensures { result.state ≡ 1 }
-{
-    plain(WRONG, 0, 0)
-}
-
 // A record without fields, and so many expressions.
-fn clause(t: &[u8], p: usize, f: Line, expressions: u32) -> Head
+fn clause(t: &[u8], p: usize, f: Line, expressions: u32) -> Option<Head>
     requires fact_1 { LineAt t.now p f }
     requires fact_2 { expressions ≤ 1 }
     ensures { HeadIsHere t.now p (clause_fields expressions) result }
 {
     if f.count != 1 {
-        return wrong();
+        return None;
     }
-    plain(FITS, expressions, 0)
+    Some(plain(expressions, 0))
 }
 
 // A name, and so many expressions.
-fn name_head(t: &[u8], a: usize, n: usize, expressions: u32) -> Head
+fn name_head(t: &[u8], a: usize, n: usize, expressions: u32) -> Option<Head>
     requires fact_1 { Inside t.now a n }
     requires fact_2 { expressions ≤ 1 }
     ensures { HeadIs t.now (name_head expressions (field most_bytes t.now a n)) result }
 {
     if !text::is_name(n) {
-        return wrong();
+        return None;
     }
-    Head {
-        state: FITS,
+    Some(Head {
         expressions: expressions,
         a: address(a),
         b: n as u32,
@@ -99,61 +91,59 @@ fn name_head(t: &[u8], a: usize, n: usize, expressions: u32) -> Head
         index: 0,
         c: 0,
         d: 0,
-    }
+    })
 }
 
 // An item: its alias or none.
-fn item(t: &[u8], p: usize, f: Line) -> Head
+fn item(t: &[u8], p: usize, f: Line) -> Option<Head>
     requires { LineAt t.now p f }
     ensures { HeadIsHere t.now p (fields_of 0 none) result }
 {
     if f.count == 1 {
-        return plain(FITS, 1, 0);
+        return Some(plain(1, 0));
     }
     if f.count != 2 {
-        return wrong();
+        return None;
     }
     name_head(t, f.starts[1], f.lens[1], 1)
 }
 
 // An order key: its direction.
-fn order(t: &[u8], p: usize, f: Line) -> Head
+fn order(t: &[u8], p: usize, f: Line) -> Option<Head>
     requires { LineAt t.now p f }
     ensures { HeadIsHere t.now p (fields_of 4 none) result }
 {
     if f.count != 2 {
-        return wrong();
+        return None;
     }
     let k = text::which(b"asc desc ", t, f.starts[1], f.lens[1]);
     if 2 <= k {
-        return wrong();
+        return None;
     }
-    plain(FITS, 1, k as u32)
+    Some(plain(1, k as u32))
 }
 
 // An inserted name.
-fn name(t: &[u8], p: usize, f: Line) -> Head
+fn name(t: &[u8], p: usize, f: Line) -> Option<Head>
     requires { LineAt t.now p f }
     ensures { HeadIsHere t.now p (fields_of 8 none) result }
 {
     if f.count != 2 {
-        return wrong();
+        return None;
     }
     name_head(t, f.starts[1], f.lens[1], 0)
 }
 
 // An inserted row: the number of its expressions.
-fn row(t: &[u8], p: usize, f: Line) -> Head
+fn row(t: &[u8], p: usize, f: Line) -> Option<Head>
     requires { LineAt t.now p f }
     ensures { HeadIsHere t.now p (fields_of 9 none) result }
 {
     if f.count != 2 {
-        return wrong();
+        return None;
     }
-    let Some(v) = text::count(t, f.starts[1], f.lens[1]) else {
-        return wrong();
-    };
-    plain(FITS, v as u32, 0)
+    let v = text::count(t, f.starts[1], f.lens[1])?;
+    Some(plain(v as u32, 0))
 }
 
 // The position of an address in the statement's text.
@@ -179,62 +169,61 @@ fn rises(t: &[u8], last: u32, len: u32, a: usize, n: usize) -> bool
 }
 
 // A set: its name, and whether it is set to its default.
-fn set(t: &[u8], p: usize, f: Line, last: u32, len: u32) -> Head
+fn set(t: &[u8], p: usize, f: Line, last: u32, len: u32) -> Option<Head>
     requires { LineAt t.now p f }
     ensures { HeadIsHere t.now p (fields_of 10 (last_name t.now last len)) result }
 {
     let n = f.count;
     if n < 2 {
-        return wrong();
+        return None;
     }
     if 3 < n {
-        return wrong();
+        return None;
     }
     let a = f.starts[1];
     let m = f.lens[1];
     if !rises(t, last, len, a, m) {
-        return wrong();
+        return None;
     }
     if n == 2 {
         return name_head(t, a, m, 1);
     }
     let k = text::which(b"default ", t, f.starts[2], f.lens[2]);
     if k != 0 {
-        return wrong();
+        return None;
     }
     name_head(t, a, m, 0)
 }
 
 // The words of a column's record, without its names: type, `pk`, `null` or `notnull`, `unique`, `index`, `default`.
-fn column_words(t: &[u8], f: Line) -> Head
+fn column_words(t: &[u8], f: Line) -> Option<Head>
     ensures { HeadIs t.now (words_head (field_of statement t.now f)) result }
 {
     let code = text::which(b"bool int float text ", t, f.starts[2], f.lens[2]);
     if 4 <= code {
-        return wrong();
+        return None;
     }
     let key = text::which(b"pk - ", t, f.starts[3], f.lens[3]);
     if 2 <= key {
-        return wrong();
+        return None;
     }
     let nullable = text::which(b"null notnull - ", t, f.starts[4], f.lens[4]);
     if 3 <= nullable {
-        return wrong();
+        return None;
     }
     let unique = text::which(b"unique - ", t, f.starts[5], f.lens[5]);
     if 2 <= unique {
-        return wrong();
+        return None;
     }
     let index = text::which(b"index - ", t, f.starts[6], f.lens[6]);
     if 2 <= index {
-        return wrong();
+        return None;
     }
     let default = text::which(b"default - ", t, f.starts[7], f.lens[7]);
     if 2 <= default {
-        return wrong();
+        return None;
     }
-    Head {
-        state: FITS,
+    Some(Head {
         expressions: 1 - default as u32,
         a: 0,
         b: 0,
@@ -245,16 +234,15 @@ fn column_words(t: &[u8], f: Line) -> Head
         index: 1 - index as u32,
         c: 0,
         d: 0,
-    }
+    })
 }
 
 // The same with the column's name at a, and its reference by its address and length.
 fn column_head(w: Head, a: usize, n: usize, c: u32, d: u32) -> Head
     requires { (a ≤ 65536) × (n ≤ 65536) }
-    ensures { (result.state ≡ 2) × (result.expressions ≡ w.expressions) × (numbers_of result ≡ (most_bytes + a) ∷ n ∷ w.code ∷ w.key ∷ w.nullable ∷ w.unique ∷ w.index ∷ c ∷ d ∷ []) }
+    ensures { (result.expressions ≡ w.expressions) × (numbers_of result ≡ (most_bytes + a) ∷ n ∷ w.code ∷ w.key ∷ w.nullable ∷ w.unique ∷ w.index ∷ c ∷ d ∷ []) }
 {
     Head {
-        state: FITS,
         expressions: w.expressions,
         a: address(a),
         b: n as u32,
@@ -269,67 +257,63 @@ fn column_head(w: Head, a: usize, n: usize, c: u32, d: u32) -> Head
 }
 
 // A new column: its name, its words, its reference or none.
-fn column(t: &[u8], p: usize, f: Line) -> Head
+fn column(t: &[u8], p: usize, f: Line) -> Option<Head>
     requires { LineAt t.now p f }
     ensures { HeadIsHere t.now p (fields_of 11 none) result }
 {
     let n = f.count;
     if n < 8 {
-        return wrong();
+        return None;
     }
     if 9 < n {
-        return wrong();
+        return None;
     }
     let a = f.starts[1];
     let m = f.lens[1];
     let c = f.starts[8];
     let d = f.lens[8];
     if !text::is_name(m) {
-        return wrong();
+        return None;
     }
-    let w = column_words(t, f);
-    if w.state != FITS {
-        return wrong();
-    }
+    let w = column_words(t, f)?;
     if n == 8 {
-        return column_head(w, a, m, 0, 0);
+        return Some(column_head(w, a, m, 0, 0));
     }
     if !text::is_name(d) {
-        return wrong();
+        return None;
     }
-    column_head(w, a, m, address(c), d as u32)
+    Some(column_head(w, a, m, address(c), d as u32))
 }
 
-// The record of a kind at a position, by its fields, behind an entry whose name has this address and length (length 0: none).
-pub fn entry_head(t: &[u8], p: usize, f: Line, kind: u32, last: u32, len: u32) -> Head
+// What the fields of a record of a kind say, behind an entry whose name has this address and length (length 0: none).
+fn fields_head(t: &[u8], p: usize, f: Line, kind: u32, last: u32, len: u32) -> Option<Head>
+    requires fact_1 { LineAt t.now p f }
+    requires fact_2 { kind ≤ 11 }
+    ensures { HeadIsHere t.now p (fields_of kind (last_name t.now last len)) result }
+{
+    match kind {
+        0 => item(t, p, f),
+        4 => order(t, p, f),
+        7 => clause(t, p, f, 0),
+        8 => name(t, p, f),
+        9 => row(t, p, f),
+        10 => set(t, p, f, last, len),
+        11 => column(t, p, f),
+        _ => clause(t, p, f, 1),
+    }
+}
+
+// The record of a kind at a position, by its fields, behind an entry whose name has this address and length.
+pub fn entry_head(t: &[u8], p: usize, f: Line, kind: u32, last: u32, len: u32) -> Record
     requires fact_1 { LineAt t.now p f }
     requires fact_2 { kind ≤ 11 }
     ensures { (l c k : ℕ) → IsHead t.now kind (last_name t.now last len) (here t.now p l c k) result }
 {
-    let k = text::words::part(t, f.starts[0], f.lens[0]);
-    if k != kind as usize {
-        return plain(MISSING, 0, 0);
+    if text::words::part(t, f.starts[0], f.lens[0]) != kind as usize {
+        return Record::Missing;
     }
-    if k == 0 {
-        return item(t, p, f);
+    match fields_head(t, p, f, kind, last, len) {
+        Some(h) => Record::Fits(h),
+        None => Record::Wrong,
     }
-    if k == 4 {
-        return order(t, p, f);
-    }
-    if k == 7 {
-        return clause(t, p, f, 0);
-    }
-    if k == 8 {
-        return name(t, p, f);
-    }
-    if k == 9 {
-        return row(t, p, f);
-    }
-    if k == 10 {
-        return set(t, p, f, last, len);
-    }
-    if k == 11 {
-        return column(t, p, f);
-    }
-    clause(t, p, f, 1)
 }

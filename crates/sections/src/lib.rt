@@ -13,7 +13,7 @@ ghost use Rattle.entries.specs.Heads.{numbers_of};
 ghost use Rattle.sections.specs.OneEntry.{entry_start, EntryReady, EntryRead};
 ghost use Rattle.ast.specs.Table.{table_size};
 
-use entries::{Head, entry_head};
+use entries::{Head, Record, entry_head};
 use numbers::put_four;
 use numbers::refusals::{Reason, Refusal};
 use read_expression::reading::{Cursor, read_expressions};
@@ -115,13 +115,11 @@ fn read_entry(
     ensures { (k : ℕ) → EntryRead t.now at.position at.line at.rows kind n last len cells.old cells.new parts.old parts.new k result }
 {
     let f = text::fields(t, at.position);
-    let h = entry_head(t, at.position, f, kind, last, len);
-    if h.state == 0 {
-        return Ok(None);
-    }
-    if h.state == 1 {
-        return Err(Reason::WrongRecord.at(at.line));
-    }
+    let h = match entry_head(t, at.position, f, kind, last, len) {
+        Record::Missing => return Ok(None),
+        Record::Wrong => return Err(Reason::WrongRecord.at(at.line)),
+        Record::Fits(h) => h,
+    };
     let most = most_of(kind);
     if most <= n {
         return Err(Reason::LimitPassed.at(at.line));

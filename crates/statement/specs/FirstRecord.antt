@@ -1,7 +1,8 @@
 -- A statement's first record, as its kind, its name's place and its flag.
 use Prim.Native.Nat.{ℕ, zero, suc, ◌+◌, ◌-◌, ◌≤◌, ◌<◌}
 use Rattle.std.proofs.Common.{arith, sym, ◌∙◌}
-use Rattle.std.specs.Prelude.{◌≡◌, Bool, true, false, List, [], ◌∷◌, length, get_or, take, drop}
+use Rattle.std.specs.Prelude.{◌≡◌, Bool, true, false, List, [], ◌∷◌, length, get_or, take, drop, Some, None}
+use Rattle.std.specs.Prelude as std
 use Rattle.std.proofs.Math.Path.{refl, ap}
 use Rattle.std.proofs.Math.Option.{Option, none, some}
 use Rattle.rules.specs.Limits.{most_bytes}
@@ -27,34 +28,18 @@ use Rattle.statement.specs.declared.first.First.{First}
 unfoldable pub head_of : ℕ → Word → Bool → StatementHead
 head_of kind n y = coded other_head (select_head ∷ create_head n ∷ drop_head n y ∷ delete_head n ∷ insert_head n ∷ update_head n ∷ []) 1 kind
 
--- none where the kind is 0
-unfoldable pub if_kind : ℕ → StatementHead → Option StatementHead
-if_kind zero h = none
-if_kind (suc k) h = some h
-
 -- what the numbers say, of the catalog c and the statement t
-unfoldable pub first_said : Bytes → Bytes → First → Option StatementHead
-first_said c t r = if_kind r.kind (head_of r.kind (word_at c t r.a r.b) (is_one r.flag))
+unfoldable pub first_said : Bytes → Bytes → std.Option First → Option StatementHead
+first_said c t None = none
+first_said c t (Some r) = some (head_of r.kind (word_at c t r.a r.b) (is_one r.flag))
 
 module _ (c t : Bytes) (r : First) where
-  pub said-none : r.kind ≡ 0 → first_said c t r ≡ none
-  unfolding first_said if_kind
-  said-none e = rw e
-
-  pub said-some : (r.kind ≡ 0 → ⊥) → first_said c t r ≡ some (head_of r.kind (word_at c t r.a r.b) (is_one r.flag))
-  unfolding first_said
-  said-some e = go r.kind e _
-    where
-      go : (k : ℕ) → (k ≡ 0 → ⊥) → (h : StatementHead) → if_kind k h ≡ some h
-      go zero e h = absurd (e refl)
-      go (suc k) e h = unfold if_kind in refl
-
-  pub said-select : r.kind ≡ 1 → first_said c t r ≡ some select_head
-  unfolding first_said if_kind head_of coded
+  pub said-select : r.kind ≡ 1 → first_said c t (Some r) ≡ some select_head
+  unfolding first_said head_of coded
   said-select e = rw e
 
-  pub said-other : r.kind ≡ 7 → first_said c t r ≡ some other_head
-  unfolding first_said if_kind head_of coded
+  pub said-other : r.kind ≡ 7 → first_said c t (Some r) ≡ some other_head
+  unfolding first_said head_of coded
   said-other e = rw e
 
 -- NAMES
@@ -82,8 +67,8 @@ module _ (t : Bytes) (a n : ℕ) (i : Inside t a n) where
     unfolding text_of base_address
     word-is = rw (ea, en) (sym (field-word statement c t a n (omega (arith, i.short, i.inside))))
 
-    pub named_some : (k : ℕ) → 1 ≤ k → k ≤ 4 → is_name n ≡ true → r.kind ≡ get_or (0 ∷ 4 ∷ 5 ∷ 6 ∷ 2 ∷ []) k 0 → first_said c t r ≡ apply (nth statement_heads k) (field most_bytes t a n ∷ [])
-    unfolding first_said if_kind head_of coded statement_heads nth apply one_field map_option
+    pub named_some : (k : ℕ) → 1 ≤ k → k ≤ 4 → is_name n ≡ true → r.kind ≡ get_or (0 ∷ 4 ∷ 5 ∷ 6 ∷ 2 ∷ []) k 0 → first_said c t (Some r) ≡ apply (nth statement_heads k) (field most_bytes t a n ∷ [])
+    unfolding first_said head_of coded statement_heads nth apply one_field map_option
     named_some zero l m h e = absurd (omega arith)
     named_some (suc zero) l m h e = rw (e, word-is, field-name h)
     named_some (suc (suc zero)) l m h e = rw (e, word-is, field-name h)
@@ -118,8 +103,8 @@ module _ (t : Bytes) (a n : ℕ) (i : Inside t a n) where
           go (suc zero) l = unfold answers nth is_one in refl
           go (suc (suc y)) l = absurd (omega arith)
 
-      pub drop-some : (c : Bytes) (r : First) → y < 2 → r.kind ≡ 3 → r.a ≡ most_bytes + a → r.b ≡ n → r.flag ≡ 1 - y → first_said c t r ≡ apply (nth statement_heads 5) (field most_bytes t a n ∷ field most_bytes t b m ∷ [])
-      unfolding first_said if_kind head_of coded statement_heads nth apply two_fields both map_option
+      pub drop-some : (c : Bytes) (r : First) → y < 2 → r.kind ≡ 3 → r.a ≡ most_bytes + a → r.b ≡ n → r.flag ≡ 1 - y → first_said c t (Some r) ≡ apply (nth statement_heads 5) (field most_bytes t a n ∷ field most_bytes t b m ∷ [])
+      unfolding first_said head_of coded statement_heads nth apply two_fields both map_option
       drop-some c r l ek ea en ef = rw (ek, word-is c r ea en, ef, field-name h, answered l)
 
 -- THE RECORD

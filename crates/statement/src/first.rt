@@ -1,6 +1,5 @@
 // A statement's first record, and its numbers at the start of the parts (specs/Layout.antt).
 ghost use Rattle.std.specs.Prelude.{◌≡◌, [], ◌∷◌, ◌≤◌, length};
-ghost use Rattle.std.proofs.Math.Option.{none};
 ghost use Rattle.std.proofs.lemmas.List.Edits.{sets};
 ghost use Rattle.rules.specs.Lists.{Bytes};
 ghost use Rattle.rules.specs.Limits.{most_bytes};
@@ -14,7 +13,7 @@ ghost use Rattle.statement.specs.FirstRecord.{first_said};
 
 use text::places::address;
 
-// The kinds of statements; 0 stands for a wrong record.
+// The kinds of statements.
 pub const SELECT: u32 = 1;
 
 pub const CREATE: u32 = 2;
@@ -50,53 +49,46 @@ fn plain(kind: u32) -> First
     }
 }
 
-// No first record.
-fn wrong() -> First
-    ensures { (c t : Bytes) → first_said c t result ≡ none }
-{
-    plain(0)
-}
-
 // A statement whose one field is a name, by its keyword's number: 1 delete, 2 insert, 3 update, 4 create.
-fn named(t: &[u8], k: usize, a: usize, n: usize) -> First
+fn named(t: &[u8], k: usize, a: usize, n: usize) -> Option<First>
     requires fact_1 { Inside t.now a n }
     requires fact_2 { (1 ≤ k) × (k ≤ 4) }
     ensures { (c : Bytes) → first_said c t.now result ≡ apply (nth statement_heads k) (field most_bytes t.now a n ∷ []) }
 {
     if !text::is_name(n) {
-        return wrong();
+        return None;
     }
     let kinds = [0, DELETE, INSERT, UPDATE, CREATE];
-    First {
+    Some(First {
         kind: kinds[k],
         a: address(a),
         b: n as u32,
         flag: 0,
-    }
+    })
 }
 
 // A `drop`: a name, and yes or no.
-fn dropped(t: &[u8], a: usize, n: usize, b: usize, m: usize) -> First
+fn dropped(t: &[u8], a: usize, n: usize, b: usize, m: usize) -> Option<First>
     requires { Inside t.now a n }
     ensures { (c : Bytes) → first_said c t.now result ≡ apply (nth statement_heads 5) (field most_bytes t.now a n ∷ field most_bytes t.now b m ∷ []) }
 {
     if !text::is_name(n) {
-        return wrong();
+        return None;
     }
     let y = text::which(b"yes no ", t, b, m);
     if 2 <= y {
-        return wrong();
+        return None;
     }
-    First {
+    Some(First {
         kind: DROP,
         a: address(a),
         b: n as u32,
         flag: 1 - y as u32,
-    }
+    })
 }
 
 // The first record of a text, by the fields of its first line.
-pub fn first_record(t: &[u8], f: text::Line) -> First
+pub fn first_record(t: &[u8], f: text::Line) -> Option<First>
     requires fact_1 { length t.now ≤ most_bytes }
     requires fact_2 { Fields t.now 0 f }
     ensures { (c : Bytes) → first_said c t.now result ≡ one_of statement_heads (line_here (here t.now 0 1 0 0)) }
@@ -109,28 +101,28 @@ pub fn first_record(t: &[u8], f: text::Line) -> First
         f.lens[0],
     );
     if 7 <= k {
-        return wrong();
+        return None;
     }
     if k == 0 {
         if n != 1 {
-            return wrong();
+            return None;
         }
-        return plain(SELECT);
+        return Some(plain(SELECT));
     }
     if k == 6 {
         if n != 1 {
-            return wrong();
+            return None;
         }
-        return plain(OTHER);
+        return Some(plain(OTHER));
     }
     if k == 5 {
         if n != 3 {
-            return wrong();
+            return None;
         }
         return dropped(t, f.starts[1], f.lens[1], f.starts[2], f.lens[2]);
     }
     if n != 2 {
-        return wrong();
+        return None;
     }
     named(t, k, f.starts[1], f.lens[1])
 }

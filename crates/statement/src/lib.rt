@@ -83,10 +83,9 @@ pub fn read_statement(
         return Err(Reason::LimitPassed.at(0));
     }
     let line = lines::first_fields(statement);
-    let f = first_record(statement, line);
-    if f.kind == 0 {
+    let Some(f) = first_record(statement, line) else {
         return Err(Reason::WrongRecord.at(1));
-    }
+    };
     put_first(parts, f);
     let behind = read_behind(statement, line.next, f.kind, cells, froms, parts)?;
     Ok(behind.rows)

@@ -1,17 +1,18 @@
 -- `row`: a count.
+use mathlib.Core.Path.{refl}
 use native.Mathlib.Omega.{arith}
 use Rattle.text.specs.Numbers.{count_small}
 use Rattle.entries.specs.HeadRecords.{row-no, row-wrong, row-yes}
 use Rattle.entries.proofs.row.Goals as goal
 
 pub returns-then-f-ne2 : goal.returns-then-f-ne2
-returns-then-f-ne2 c = row-no _ _ _ c.requires _ c.if-f-ne2.true c.wrong.ensures
+returns-then-f-ne2 c = row-no _ _ _ c.requires _ c.if-f-ne2.true refl
 
-pub returns-in_default : goal.returns-in_default
-returns-in_default c = row-wrong _ _ _ c.requires _ c.if-f-ne2.false c.in_default.ensures c.wrong-in_default.ensures
+pub returns-in_err-v : goal.returns-in_err-v
+returns-in_err-v c = row-wrong _ _ _ c.requires _ c.if-f-ne2.false c.in_err-v.ensures c.from_residual.ensures
 
 pub overflow_cast-v : goal.overflow_cast-v
-overflow_cast-v c = record { fits = omega (arith, count_small _ _ (c.in-Some.ensures 0)) }
+overflow_cast-v c = record { fits = omega (arith, count_small _ _ (c.in_ok-v.ensures 0)) }
 
 pub returns : goal.returns
-returns c = row-yes _ _ _ c.requires _ c.if-f-ne2.false _ c.in-Some.ensures c.plain.ensures
+returns c = row-yes _ _ _ c.requires _ c.if-f-ne2.false _ c.in_ok-v.ensures (_, refl, c.plain.ensures.0, c.plain.ensures.1)

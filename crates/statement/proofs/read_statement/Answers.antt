@@ -8,14 +8,14 @@ use Rattle.statement.proofs.read_statement.Goals as goal
 pub returns-then-statement : goal.returns-then-statement
 returns-then-statement c = rw c.at.ensures (too_long _ _ _ _ c.if-statement.true)
 
-pub returns-then-f-eq0 : goal.returns-then-f-eq0
-returns-then-f-eq0 c = rw c.at-then-f-eq0.ensures (wrong_first _ _ c.first_record-f.ensures (omega (arith, c.if-statement.false)) _ _ _ c.if-f-eq0.true)
+pub returns-in_default : goal.returns-in_default
+returns-in_default c = rw c.at-in_default.ensures (wrong_first _ c.in_default.ensures (omega (arith, c.if-statement.false)) _ _ _)
 
 pub read_behind-requires : goal.read_behind-requires
-read_behind-requires c = record { fact_1 = rw c.first_fields-line.ensures.next (second-line _ _ c.first_record-f.ensures (omega (arith, c.if-statement.false)) c.if-f-eq0.false); fact_2 = record { rows = search rules; from-rows = search rules; numbers = search rules } }
+read_behind-requires c = record { fact_1 = rw c.first_fields-line.ensures.next (second-line _ _ c.in-Some.ensures (omega (arith, c.if-statement.false))); fact_2 = record { rows = search rules; from-rows = search rules; numbers = search rules } }
 
 pub returns-in_err-behind : goal.returns-in_err-behind
-returns-in_err-behind c = let p = err_from_is_err_and c.from_residual.result c.from_residual.ensures.1 in rw (p.1, p.2) (statement-refused _ _ c.first_record-f.ensures (omega (arith, c.if-statement.false)) c.if-f-eq0.false _ _ c.args.parts.now _ _ c.put_first.ensures (omega arith) _ c.first_fields-line.ensures.next _ c.in_err-behind.ensures)
+returns-in_err-behind c = let p = err_from_is_err_and c.from_residual.result c.from_residual.ensures.1 in rw (p.1, p.2) (statement-refused _ _ c.in-Some.ensures (omega (arith, c.if-statement.false)) _ _ c.args.parts.now _ _ c.put_first.ensures (omega arith) _ c.first_fields-line.ensures.next _ c.in_err-behind.ensures)
 
 pub returns : goal.returns
-returns c = statement-read _ _ c.first_record-f.ensures (omega (arith, c.if-statement.false)) c.if-f-eq0.false _ _ c.args.parts.now _ _ c.put_first.ensures (omega arith) _ c.first_fields-line.ensures.next _ c.in_ok-behind.ensures
+returns c = statement-read _ _ c.in-Some.ensures (omega (arith, c.if-statement.false)) _ _ c.args.parts.now _ _ c.put_first.ensures (omega arith) _ c.first_fields-line.ensures.next _ c.in_ok-behind.ensures
