@@ -1,5 +1,5 @@
 -- What the reader of expressions has at each of its answers: the rules' reading so far, and the rows written.
-use Rattle.std.specs.Prelude.{ℕ, suc, ◌+◌, ◌*◌, ◌-◌, ◌≤◌, ◌<◌, ◌≡◌, List, [], ◌∷◌, ◌++◌, length, Result, Ok, Err}
+use Rattle.std.specs.Prelude.{ℕ, suc, ◌+◌, ◌*◌, ◌-◌, ◌≤◌, ◌<◌, ◌≡◌, List, [], ◌∷◌, ◌++◌, length, Result, Ok, Err, Some, None}
 use Rattle.std.proofs.Common.{arith, add-zero, sym, ◌∙◌, append-nil, length-append}
 use Rattle.std.proofs.Math.Path.{refl, ap}
 use Rattle.std.proofs.Math.Option.{some}
@@ -27,7 +27,7 @@ use Rattle.read_expression.specs.declared.heads.Row.{Row}
 use Rattle.read_expression.specs.Encode.{head_numbers, is_numbers, arity, row_of, encode, encode_all}
 use Rattle.read_expression.proofs.Encoded.{encode-length}
 use Rattle.read_expression.specs.Fits.{Fits, FitsAll}
-use Rattle.read_expression.specs.RowOf.{RowOf}
+use Rattle.read_expression.specs.RowOf.{RowIs, RowOf}
 use Rattle.read_expression.specs.Reading.{here, Position, Took, Given, Rows, IsRow}
 use Rattle.read_expression.specs.RecordHere.{row-of-none, row-of-some, row-of-is, row-of-not-is, head-inside, literal-inside, position-next, line-passed, literal-wrong, literal-read, deep-wrong, deep-full, deep-cut, deep-read}
 use Rattle.read_expression.specs.Times.{joined, joined-none, before, before-none, before-twice, times-end, times-no, times-on, times-count}
@@ -143,36 +143,36 @@ unfolding size
 is-length l a v = omega (arith, encode-length (is l a v), encode-length a, ap length (is-built l a v), length-append (row_of l (suc (size a)) (is_numbers v)) (encode a))
 
 -- where the operands stand
-pub operands-position : {t : Bytes} {p l c q : ℕ} {row : Row} → Position t p l c → ((l c k : ℕ) → RowOf t (one_of heads (line_here (here t p l c k))) row) → (row.kind ≡ 0 → ⊥) → c < most_cells → q ≡ line_end t p
+pub operands-position : {t : Bytes} {p l c q : ℕ} {row : Row} → Position t p l c → ((l c k : ℕ) → RowOf t (one_of heads (line_here (here t p l c k))) (Some row)) → c < most_cells → q ≡ line_end t p
     → Position t q (l + 1) (c + 1)
-operands-position {t} {p} {l} {c} w s z m f = let h = row-of-some (s l c 0) z in position-next w (head-inside t p l c 0 h.0 h.1) f (omega arith)
+operands-position {t} {p} {l} {c} w s m f = let h = row-of-some (s l c 0) in position-next w (head-inside t p l c 0 h.0 h.1) f (omega arith)
 
-module _ {t : Bytes} (p l c k : ℕ) {row : Row} (s : (l c k : ℕ) → RowOf t (one_of heads (line_here (here t p l c k))) row) (d : ℕ) (H : ℕ → Expr → Type 0) where
-  pub no_record : row.kind ≡ 0 → Given (deep d) H t p l c k (Err (record { reason = WrongRecord; line = l }))
-  no_record z = gives-wrong _ _ _ _ _ _ _ l (deep-wrong t p l c k d (row-of-none (s l c k) z))
+module _ {t : Bytes} (p l c k d : ℕ) (H : ℕ → Expr → Type 0) where
+  pub no_record : ((l c k : ℕ) → RowOf t (one_of heads (line_here (here t p l c k))) None) → Given (deep d) H t p l c k (Err (record { reason = WrongRecord; line = l }))
+  no_record s = gives-wrong _ _ _ _ _ _ _ l (deep-wrong t p l c k d (row-of-none (s l c k)))
 
-  module _ (z : row.kind ≡ 0 → ⊥) where
+  module _ {row : Row} (s : (l c k : ℕ) → RowOf t (one_of heads (line_here (here t p l c k))) (Some row)) where
     pub no_room : most_cells ≤ c → Given (deep d) H t p l c k (Err (record { reason = LimitPassed; line = l }))
-    no_room m = let h = row-of-some (s l c k) z in gives-limit _ _ _ _ _ _ _ l (deep-full t p l c k d h.0 h.1 m)
+    no_room m = let h = row-of-some (s l c k) in gives-limit _ _ _ _ _ _ _ l (deep-full t p l c k d h.0 h.1 m)
 
     pub too-deep : c < most_cells → d ≡ 0 → Given (deep d) H t p l c k (Err (record { reason = LimitPassed; line = l }))
-    too-deep m e = let h = row-of-some (s l c k) z in gives-limit _ _ _ _ _ _ _ l (deep-cut t p l c k d h.0 h.1 m e)
+    too-deep m e = let h = row-of-some (s l c k) in gives-limit _ _ _ _ _ _ _ l (deep-cut t p l c k d h.0 h.1 m e)
 
     -- its operands are read
     module _ (m : c < most_cells) (y : d ≡ 0 → ⊥) {q : ℕ} (f : q ≡ line_end t p) where
       operands-refused : (x : Refusal) → times row.operands (deep (d - 1)) (here t q (l + 1) (c + 1) k) ≡ refused x → deep d (here t p l c k) ≡ refused x
       operands-refused x e =
-          let h = row-of-some (s l c k) z in
+          let h = row-of-some (s l c k) in
           deep-read t p l c k d h.0 h.1 m y f ∙ operands-no h.0 l (deep (d - 1)) _ x (ap (λ n. times n (deep (d - 1)) (here t q (l + 1) (c + 1) k)) (sym h.2.many) ∙ e)
 
       pub operands-no-more : (G : ℕ → Exprs → Type 0) (w : code.Refusal) → Given (times row.operands (deep (d - 1))) G t q (l + 1) (c + 1) k (Err w) → Given (deep d) H t p l c k (Err w)
       operands-no-more G w g = gives-refused _ _ _ _ _ _ _ w (operands-refused _ (given-refused _ G _ _ _ _ _ w g))
 
-module _ {t : Bytes} (p l c k : ℕ) {row : Row} (s : (l c k : ℕ) → RowOf t (one_of heads (line_here (here t p l c k))) row) (d : ℕ) (z : row.kind ≡ 0 → ⊥) (m : c < most_cells)
+module _ {t : Bytes} (p l c k : ℕ) {row : Row} (s : (l c k : ℕ) → RowOf t (one_of heads (line_here (here t p l c k))) (Some row)) (d : ℕ) (m : c < most_cells)
     (y : d ≡ 0 → ⊥) {q : ℕ} (f : q ≡ line_end t p) (cells cells₁ : List ℕ) (p₁ l₁ c₁ : ℕ)
     (g : Given (times row.operands (deep (d - 1))) (Rows t (c + 1) cells cells₁) t q (l + 1) (c + 1) k (Ok (record { position = p₁; line = l₁; rows = c₁ }))) where
-  h : (x : Head) × (one_of heads (line_here (here t p l c k)) ≡ some x) × RowOf t (some x) row
-  h = row-of-some (s l c k) z
+  h : (x : Head) × (one_of heads (line_here (here t p l c k)) ≡ some x) × RowIs t x row
+  h = row-of-some (s l c k)
 
   took : Took (times row.operands (deep (d - 1))) (Rows t (c + 1) cells cells₁ c₁) t q (l + 1) (c + 1) k p₁ l₁ c₁
   took = given-done _ _ _ _ _ _ _ _ g
@@ -249,11 +249,11 @@ module _ {t : Bytes} (p l c k : ℕ) {row : Row} (s : (l c k : ℕ) → RowOf t 
     deep_is cells₂ (Ok a) v = gives-done _ _ _ _ _ _ _ a.position a.line a.rows (is-took cells₂ a.position a.line a.rows (given-done _ _ _ _ _ _ _ a v))
 
 -- A LEAF
-module _ {t : Bytes} (p l c k : ℕ) {row : Row} (s : (l c k : ℕ) → RowOf t (one_of heads (line_here (here t p l c k))) row) (d : ℕ) (z : row.kind ≡ 0 → ⊥) (o : row.operands ≡ 0) where
+module _ {t : Bytes} (p l c k : ℕ) {row : Row} (s : (l c k : ℕ) → RowOf t (one_of heads (line_here (here t p l c k))) (Some row)) (d : ℕ) (o : row.operands ≡ 0) where
   no-is : row.kind ≡ 7 → ⊥
   unfolding arity
   no-is i =
-      let h = row-of-some (s l c k) z in
+      let h = row-of-some (s l c k) in
       let e : row.operands ≡ 1 = h.2.many ∙ rw (row-of-is h.0 h.2 i) in
       omega (arith, e, o)
 
@@ -263,5 +263,5 @@ module _ {t : Bytes} (p l c k : ℕ) {row : Row} (s : (l c k : ℕ) → RowOf t 
       → Given (deep d) (λ c' e. Rows t c cells cells' c' (cons e nil)) t p l c k (Ok (record { position = q; line = l + 1; rows = c + 1 }))
   leaf-done w m y {q} f cells cells' e =
       let one : c + 1 - c ≡ 1 = omega arith in
-      let g : Given (times row.operands (deep (d - 1))) (Rows t (c + 1) cells cells) t q (l + 1) (c + 1) k (Ok (record { position = q; line = l + 1; rows = c + 1 })) = loop-end (loop-start (operands-position w s z m f)) (omega (arith, o)) in
-      deep-done p l c k s d z m y f cells cells q (l + 1) (c + 1) g cells' no-is (rw one e)
+      let g : Given (times row.operands (deep (d - 1))) (Rows t (c + 1) cells cells) t q (l + 1) (c + 1) k (Ok (record { position = q; line = l + 1; rows = c + 1 })) = loop-end (loop-start (operands-position w s m f)) (omega (arith, o)) in
+      deep-done p l c k s d m y f cells cells q (l + 1) (c + 1) g cells' no-is (rw one e)

@@ -2,7 +2,7 @@
 use Prim.Native.Nat.{ℕ, ◌+◌}
 use Rattle.std.proofs.Common.{arith, ap, ◌∙◌}
 use Rattle.std.proofs.Math.Path.{◌≡◌, sym}
-use Rattle.std.specs.Prelude.{refl, true, false, [], ◌∷◌, take, drop}
+use Rattle.std.specs.Prelude.{refl, true, false, [], ◌∷◌, take, drop, Some}
 use Rattle.std.proofs.Math.Option.{Option, none, some}
 use Rattle.rules.specs.Limits.{most_bytes}
 use Rattle.rules.specs.Lists.{Bytes, map_option}
@@ -17,7 +17,7 @@ use Rattle.numbers.specs.Values.{WordFits}
 use Rattle.read_expression.specs.declared.heads.Row.{Row}
 use Rattle.read_expression.specs.Encode.{head_numbers, arity}
 use Rattle.read_expression.specs.Fits.{ColumnFits, HeadFits}
-use Rattle.read_expression.specs.RowOf.{numbers_of, RowOf}
+use Rattle.read_expression.specs.RowOf.{numbers_of, RowSays, RowOf}
 
 -- FIELDS
 module _ (t : Bytes) (a n : ℕ) (i : Inside t a n) where
@@ -38,14 +38,16 @@ module _ (t : Bytes) (a n : ℕ) (i : Inside t a n) where
   unfolding column_fields map_option
   column-none h = rw (field-none h)
 
-  pub column-some : (r : Row) → is_name n ≡ true → numbers_of r ≡ 2 ∷ 0 ∷ (most_bytes + a) ∷ n ∷ 0 ∷ 0 ∷ [] → r.operands ≡ 0 → RowOf t (column_fields (field most_bytes t a n ∷ [])) r
-  unfolding column_fields map_option
-  column-some r h e o = rw (field-name h) (record {
-    is = unfold head_numbers field in rw (field-length t a n i) (sym e);
-    many = unfold arity in o;
-    small = omega arith;
-    fits = λ c. unfold HeadFits ColumnFits in field_fits c;
-  })
+  pub column-some : (r : Row) → is_name n ≡ true → numbers_of r ≡ 2 ∷ 0 ∷ (most_bytes + a) ∷ n ∷ 0 ∷ 0 ∷ [] → r.operands ≡ 0 → RowOf t (column_fields (field most_bytes t a n ∷ [])) (Some r)
+  unfolding RowSays column_fields map_option
+  column-some r h e o = record {
+    says = rw (field-name h) (record {
+      is = unfold head_numbers field in rw (field-length t a n i) (sym e);
+      many = unfold arity in o;
+      small = omega arith;
+      fits = λ c. unfold HeadFits ColumnFits in field_fits c;
+    });
+  }
 
   module _ (b m : ℕ) where
     pub call-unnamed : is_name n ≡ false → call_fields (field most_bytes t a n ∷ field most_bytes t b m ∷ []) ≡ none
@@ -61,14 +63,16 @@ module _ (t : Bytes) (a n : ℕ) (i : Inside t a n) where
     call-uncounted h g = rw (field-name h, counted-as none g)
 
     pub call-some : (k : ℕ) (r : Row) → is_name n ≡ true → ((o : ℕ) → some k ≡ count_field (record { bytes = take m (drop b t); start = o }))
-        → numbers_of r ≡ 4 ∷ k ∷ (most_bytes + a) ∷ n ∷ 0 ∷ 0 ∷ [] → r.operands ≡ k → RowOf t (call_fields (field most_bytes t a n ∷ field most_bytes t b m ∷ [])) r
-    unfolding call_fields two_fields both map_option
-    call-some k r h g e o = rw (field-name h, counted-as (some k) g) (record {
-      is = unfold head_numbers field in rw (field-length t a n i) (sym e);
-      many = unfold arity in o;
-      small = omega (arith, count_small _ k (g 0));
-      fits = λ c. unfold HeadFits in field_fits c;
-    })
+        → numbers_of r ≡ 4 ∷ k ∷ (most_bytes + a) ∷ n ∷ 0 ∷ 0 ∷ [] → r.operands ≡ k → RowOf t (call_fields (field most_bytes t a n ∷ field most_bytes t b m ∷ [])) (Some r)
+    unfolding RowSays call_fields two_fields both map_option
+    call-some k r h g e o = record {
+      says = rw (field-name h, counted-as (some k) g) (record {
+        is = unfold head_numbers field in rw (field-length t a n i) (sym e);
+        many = unfold arity in o;
+        small = omega (arith, count_small _ k (g 0));
+        fits = λ c. unfold HeadFits in field_fits c;
+      });
+    }
 
 module _ (t : Bytes) (a n b m : ℕ) (i : Inside t a n) (j : Inside t b m) where
   pub qualified-first : is_name n ≡ false → column_fields (field most_bytes t a n ∷ field most_bytes t b m ∷ []) ≡ none
@@ -80,11 +84,13 @@ module _ (t : Bytes) (a n b m : ℕ) (i : Inside t a n) (j : Inside t b m) where
   qualified-second h g = rw (field-name t a n i h, field-none t b m j g)
 
   pub qualified-some : (r : Row) → is_name n ≡ true → is_name m ≡ true → numbers_of r ≡ 3 ∷ 0 ∷ (most_bytes + b) ∷ m ∷ (most_bytes + a) ∷ n ∷ [] → r.operands ≡ 0
-      → RowOf t (column_fields (field most_bytes t a n ∷ field most_bytes t b m ∷ [])) r
-  unfolding column_fields map_option both
-  qualified-some r h g e o = rw (field-name t a n i h, field-name t b m j g) (record {
-    is = unfold head_numbers field in rw (field-length t a n i, field-length t b m j) (sym e);
-    many = unfold arity in o;
-    small = omega arith;
-    fits = λ c. unfold HeadFits ColumnFits in (field_fits t a n i c, field_fits t b m j c);
-  })
+      → RowOf t (column_fields (field most_bytes t a n ∷ field most_bytes t b m ∷ [])) (Some r)
+  unfolding RowSays column_fields map_option both
+  qualified-some r h g e o = record {
+    says = rw (field-name t a n i h, field-name t b m j g) (record {
+      is = unfold head_numbers field in rw (field-length t a n i, field-length t b m j) (sym e);
+      many = unfold arity in o;
+      small = omega arith;
+      fits = λ c. unfold HeadFits ColumnFits in (field_fits t a n i c, field_fits t b m j c);
+    });
+  }

@@ -16,19 +16,21 @@ use Rattle.literal.specs.declared.record.Literal.{Literal}
 use Rattle.read_expression.specs.declared.heads.Row.{Row}
 use Rattle.read_expression.specs.Encode.{head_numbers, arity}
 use Rattle.read_expression.specs.Fits.{HeadFits}
-use Rattle.read_expression.specs.RowOf.{numbers_of, RowOf}
+use Rattle.read_expression.specs.RowOf.{numbers_of, RowSays, RowOf}
 
 pub row-none : (t : Bytes) (o : Option Value) (v : std.Option Literal) → IsLiteral most_bytes t o v → v ≡ std.None → map_option value_head o ≡ none
 unfolding map_option
 row-none t o v s e = rw (literal-none s e)
 
-pub row-some : (t : Bytes) (o : Option Value) (l : std.Option Literal) (v : Literal) (r : Row) → IsLiteral most_bytes t o l → l ≡ std.Some v → numbers_of r ≡ 8 ∷ v.kind ∷ v.a ∷ v.b ∷ 0 ∷ 0 ∷ [] → r.operands ≡ 0 → RowOf t (map_option value_head o) r
-unfolding base_address text_of
+pub row-some : (t : Bytes) (o : Option Value) (l : std.Option Literal) (v : Literal) (r : Row) → IsLiteral most_bytes t o l → l ≡ std.Some v → numbers_of r ≡ 8 ∷ v.kind ∷ v.a ∷ v.b ∷ 0 ∷ 0 ∷ [] → r.operands ≡ 0 → RowOf t (map_option value_head o) (std.Some r)
+unfolding RowSays base_address text_of
 row-some t o l v r s e n z =
     let x = literal-some v s e in
-    rw x.1 (unfold map_option in record {
-      is = unfold head_numbers in rw x.2 (sym n);
-      many = unfold arity in z;
-      small = omega arith;
-      fits = λ c. unfold HeadFits in x.3 statement refl c t refl;
-    })
+    record {
+      says = rw x.1 (unfold map_option in record {
+        is = unfold head_numbers in rw x.2 (sym n);
+        many = unfold arity in z;
+        small = omega arith;
+        fits = λ c. unfold HeadFits in x.3 statement refl c t refl;
+      });
+    }

@@ -1,5 +1,6 @@
 -- The operators' rows, by their number in the table of words.
 use Rattle.std.specs.Prelude.{ℕ, zero, suc, ◌≤◌, ◌<◌, ◌≡◌, refl, List, [], ◌∷◌, length, get_or, take, drop}
+use Rattle.std.specs.Prelude as std
 use Rattle.std.proofs.Common.{arith, sym, ◌∙◌}
 use Rattle.std.proofs.Math.Option.{none, some}
 use Rattle.rules.specs.Limits.{most_bytes}
@@ -15,7 +16,7 @@ use Rattle.text.specs.Packed.{Keywords, number, numbers, are_bytes, is_word, are
 use Rattle.read_expression.specs.declared.heads.Row.{Row}
 use Rattle.read_expression.specs.Encode.{head_numbers, arity}
 use Rattle.read_expression.specs.Fits.{HeadFits}
-use Rattle.read_expression.specs.RowOf.{numbers_of, RowOf}
+use Rattle.read_expression.specs.RowOf.{Plain, RowSays, RowOf}
 
 -- a record with no place and no literal
 pub record Plainly (h : Head) (kind code n : ℕ) : Type 0 where
@@ -24,13 +25,16 @@ pub record Plainly (h : Head) (kind code n : ℕ) : Type 0 where
   pub small : n ≤ 2
   pub fits : (c t : Bytes) → HeadFits c t (some h)
 
-pub row-of-plain : (t : Bytes) (h : Head) (r : Row) (kind code n : ℕ) → Plainly h kind code n → (numbers_of r ≡ kind ∷ code ∷ 0 ∷ 0 ∷ 0 ∷ 0 ∷ []) × (r.operands ≡ n) → RowOf t (some h) r
-row-of-plain t h r kind code n p e = record {
-  is = p.is ∙ sym e.0;
-  many = e.1 ∙ p.many;
-  small = omega (arith, e.1, p.small);
-  fits = λ c. p.fits c t;
-}
+pub row-of-plain : (t : Bytes) (h : Head) (r : std.Option Row) (kind code n : ℕ) → Plainly h kind code n → Plain r kind code n → RowOf t (some h) r
+unfolding RowSays
+row-of-plain t h r kind code n p e = rw e.1 (record {
+  says = record {
+    is = p.is ∙ sym e.2;
+    many = e.3 ∙ p.many;
+    small = omega (arith, e.3, p.small);
+    fits = λ c. p.fits c t;
+  };
+})
 
 unary-plainly : (o : Unary) → Plainly (unary_head o) 5 (unary_code o) 1
 unfolding head_numbers arity HeadFits
@@ -94,7 +98,7 @@ module _ (t : Bytes) (a n k : ℕ) (words : Bytes) (e : keys operators ≡ words
   pub operator-none : 20 ≤ k → word operators (field most_bytes t a n) ≡ none
   operator-none l = operator-is ∙ nth-none operators k (unfold operators in l)
 
-  pub operator-some : (r : Row) → k < 20 → (numbers_of r ≡ get_or kinds k 0 ∷ get_or codes k 0 ∷ 0 ∷ 0 ∷ 0 ∷ 0 ∷ []) × (r.operands ≡ get_or counts k 0) → RowOf t (word operators (field most_bytes t a n)) r
+  pub operator-some : (r : std.Option Row) → k < 20 → Plain r (get_or kinds k 0) (get_or codes k 0) (get_or counts k 0) → RowOf t (word operators (field most_bytes t a n)) r
   operator-some r l p =
       let b = beside_at operators kinds codes counts k operators-beside (unfold operators in l) in
       rw (operator-is ∙ b.1) (row-of-plain t b.0 r _ _ _ b.2 p)

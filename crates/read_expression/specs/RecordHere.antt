@@ -2,7 +2,7 @@
 use Prim.Native.Nat.{ℕ, zero, suc, ◌+◌, ◌-◌, ◌≤◌, ◌<◌}
 use Rattle.std.proofs.Common.{arith, add-one, sym, ap, ◌∙◌, drop_of_length-le}
 use Rattle.std.proofs.Math.Decide.{dec_lt}
-use Rattle.std.specs.Prelude.{◌≡◌, [], ◌∷◌, length}
+use Rattle.std.specs.Prelude.{◌≡◌, [], ◌∷◌, length, Some, None}
 use Rattle.std.proofs.Math.Path.{refl}
 use Rattle.std.proofs.Math.Option.{Option, none, some}
 use borrow.Author.Tests.{lt-ltb, le-ltb}
@@ -20,28 +20,21 @@ use Rattle.text.specs.Reading.{place, place-next}
 use Rattle.text.specs.Answers.{wrong_at, limit_at, bind_ok, bind-no}
 use Rattle.read_expression.specs.declared.heads.Row.{Row}
 use Rattle.read_expression.specs.Encode.{head_numbers}
-use Rattle.read_expression.specs.RowOf.{RowOf}
+use Rattle.read_expression.specs.RowOf.{RowIs, RowSays, RowOf}
 use Rattle.read_expression.specs.Reading.{here, Position}
 
 -- WHAT A ROW SAYS
-pub row-of-none : {t : Bytes} {h : Option Head} {r : Row} → RowOf t h r → r.kind ≡ 0 → h ≡ none
-unfolding head_numbers value_numbers
-row-of-none {h = none} s e = refl
-row-of-none {h = some star_head} s e = let z : ◌≡◌ {A = ℕ} 1 0 = cc s.is in absurd (omega arith)
-row-of-none {h = some is_head} s e = let z : ◌≡◌ {A = ℕ} 7 0 = cc s.is in absurd (omega arith)
-row-of-none {h = some (column_head none n)} s e = let z : ◌≡◌ {A = ℕ} 2 0 = cc s.is in absurd (omega arith)
-row-of-none {h = some (column_head (some t) n)} s e = let z : ◌≡◌ {A = ℕ} 3 0 = cc s.is in absurd (omega arith)
-row-of-none {h = some (value_head v)} s e = let z : ◌≡◌ {A = ℕ} 8 0 = cc s.is in absurd (omega arith)
-row-of-none {h = some (call_head n k)} s e = let z : ◌≡◌ {A = ℕ} 4 0 = cc s.is in absurd (omega arith)
-row-of-none {h = some (unary_head o)} s e = let z : ◌≡◌ {A = ℕ} 5 0 = cc s.is in absurd (omega arith)
-row-of-none {h = some (binary_head o)} s e = let z : ◌≡◌ {A = ℕ} 6 0 = cc s.is in absurd (omega arith)
+pub row-of-none : {t : Bytes} {h : Option Head} → RowOf t h None → h ≡ none
+unfolding RowSays
+row-of-none {h = none} s = refl
+row-of-none {h = some x} s = absurd s.says
 
-pub row-of-some : {t : Bytes} {h : Option Head} {r : Row} → RowOf t h r → (r.kind ≡ 0 → ⊥) → (x : Head) × (h ≡ some x) × RowOf t (some x) r
-unfolding head_numbers
-row-of-some {h = none} s e = absurd (e (cc s.is))
-row-of-some {h = some x} s e = (x, refl, s)
+pub row-of-some : {t : Bytes} {h : Option Head} {r : Row} → RowOf t h (Some r) → (x : Head) × (h ≡ some x) × RowIs t x r
+unfolding RowSays
+row-of-some {h = none} s = absurd s.says
+row-of-some {h = some x} s = (x, refl, s.says)
 
-pub row-of-is : {t : Bytes} (h : Head) {r : Row} → RowOf t (some h) r → r.kind ≡ 7 → h ≡ is_head
+pub row-of-is : {t : Bytes} (h : Head) {r : Row} → RowIs t h r → r.kind ≡ 7 → h ≡ is_head
 unfolding head_numbers value_numbers
 row-of-is is_head s e = refl
 row-of-is star_head s e = let z : ◌≡◌ {A = ℕ} 1 7 = cc s.is in absurd (omega arith)
@@ -52,7 +45,7 @@ row-of-is (call_head n k) s e = let z : ◌≡◌ {A = ℕ} 4 7 = cc s.is in abs
 row-of-is (unary_head o) s e = let z : ◌≡◌ {A = ℕ} 5 7 = cc s.is in absurd (omega arith)
 row-of-is (binary_head o) s e = let z : ◌≡◌ {A = ℕ} 6 7 = cc s.is in absurd (omega arith)
 
-pub row-of-not-is : {t : Bytes} (h : Head) {r : Row} → RowOf t (some h) r → (r.kind ≡ 7 → ⊥) → h ≡ is_head → ⊥
+pub row-of-not-is : {t : Bytes} (h : Head) {r : Row} → RowIs t h r → (r.kind ≡ 7 → ⊥) → h ≡ is_head → ⊥
 unfolding head_numbers
 row-of-not-is h s n e = n (let w : head_numbers (some h) ≡ head_numbers (some is_head) = rw e in cc s.is)
 

@@ -1,6 +1,6 @@
 // What one record says of an expression, as the numbers of its row (specs/Table.antt).
-ghost use Rattle.std.specs.Prelude.{◌≡◌, List, [], ◌∷◌, ℕ, ◌≤◌, length};
-ghost use Rattle.std.proofs.Math.Option.{Option, none};
+ghost use Rattle.std.specs.Prelude.{List, [], ◌∷◌, ℕ, ◌≤◌, length};
+ghost use Rattle.std.proofs.Math.Option.{Option};
 ghost use Rattle.rules.specs.Refusals.{statement};
 ghost use Rattle.rules.specs.Limits.{most_bytes};
 ghost use Rattle.rules.specs.Lists.{map_option};
@@ -11,15 +11,12 @@ ghost use Rattle.text.specs.Lines.{field, Fields};
 ghost use Rattle.text.specs.Reading.{place};
 ghost use Rattle.text.specs.Fields.{Inside};
 ghost use Rattle.literal.specs.Records.{IsLiteral};
-ghost use Rattle.read_expression.specs.RowOf.{numbers_of, RowOf};
+ghost use Rattle.read_expression.specs.RowOf.{Plain, RowOf};
 
 use ast::rows::{BINARY, CALL, COLUMN, IS, LITERAL, QUALIFIED, STAR, UNARY};
 use literal::record::{Literal, literal_at};
 use text::places::address;
 use text::{Line, MOST_BYTES};
-
-// A wrong record, in the place of a row's kind.
-pub const WRONG: u32 = 0;
 
 // A row but its line and its size, and how many operands follow its record.
 #[derive(Clone, Copy)]
@@ -34,28 +31,22 @@ pub struct Row {
 }
 
 // A row with no place and no literal.
-fn plain_row(kind: u32, code: u32, operands: u32) -> Row
-    ensures { (numbers_of result ≡ kind ∷ code ∷ 0 ∷ 0 ∷ 0 ∷ 0 ∷ []) × (result.operands ≡ operands) }
+fn plain_row(kind: u32, code: u32, operands: u32) -> Option<Row>
+    ensures { Plain result kind code operands }
 {
-    Row {
-        kind: kind,
-        code: code,
+    Some(Row {
+        kind,
+        code,
         a: 0,
         b: 0,
         c: 0,
         d: 0,
-        operands: operands,
-    }
-}
-
-fn wrong() -> Row
-    ensures { (t : List ℕ) → RowOf t none result }
-{
-    plain_row(WRONG, 0, 0)
+        operands,
+    })
 }
 
 // An operator by its field.
-fn operator(t: &[u8], a: usize, n: usize) -> Row
+fn operator(t: &[u8], a: usize, n: usize) -> Option<Row>
     ensures { RowOf t.now (word operators (field most_bytes t.now a n)) result }
 {
     let w = text::packed(t, a, n);
@@ -80,19 +71,19 @@ fn operator(t: &[u8], a: usize, n: usize) -> Row
         text::words::REM => plain_row(BINARY, 25, 2),
         text::words::SUB => plain_row(BINARY, 26, 2),
         text::words::LIKE => plain_row(BINARY, 27, 2),
-        _ => wrong(),
+        _ => None,
     }
 }
 
 // A column's name.
-fn column(t: &[u8], a: usize, n: usize) -> Row
+fn column(t: &[u8], a: usize, n: usize) -> Option<Row>
     requires { Inside t.now a n }
     ensures { RowOf t.now (column_fields (field most_bytes t.now a n ∷ [])) result }
 {
     if !text::is_name(n) {
-        return wrong();
+        return None;
     }
-    Row {
+    Some(Row {
         kind: COLUMN,
         code: 0,
         a: address(a),
@@ -100,22 +91,22 @@ fn column(t: &[u8], a: usize, n: usize) -> Row
         c: 0,
         d: 0,
         operands: 0,
-    }
+    })
 }
 
 // A column's table and name.
-fn qualified(t: &[u8], a: usize, n: usize, b: usize, m: usize) -> Row
+fn qualified(t: &[u8], a: usize, n: usize, b: usize, m: usize) -> Option<Row>
     requires fact_1 { Inside t.now a n }
     requires fact_2 { Inside t.now b m }
     ensures { RowOf t.now (column_fields (field most_bytes t.now a n ∷ field most_bytes t.now b m ∷ [])) result }
 {
     if !text::is_name(n) {
-        return wrong();
+        return None;
     }
     if !text::is_name(m) {
-        return wrong();
+        return None;
     }
-    Row {
+    Some(Row {
         kind: QUALIFIED,
         code: 0,
         a: address(b),
@@ -123,43 +114,36 @@ fn qualified(t: &[u8], a: usize, n: usize, b: usize, m: usize) -> Row
         c: address(a),
         d: n as u32,
         operands: 0,
-    }
+    })
 }
 
 // A function's name and the number of its arguments.
-fn call(t: &[u8], a: usize, n: usize, b: usize, m: usize) -> Row
+fn call(t: &[u8], a: usize, n: usize, b: usize, m: usize) -> Option<Row>
     requires { Inside t.now a n }
     ensures { RowOf t.now (call_fields (field most_bytes t.now a n ∷ field most_bytes t.now b m ∷ [])) result }
 {
     if !text::is_name(n) {
-        return wrong();
+        return None;
     }
-    let count = text::count(t, b, m);
-    match count {
-        None => wrong(),
-        Some(v) => {
-            let k = v as u32;
-            Row {
-                kind: CALL,
-                code: k,
-                a: address(a),
-                b: n as u32,
-                c: 0,
-                d: 0,
-                operands: k,
-            }
-        }
-    }
+    let v = text::count(t, b, m)?;
+    let k = v as u32;
+    Some(Row {
+        kind: CALL,
+        code: k,
+        a: address(a),
+        b: n as u32,
+        c: 0,
+        d: 0,
+        operands: k,
+    })
 }
 
 // A literal as an expression.
-fn literal_row(literal: Option<Literal>) -> Row
+fn literal_row(literal: Option<Literal>) -> Option<Row>
     ensures { (t : List ℕ) (o : Option Value) → IsLiteral most_bytes t o literal → RowOf t (map_option value_head o) result }
 {
-    let Some(v) = literal else {
-        return wrong();
-    };
-    Row {
+    let v = literal?;
+    Some(Row {
         kind: LITERAL,
         code: v.kind,
         a: v.a,
@@ -167,11 +151,11 @@ fn literal_row(literal: Option<Literal>) -> Row
         c: 0,
         d: 0,
         operands: 0,
-    }
+    })
 }
 
 // The expression record at a position, by its fields.
-pub fn head(t: &[u8], p: usize, f: Line) -> Row
+pub fn head(t: &[u8], p: usize, f: Line) -> Option<Row>
     requires fact_1 { (length t.now ≤ 65536) × (p ≤ length t.now) }
     requires fact_2 { Fields t.now p f }
     ensures { (l c k : ℕ) → RowOf t.now (one_of heads (line_here (place statement t.now p l c k))) result }
@@ -180,7 +164,7 @@ pub fn head(t: &[u8], p: usize, f: Line) -> Row
     let k = text::words::head(t, f.starts[0], f.lens[0]);
     if k == 0 {
         if n != 2 {
-            return wrong();
+            return None;
         }
         return operator(t, f.starts[1], f.lens[1]);
     }
@@ -189,19 +173,19 @@ pub fn head(t: &[u8], p: usize, f: Line) -> Row
             return column(t, f.starts[1], f.lens[1]);
         }
         if n != 3 {
-            return wrong();
+            return None;
         }
         return qualified(t, f.starts[1], f.lens[1], f.starts[2], f.lens[2]);
     }
     if k == 2 {
         if n != 3 {
-            return wrong();
+            return None;
         }
         return call(t, f.starts[1], f.lens[1], f.starts[2], f.lens[2]);
     }
     if k == 3 {
         if n != 1 {
-            return wrong();
+            return None;
         }
         return plain_row(STAR, 0, 0);
     }

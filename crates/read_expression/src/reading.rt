@@ -8,7 +8,7 @@ ghost use Rattle.rules.specs.ReadExpression.{deep, times, expression};
 ghost use Rattle.ast.specs.Table.{row_size, statement_rows, starred_rows, table_size};
 ghost use Rattle.read_expression.specs.Reading.{Position, Given, Rows, IsRow};
 
-use crate::heads::{Row, WRONG, head};
+use crate::heads::{Row, head};
 use ast::rows::{IS, ROW_SIZE, STATEMENT_ROWS};
 use literal::record::literal_at;
 use numbers::refusals::{Reason, Refusal};
@@ -94,10 +94,9 @@ fn read_deep(t: &[u8], at: Cursor, depth: u32, cells: &mut [u32]) -> Result<Curs
     ensures { (k : ℕ) → Given (deep depth) (λ c' e. Rows t.now at.rows cells.old cells.new c' (cons e nil)) t.now at.position at.line at.rows k result }
 {
     let f = text::fields(t, at.position);
-    let h = head(t, at.position, f);
-    if h.kind == WRONG {
+    let Some(h) = head(t, at.position, f) else {
         return Err(Reason::WrongRecord.at(at.line));
-    }
+    };
     if STATEMENT_ROWS <= at.rows {
         return Err(Reason::LimitPassed.at(at.line));
     }

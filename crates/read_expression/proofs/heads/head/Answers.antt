@@ -5,14 +5,14 @@ use Rattle.rules.specs.Lines.{bytes}
 use Rattle.rules.specs.Refusals as rule
 use Rattle.rules.specs.Reader.{base_address}
 use Rattle.text.specs.Fields.{inside-field}
-use Rattle.read_expression.specs.RowOf.{row-of-as}
+use Rattle.read_expression.specs.RowOf.{row-of-as, no_row}
 use Rattle.read_expression.specs.Operators.{row-of-plain, star-plainly}
 use Rattle.read_expression.specs.Records.{other-words, head-op, head-op-not, head-column, head-qualified, head-column-not, head-call, head-call-not, head-star, head-star-not, head-literal}
 use Rattle.read_expression.proofs.heads.head.Goals as goal
 
 pub returns-then-n-ne2 : goal.returns-then-n-ne2
 unfolding bytes
-returns-then-n-ne2 c = λ l d k. row-of-as _ _ _ _ (head-op-not _ _ l d k _ c.requires.fact_2 _ _ other-words c.head-k.ensures c.if-k-eq0.true c.if-n-ne2.true) (c.wrong.ensures _)
+returns-then-n-ne2 c = λ l d k. no_row (head-op-not _ _ l d k _ c.requires.fact_2 _ _ other-words c.head-k.ensures c.if-k-eq0.true c.if-n-ne2.true)
 
 pub returns-then-k-eq0 : goal.returns-then-k-eq0
 unfolding bytes
@@ -27,7 +27,7 @@ returns-then-n-eq2 c = λ l d k. row-of-as _ _ _ _ (head-column _ _ l d k _ c.re
 
 pub returns-then-n-ne3 : goal.returns-then-n-ne3
 unfolding bytes
-returns-then-n-ne3 c = λ l d k. row-of-as _ _ _ _ (head-column-not _ _ l d k _ c.requires.fact_2 _ _ other-words c.head-k.ensures c.if-k-eq1.true c.if-n-eq2.false c.if-n-ne3.true) (c.wrong-then-n-ne3.ensures _)
+returns-then-n-ne3 c = λ l d k. no_row (head-column-not _ _ l d k _ c.requires.fact_2 _ _ other-words c.head-k.ensures c.if-k-eq1.true c.if-n-eq2.false c.if-n-ne3.true)
 
 pub qualified-requires : goal.qualified-requires
 qualified-requires c = record { fact_1 = inside-field _ _ _ c.requires.fact_2 1 c.requires.fact_1.0 c.requires.fact_1.1 (omega arith); fact_2 = inside-field _ _ _ c.requires.fact_2 2 c.requires.fact_1.0 c.requires.fact_1.1 (omega arith) }
@@ -38,7 +38,7 @@ returns-then-k-eq1 c = λ l d k. row-of-as _ _ _ _ (head-qualified _ _ l d k _ c
 
 pub returns-then-n-ne3-2 : goal.returns-then-n-ne3-2
 unfolding bytes
-returns-then-n-ne3-2 c = λ l d k. row-of-as _ _ _ _ (head-call-not _ _ l d k _ c.requires.fact_2 _ _ other-words c.head-k.ensures c.if-k-eq2.true c.if-n-ne3-2.true) (c.wrong-then-n-ne3-2.ensures _)
+returns-then-n-ne3-2 c = λ l d k. no_row (head-call-not _ _ l d k _ c.requires.fact_2 _ _ other-words c.head-k.ensures c.if-k-eq2.true c.if-n-ne3-2.true)
 
 pub call-requires : goal.call-requires
 call-requires c = inside-field _ _ _ c.requires.fact_2 1 c.requires.fact_1.0 c.requires.fact_1.1 (omega arith)
@@ -49,7 +49,7 @@ returns-then-k-eq2 c = λ l d k. row-of-as _ _ _ _ (head-call _ _ l d k _ c.requ
 
 pub returns-then-n-ne1 : goal.returns-then-n-ne1
 unfolding bytes
-returns-then-n-ne1 c = λ l d k. row-of-as _ _ _ _ (head-star-not _ _ l d k _ c.requires.fact_2 _ _ other-words c.head-k.ensures c.if-k-eq3.true c.if-n-ne1.true) (c.wrong-then-n-ne1.ensures _)
+returns-then-n-ne1 c = λ l d k. no_row (head-star-not _ _ l d k _ c.requires.fact_2 _ _ other-words c.head-k.ensures c.if-k-eq3.true c.if-n-ne1.true)
 
 pub returns-then-k-eq3 : goal.returns-then-k-eq3
 unfolding bytes

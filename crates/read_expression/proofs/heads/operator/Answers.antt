@@ -1,7 +1,7 @@
 -- `operator`: by the number that its word is packed into.
 use native.Mathlib.Omega.{arith}
 use Rattle.text.specs.Packed.{find_number, Apart, find_none, packed-word}
-use Rattle.read_expression.specs.RowOf.{row-of-as}
+use Rattle.read_expression.specs.RowOf.{no_row}
 use Rattle.read_expression.specs.Operators.{operator-words, operator-table, operator-none, operator-some}
 use Rattle.read_expression.proofs.heads.operator.Goals as goal
 
@@ -88,4 +88,4 @@ returns-in-5996505452 c = operator-some _ _ _ 19 _ operator-words (packed-word _
 pub returns-in_default : goal.returns-in_default
 unfolding Apart
 returns-in_default c = let r = c.in_default.in_default-own.rest in
-    row-of-as _ _ _ _ (operator-none _ _ _ 20 _ operator-words (packed-word _ _ _ _ _ operator-table c.packed-w.ensures (find_none _ _ (r.0.0.0.0.0.0.0.0.0.0.0.0.0.0.0.0.0.0.0.1, (r.0.0.0.0.0.0.0.0.0.0.0.0.0.0.0.0.0.0.1, (r.0.0.0.0.0.0.0.0.0.0.0.0.0.0.0.0.0.1, (r.0.0.0.0.0.0.0.0.0.0.0.0.0.0.0.0.1, (r.0.0.0.0.0.0.0.0.0.0.0.0.0.0.0.1, (r.0.0.0.0.0.0.0.0.0.0.0.0.0.0.1, (r.0.0.0.0.0.0.0.0.0.0.0.0.0.1, (r.0.0.0.0.0.0.0.0.0.0.0.0.1, (r.0.0.0.0.0.0.0.0.0.0.0.1, (r.0.0.0.0.0.0.0.0.0.0.1, (r.0.0.0.0.0.0.0.0.0.1, (r.0.0.0.0.0.0.0.0.1, (r.0.0.0.0.0.0.0.1, (r.0.0.0.0.0.0.1, (r.0.0.0.0.0.1, (r.0.0.0.0.1, (r.0.0.0.1, (r.0.0.1, (r.0.1, (r.1, tt)))))))))))))))))))))) (omega arith)) (c.wrong.ensures _)
+    no_row (operator-none _ _ _ 20 _ operator-words (packed-word _ _ _ _ _ operator-table c.packed-w.ensures (find_none _ _ (r.0.0.0.0.0.0.0.0.0.0.0.0.0.0.0.0.0.0.0.1, (r.0.0.0.0.0.0.0.0.0.0.0.0.0.0.0.0.0.0.1, (r.0.0.0.0.0.0.0.0.0.0.0.0.0.0.0.0.0.1, (r.0.0.0.0.0.0.0.0.0.0.0.0.0.0.0.0.1, (r.0.0.0.0.0.0.0.0.0.0.0.0.0.0.0.1, (r.0.0.0.0.0.0.0.0.0.0.0.0.0.0.1, (r.0.0.0.0.0.0.0.0.0.0.0.0.0.1, (r.0.0.0.0.0.0.0.0.0.0.0.0.1, (r.0.0.0.0.0.0.0.0.0.0.0.1, (r.0.0.0.0.0.0.0.0.0.0.1, (r.0.0.0.0.0.0.0.0.0.1, (r.0.0.0.0.0.0.0.0.1, (r.0.0.0.0.0.0.0.1, (r.0.0.0.0.0.0.1, (r.0.0.0.0.0.1, (r.0.0.0.0.1, (r.0.0.0.1, (r.0.0.1, (r.0.1, (r.1, tt)))))))))))))))))))))) (omega arith))

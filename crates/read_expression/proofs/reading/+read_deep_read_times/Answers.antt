@@ -5,36 +5,37 @@ use mathlib.Core.Path.{◌≡◌, ◌∙◌}
 use Prim.Native.Nat.{◌+◌, ◌-◌}
 use Rattle.std.proofs.lemmas.Result.{err_from_is_err_and}
 use Rattle.read_expression.specs.Given.{given-done}
+use Rattle.read_expression.specs.RecordHere.{row-of-some}
 use Rattle.read_expression.proofs.Rows.{rows-length}
 use Rattle.read_expression.proofs.ExpressionRuns.{loop-start, loop-length, loop-end, loop-refused, loop-on, no_record, no_room, too-deep, operands-position, operands-no-more, deep-done, deep_is, leaf-done}
 use Rattle.read_expression.proofs.reading.+read_deep_read_times.Goals as goal
 
-pub read_deep-returns-then-h-eq-WRONG : goal.read_deep-returns-then-h-eq-WRONG
-read_deep-returns-then-h-eq-WRONG t c = λ k. rw c.at.ensures (no_record _ _ _ k c.head-h.ensures _ _ c.if-h-eq-WRONG.true)
+pub read_deep-returns-in_default : goal.read_deep-returns-in_default
+read_deep-returns-in_default t c = λ k. rw c.at.ensures (no_record _ _ _ k _ _ c.in_default.ensures)
 
 pub read_deep-returns-then-at-ge-STATEMENT_ROWS : goal.read_deep-returns-then-at-ge-STATEMENT_ROWS
-read_deep-returns-then-at-ge-STATEMENT_ROWS t c = λ k. rw c.at-then-at-ge-STATEMENT_ROWS.ensures (no_room _ _ _ k c.head-h.ensures _ _ c.if-h-eq-WRONG.false (omega arith))
+read_deep-returns-then-at-ge-STATEMENT_ROWS t c = λ k. rw c.at-then-at-ge-STATEMENT_ROWS.ensures (no_room _ _ _ k _ _ c.in-Some.ensures (omega arith))
 
 pub read_deep-returns-then-depth-eq0 : goal.read_deep-returns-then-depth-eq0
-read_deep-returns-then-depth-eq0 t c = λ k. rw c.at-then-depth-eq0.ensures (too-deep _ _ _ k c.head-h.ensures _ _ c.if-h-eq-WRONG.false (omega arith) c.if-depth-eq0.true)
+read_deep-returns-then-depth-eq0 t c = λ k. rw c.at-then-depth-eq0.ensures (too-deep _ _ _ k _ _ c.in-Some.ensures (omega arith) c.if-depth-eq0.true)
 
 pub read_deep-put_row-requires : goal.read_deep-put_row-requires
 read_deep-put_row-requires t c = (omega arith, c.requires.1.1)
 
 pub read_deep-returns-then-h-eq0 : goal.read_deep-returns-then-h-eq0
-read_deep-returns-then-h-eq0 t c = λ k. leaf-done _ _ _ k c.head-h.ensures _ c.if-h-eq-WRONG.false c.if-h-eq0.true c.requires.0 (omega arith) c.if-depth-eq0.false c.fields-f.ensures.next _ _ c.put_row.ensures
+read_deep-returns-then-h-eq0 t c = λ k. leaf-done _ _ _ k c.in-Some.ensures _ c.if-h-eq0.true c.requires.0 (omega arith) c.if-depth-eq0.false c.fields-f.ensures.next _ _ c.put_row.ensures
 
 pub read_deep-read_times-requires : goal.read_deep-read_times-requires
-read_deep-read_times-requires t c = (omega (arith, c.if-depth-eq0.false), (operands-position c.requires.0 c.head-h.ensures c.if-h-eq-WRONG.false (omega arith) c.fields-f.ensures.next, (omega (arith, c.requires.1.0), (c.head-h.ensures 0 0 0).small, c.requires.1.1)))
+read_deep-read_times-requires t c = (omega (arith, c.if-depth-eq0.false), (operands-position c.requires.0 c.in-Some.ensures (omega arith) c.fields-f.ensures.next, (omega (arith, c.requires.1.0), (row-of-some (c.in-Some.ensures 0 0 0)).2.small, c.requires.1.1)))
 
 pub read_deep-returns-in_err-behind : goal.read_deep-returns-in_err-behind
-read_deep-returns-in_err-behind t c = λ k. let p = err_from_is_err_and c.from_residual.result c.from_residual.ensures.1 in rw (p.1, p.2) (operands-no-more _ _ _ k c.head-h.ensures _ _ c.if-h-eq-WRONG.false (omega arith) c.if-depth-eq0.false c.fields-f.ensures.next _ _ (c.in_err-behind.ensures k))
+read_deep-returns-in_err-behind t c = λ k. let p = err_from_is_err_and c.from_residual.result c.from_residual.ensures.1 in rw (p.1, p.2) (operands-no-more _ _ _ k _ _ c.in-Some.ensures (omega arith) c.if-depth-eq0.false c.fields-f.ensures.next _ _ (c.in_err-behind.ensures k))
 
 pub read_deep-read_is-requires : goal.read_deep-read_is-requires
 read_deep-read_is-requires t c = let w = given-done _ _ _ _ _ _ 0 _ (c.in_ok-behind.ensures 0) in record { fact_1 = w.position; fact_2 = (omega (arith, w.more), rows-length w.holds ∙ c.requires.1.1) }
 
 pub read_deep-returns-then-h-eq-IS : goal.read_deep-returns-then-h-eq-IS
-read_deep-returns-then-h-eq-IS t c = λ k. deep_is _ _ _ k c.head-h.ensures _ c.if-h-eq-WRONG.false (omega arith) c.if-depth-eq0.false c.fields-f.ensures.next _ _ _ _ _ (c.in_ok-behind.ensures k) c.if-h-eq-IS.true _ _ (c.read_is.ensures k)
+read_deep-returns-then-h-eq-IS t c = λ k. deep_is _ _ _ k c.in-Some.ensures _ (omega arith) c.if-depth-eq0.false c.fields-f.ensures.next _ _ _ _ _ (c.in_ok-behind.ensures k) c.if-h-eq-IS.true _ _ (c.read_is.ensures k)
 
 pub read_deep-overflow_sub-behind : goal.read_deep-overflow_sub-behind
 read_deep-overflow_sub-behind t c = omega (arith, (given-done _ _ _ _ _ _ 0 _ (c.in_ok-behind.ensures 0)).more)
@@ -43,7 +44,7 @@ pub read_deep-put_row-requires-2 : goal.read_deep-put_row-requires-2
 read_deep-put_row-requires-2 t c = (omega arith, rows-length (given-done _ _ _ _ _ _ 0 _ (c.in_ok-behind.ensures 0)).holds ∙ c.requires.1.1)
 
 pub read_deep-returns : goal.read_deep-returns
-read_deep-returns t c = λ k. deep-done _ _ _ k c.head-h.ensures _ c.if-h-eq-WRONG.false (omega arith) c.if-depth-eq0.false c.fields-f.ensures.next _ _ _ _ _ (c.in_ok-behind.ensures k) _ c.if-h-eq-IS.false c.put_row-2.ensures
+read_deep-returns t c = λ k. deep-done _ _ _ k c.in-Some.ensures _ (omega arith) c.if-depth-eq0.false c.fields-f.ensures.next _ _ _ _ _ (c.in_ok-behind.ensures k) _ c.if-h-eq-IS.false c.put_row-2.ensures
 
 pub read_times-loop-init : goal.read_times-loop-init
 read_times-loop-init t c = let e : c.args.n - 0 ≡ c.args.n = omega arith in λ k. rw e (loop-start c.requires.0)
