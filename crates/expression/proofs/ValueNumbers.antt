@@ -10,10 +10,6 @@ use Rattle.rules.specs.Refusals.{Reason}
 use Rattle.rules.specs.Schema.{Value, null, bool, int, float, text}
 use Rattle.value.specs.Values.{held}
 
--- a function's value at what a match told
-pub same-image : {A X : Type 0} (F : A → X) {a u : A} → a ≡ u → F u ≡ F a
-same-image F e = sym (ap F e)
-
 -- NUMBERS OF 0 OR MORE
 -- a float is none, whichever its bits
 pub natural-held : (r : Reason) (l : ℕ) (v : Value) → natural r l (held v) ≡ natural r l v
