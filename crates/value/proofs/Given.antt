@@ -6,7 +6,7 @@ use lib.Ieee.{Float, binary64, to_bits, fits}
 use lib.Signed.{mag, quot_z, rem_z}
 use Rattle.rules.specs.Arithmetic.{Worked, gives, fails, fitted, quotient, remainder, power, raised, product, factorial, float_of, rounded, floating, Pair, integers, floats, absent, unlike, numbers, arithmetic, sum_of, difference_of, product_of, quotient_of, remainder_of, power_of}
 use Rattle.rules.specs.Ast.{Plain, and, or, eq, gt, lt, add, div, pow, mul, rem, sub, like, Binary, plain, ge, le, ne, Unary, not, fact, ident, neg, sqrt}
-use Rattle.rules.specs.Comparison.{Order, Compared, ordered, unknown, incomparable, compare, compared, is_less, is_same, is_greater}
+use Rattle.rules.specs.Comparison.{Order, Compared, compare, compared, is_less, is_same, is_greater}
 use Rattle.rules.specs.Operators.{and_unknown, or_unknown, logic, like_of, plain_of, binary_of, not_of, factorial_of, identity_of, negation_of, root_of, unary_of, is_nan, is_of}
 use Rattle.rules.specs.Refusals.{integer_overflow, division_by_zero, not_worked_out}
 use Rattle.rules.specs.Schema.{Value, null, bool, int, float, text}
@@ -68,23 +68,7 @@ fits-rounded n = of_int-fits binary64 n
 
 numbers_fit : (v w : Value) → Fit (numbers v w)
 unfolding numbers
-numbers_fit null null = tt
-numbers_fit null (bool b) = tt
-numbers_fit null (int n) = tt
-numbers_fit null (float y) = tt
-numbers_fit null (text t) = tt
-numbers_fit (bool a) w = tt
-numbers_fit (int m) null = tt
-numbers_fit (int m) (bool b) = tt
-numbers_fit (int m) (int n) = tt
-numbers_fit (int m) (float y) = fits-rounded m
-numbers_fit (int m) (text t) = tt
-numbers_fit (float x) null = tt
-numbers_fit (float x) (bool b) = tt
-numbers_fit (float x) (int n) = float_fits x
-numbers_fit (float x) (float y) = float_fits x
-numbers_fit (float x) (text t) = tt
-numbers_fit (text s) w = tt
+numbers_fit v w = grind (arith, fits-rounded, float_fits)
 
 module _ (i : ℤ → ℤ → Worked) (f : Float → Float → Worked) (hi : (m n : ℤ) → Held (i m n)) (hf : (x y : Float) → T (fits binary64 x) → Held (f x y)) where
   arithmetic-held : (p : Pair) → Fit p → Held (arithmetic i f p)
@@ -96,41 +80,15 @@ module _ (i : ℤ → ℤ → Worked) (f : Float → Float → Worked) (hi : (m 
 
 compared-held : (t : Order → Bool) (k : Compared) → Held (compared t k)
 unfolding compared held
-compared-held t (ordered o) = refl
-compared-held t unknown = refl
-compared-held t incomparable = tt
+compared-held t k = grind arith
 
 logic-gives : (f : Bool → Bool → Bool) (u : Bool → Value) → ((a : Bool) → held (u a) ≡ u a) → (v w : Value) → Held (logic f u v w)
 unfolding logic held
-logic-gives f u h null null = refl
-logic-gives f u h null (bool b) = h b
-logic-gives f u h null (int n) = tt
-logic-gives f u h null (float y) = tt
-logic-gives f u h null (text t) = tt
-logic-gives f u h (bool a) null = h a
-logic-gives f u h (bool a) (bool b) = refl
-logic-gives f u h (bool a) (int n) = tt
-logic-gives f u h (bool a) (float y) = tt
-logic-gives f u h (bool a) (text t) = tt
-logic-gives f u h (int m) w = tt
-logic-gives f u h (float x) w = tt
-logic-gives f u h (text s) w = tt
+logic-gives f u h v w = grind (arith, h)
 
 like-gives : (v w : Value) → Held (like_of v w)
 unfolding like_of held
-like-gives null null = refl
-like-gives null (bool b) = tt
-like-gives null (int n) = tt
-like-gives null (float y) = tt
-like-gives null (text t) = refl
-like-gives (bool a) w = tt
-like-gives (int m) w = tt
-like-gives (float x) w = tt
-like-gives (text s) null = refl
-like-gives (text s) (bool b) = tt
-like-gives (text s) (int n) = tt
-like-gives (text s) (float y) = tt
-like-gives (text s) (text t) = tt
+like-gives v w = grind arith
 
 plain-gives : (o : Plain) (v w : Value) → Held (plain_of o v w)
 unfolding plain_of sum_of difference_of product_of quotient_of remainder_of power_of and_unknown or_unknown held
@@ -214,19 +172,11 @@ unary-gives o v u e = given (unary_of o v) u (unary-any o v) e
 
 nan-any : (v : Value) → Held (is_nan v)
 unfolding is_nan held
-nan-any null = refl
-nan-any (bool a) = tt
-nan-any (int m) = tt
-nan-any (float x) = refl
-nan-any (text s) = tt
+nan-any v = grind arith
 
 is_any : (l v : Value) → Held (is_of l v)
 unfolding is_of held
-is_any null v = refl
-is_any (bool a) v = tt
-is_any (int m) v = tt
-is_any (float x) v = nan-any v
-is_any (text s) v = tt
+is_any l v = grind (arith, nan-any)
 
 pub is-gives : (l v u : Value) → is_of l v ≡ gives u → held u ≡ u
 is-gives l v u e = given (is_of l v) u (is_any l v) e

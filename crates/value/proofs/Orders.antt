@@ -1,5 +1,6 @@
 -- Orders as std's methods give them are the rules'.
 use Rattle.std.proofs.Common.{◌≡◌, ℕ, Bool, true, false, not, ◌&&◌, cond, ℤ, Option, None, Some, refl, sym, ◌∙◌}
+use native.Mathlib.Omega.{arith}
 use lib.Ieee as Ieee
 use lib.Ieee.{Float}
 use lib.Signed.{lt_z}
@@ -15,10 +16,7 @@ use Rattle.value.specs.Operands.{order_of, Tests}
 
 pub bools : (x y : Bool) → order_of (Some (bool_cmp x y)) ≡ order_bools x y
 unfolding order_of order_bools
-bools false false = refl
-bools false true = refl
-bools true false = refl
-bools true true = refl
+bools x y = grind arith
 
 pub integers : (x y : ℤ) → order_of (Some (int_cmp x y)) ≡ order_integers x y
 unfolding order_of order_by order_integers
@@ -43,9 +41,7 @@ floats x y = by (Ieee.lt x y) (Ieee.eq x y) (Ieee.lt y x)
 -- texts in their place
 by_order : (o : Ordering) → order_of (Some o) ≡ order_by (is_lt o) (is_eq o) (is_gt o)
 unfolding order_of order_by
-by_order Less = refl
-by_order Equal = refl
-by_order Greater = refl
+by_order o = grind arith
 
 pub texts : (c q : Bytes) (s n t m : ℕ) → order_of (Some (order_of_bytes (bytes_at c q s n) (bytes_at c q t m))) ≡ order_texts (word_at c q s n) (word_at c q t m)
 unfolding order_texts word_at
