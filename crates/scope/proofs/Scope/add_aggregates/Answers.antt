@@ -8,15 +8,6 @@ use Rattle.scope.specs.NewMatch.{match_number}
 use Rattle.scope.specs.AddAggregates.{passed_label, label-passed, aggregates-added}
 use Rattle.scope.proofs.Scope.add_aggregates.Goals as goal
 
-pub loop-j-init : goal.loop-j-init
-loop-j-init c = (copying-begin _ refl refl, copying-begin _ refl refl)
-
-pub bounds-labels-j : goal.bounds-labels-j
-bounds-labels-j c = omega (arith, c.loop-j-test.true, c.requires.few)
-
-pub bounds-matches-j : goal.bounds-matches-j
-bounds-matches-j c = omega (arith, c.loop-j-test.true, c.requires.few)
-
 pub loop-j-preserved : goal.loop-j-preserved
 loop-j-preserved c =
     let few : c.loop-j.j < most_columns = omega (arith, c.requires.few, c.loop-j-test.true) in
@@ -25,9 +16,6 @@ loop-j-preserved c =
           (label-passed c.args.table.now c.args.self _ c.label_of.ensures),
       copying-map match_number c.args.rows.now _ c.loop-j.invariant.1 few c.loop-j-test.true c.match_number.ensures,
     )
-
-pub overflow_cast-result : goal.overflow_cast-result
-overflow_cast-result c = record { fits = omega (arith, c.requires.few) }
 
 pub returns : goal.returns
 returns c =

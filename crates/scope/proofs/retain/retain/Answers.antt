@@ -5,9 +5,6 @@ use Rattle.scope.specs.Retain.{retain-begin, retain-skip, retain-keep, retain-co
 use Rattle.scope.proofs.retain.retain.Goals as goal
 use Rattle.scope.proofs.retain.retain.Goals.{then-not-has_equal, else-not-has_equal}
 
-pub loop-r-init : goal.loop-r-init
-loop-r-init c = (search rules, retain-begin _ _ _ _)
-
 pub slice_bounds-has_equal-end : goal.slice_bounds-has_equal-end
 slice_bounds-has_equal-end c = let l = c.loop-r in
     omega (arith, l.invariant.0, l.invariant.1.room, l.invariant.1.few, c.loop-r-test.true)
@@ -26,9 +23,6 @@ loop-r-preserved c = let l = c.loop-r in (
         w.kept-is w.k-is
   ],
 )
-
-pub shape_of-kept : goal.shape_of-kept
-shape_of-kept c = c.loop-r.invariant.1.room
 
 pub returns : goal.returns
 returns c = let s = c.loop-r.invariant.1 in
