@@ -1,9 +1,11 @@
 -- What `finish` leaves in the area: the header, the cells, the nodes, the statement's own numbers, and zeros.
-use Rattle.std.specs.Prelude.{ℕ, ◌+◌, ◌*◌, ◌-◌, ◌≤◌, ◌<◌, ◌≡◌, refl, List, [], ◌∷◌, ◌++◌, length, take, drop, set, get_or, replicate}
-use Rattle.std.proofs.Common.{arith, add-one, sym, ◌∙◌, append_assoc, append-nil, length-set, take-add, take_all, take-suc-set, drop_at, length-take-le}
-use Rattle.std.proofs.lemmas.List.{replicate-append-replicate}
-use Rattle.std.proofs.lemmas.List.Edits.{sets, sets-eq, length-paste, take-paste}
-use Rattle.std.proofs.Math.Seq.{paste, length-sets, paste-zero, paste-suc, take-append-add}
+use Rattle.std.specs.Prelude.{ℕ, ◌+◌, ◌*◌, ◌-◌, ◌≤◌, ◌≡◌, refl, List, [], ◌∷◌, ◌++◌, length, take, drop, replicate}
+use Rattle.std.proofs.Common.{arith, sym, ◌∙◌, append_assoc, append-nil, take-add, drop_at, drop_of_length-le, length-take-le}
+use Rattle.std.proofs.lemmas.List.{length-replicate, length-drop}
+use Rattle.std.proofs.lemmas.Slice.{put_mid-paste}
+use borrow.Rule.Slice.PartMut.{put_mid}
+use Rattle.std.proofs.lemmas.List.Edits.{sets, sets-eq, length-paste, take-paste, paste_all}
+use Rattle.std.proofs.Math.Seq.{paste, length-sets, take-append-add}
 use Rattle.rules.specs.Area.{layout, header_size}
 use Rattle.appends.specs.Area.{header_of}
 use Rattle.plan.specs.Layout.{cells_end}
@@ -12,53 +14,20 @@ use Rattle.plan.specs.Layout.{cells_end}
 unfoldable pub cleared : ℕ → List ℕ → List ℕ
 cleared i t = take i t ++ replicate (length t - i) 0
 
--- up to place j so far
-pub record Clearing (i j : ℕ) (t t' : List ℕ) : Type 0 where
-  pub start : i ≤ j
-  pub within : j ≤ length t
-  pub all : length t' ≡ length t
-  pub numbers : take j t' ≡ take i t ++ replicate (j - i) 0
-
-pub clearing-begin : (i : ℕ) (t : List ℕ) → i ≤ length t → Clearing i i t t
-clearing-begin i t h =
-    let z : i - i ≡ 0 = omega arith in
-    record { start = omega arith; within = h; all = refl; numbers = rw (z, append-nil) }
-
-pub clearing-step : {i j : ℕ} {t t' : List ℕ} → Clearing i j t t' → j < length t' → Clearing i (j + 1) t (set t' j 0)
-clearing-step {i} {j} {t} {t'} c h =
-    let z : j + 1 - i ≡ (j - i) + 1 = omega (arith, c.start) in
-    record {
-      start = omega (arith, c.start);
-      within = omega (arith, c.all);
-      all = length-set t' j 0 ∙ c.all;
-      numbers = rw (z, ← replicate-append-replicate {A = ℕ} (j - i) 1 0, add-one j, take-suc-set t' j 0 h, c.numbers)
-          (append_assoc (take i t) (replicate (j - i) 0) (0 ∷ []));
-    }
-
-pub clearing-end : {i j : ℕ} {t t' : List ℕ} → Clearing i j t t' → length t' ≤ j → t' ≡ cleared i t
+pub cleared-rest : (i : ℕ) (t zs : List ℕ) → i ≤ length t
+    → zs ≡ replicate (length (take (length t - i) (drop i t))) 0 → put_mid i (length t - i) t zs ≡ cleared i t
 unfolding cleared
-clearing-end {i} {j} {t} {t'} c h =
-    let z : j ≡ length t = omega (arith, c.within, c.all) in
-    sym (take_all j t' h) ∙ c.numbers ∙ rw z
+cleared-rest i t zs h e =
+    let n : length (take (length t - i) (drop i t)) ≡ length t - i =
+    length-take-le (length t - i) (drop i t) (omega (arith, length-drop i t)) in
+    let l : length t - i ≡ length (replicate {A = ℕ} (length t - i) 0) = sym (length-replicate (length t - i) 0) in
+    put_mid-paste i (length t - i) t zs (replicate (length t - i) 0) (length t - i) (rw n at e) refl l
+    ∙ paste_all t i (replicate (length t - i) 0) (length t - i) l
+    ∙ rw (drop_of_length-le t {i = i + (length t - i)} (omega arith), append-nil)
 
 pub cleared-all : (t : List ℕ) → cleared 0 t ≡ replicate (length t) 0
 unfolding cleared
 cleared-all t = let z : length t - 0 ≡ length t = omega arith in rw z
-
--- COPIED: j numbers of s stand from place i on
-pub record Copied (i j : ℕ) (s t t' : List ℕ) : Type 0 where
-  pub all : length t' ≡ length t
-  pub numbers : t' ≡ paste t i s j
-
-pub copied-begin : (i : ℕ) (s t : List ℕ) → Copied i 0 s t t
-copied-begin i s t = record { all = refl; numbers = paste-zero t i s }
-
-pub copied-step : {i j : ℕ} {s t t' : List ℕ} → Copied i j s t t' → i + j < length t → j < length s
-    → Copied i (j + 1) s t (set t' (i + j) (get_or s j 0))
-copied-step {i} {j} {s} {t} {t'} c h g = record {
-  all = length-set t' (i + j) (get_or s j 0) ∙ c.all;
-  numbers = rw (add-one j, c.numbers) (paste-suc t i s j 0 h g);
-}
 
 -- FINISHED: n cells stand in t behind the header's place, m nodes are the first k numbers of s, and the own numbers
 -- those from k to e

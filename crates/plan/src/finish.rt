@@ -45,11 +45,7 @@ fn copy(area: &mut [u32], i: usize, nodes: &[u32], n: usize)
     requires { (i + n ≤ length area.old) × (n ≤ length nodes.now) }
     ensures { area.new ≡ paste area.old i nodes.now n }
 {
-    let mut j: usize = 0;
-    while j < n {
-        area[i + j] = nodes[j];
-        j += 1;
-    }
+    area[i..i + n].copy_from_slice(&nodes[..n]);
 }
 
 // All from place i on is zero.
@@ -57,11 +53,7 @@ fn clear_from(area: &mut [u32], i: usize)
     requires { i ≤ length area.old }
     ensures { area.new ≡ cleared i area.old }
 {
-    let mut j = i;
-    while j < area.len() {
-        area[j] = 0;
-        j += 1;
-    }
+    area[i..].fill(0);
 }
 
 // All is zero: the area after a refusal.
