@@ -110,8 +110,7 @@ pub fn build_groups<'t, 'a>(
         n k area.old area.new nodes.old nodes.new result }
 {
     let mut m = n;
-    let mut i: usize = 0;
-    while i < rows.len() {
+    for i in 0..rows.len() {
         m = add_group(
             catalog,
             statement,
@@ -127,7 +126,6 @@ pub fn build_groups<'t, 'a>(
             nodes,
             k + i,
         )?;
-        i += 1;
     }
     Ok(m)
 }
@@ -156,8 +154,7 @@ pub fn build_functions<'t, 'a>(
         n k area.old area.new nodes.old nodes.new result }
 {
     let mut m = n;
-    let mut i: usize = 0;
-    while i < rows.len() {
+    for i in 0..rows.len() {
         m = add_function(
             catalog,
             statement,
@@ -173,7 +170,6 @@ pub fn build_functions<'t, 'a>(
             nodes,
             k + FUNCTION_SIZE * i,
         )?;
-        i += 1;
     }
     Ok(m)
 }

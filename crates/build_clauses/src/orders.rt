@@ -75,8 +75,7 @@ fn put_keys<'t, 'a>(
 {
     let keys = entry::count(parts, ORDER);
     let mut p = n;
-    let mut i: u32 = 0;
-    while i < keys {
+    for i in 0..keys {
         let e = entry_at(parts, ORDER, i);
         p = put_key(
             catalog,
@@ -93,7 +92,6 @@ fn put_keys<'t, 'a>(
             nodes,
             k + KEY_SIZE * (i as usize),
         )?;
-        i += 1;
     }
     Ok(p)
 }

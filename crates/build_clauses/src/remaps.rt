@@ -18,10 +18,8 @@ fn push_targets(width: u32, hidden: u32, nodes: &mut [u32], k: usize) -> usize
     ensures { Appended (target_numbers width hidden) k nodes.old result nodes.new }
 {
     let mut j = k;
-    let mut i: u32 = 0;
-    while i < width {
+    for i in 0..width {
         j = push(nodes, j, hidden_target(width, hidden, i));
-        i += 1;
     }
     j
 }

@@ -42,13 +42,11 @@ fn map_value(columns: &mut [u32], value: ValuePosition, column: TablePosition)
 fn is_mapped(columns: &[u32], n: u32, column: TablePosition) -> bool
     ensures { result ≡ mapped (cindex column.0) (map.mappings columns.now 0 n) }
 {
-    let mut i: u32 = 0;
-    while i < n {
+    for i in 0..n {
         let other = column_of(columns, ValuePosition(i));
         if other.0 == column.0 {
             return true;
         }
-        i += 1;
     }
     false
 }
@@ -70,8 +68,7 @@ fn map_names(
         columns.old columns.new result }
 {
     let count = entry::count(parts, entry::NAME);
-    let mut v: u32 = 0;
-    while v < count {
+    for v in 0..count {
         let e = entry::entry_at(parts, entry::NAME, v);
         let a = name_start(e);
         let found = column_at(catalog, statement, tables, i, a, e.length);
@@ -89,7 +86,6 @@ fn map_names(
             });
         }
         map_value(columns, ValuePosition(v), column);
-        v += 1;
     }
     Ok(Some(count))
 }

@@ -18,13 +18,11 @@ fn put_mappings(columns: &[u32], n: u32, nodes: &mut [u32], k: usize) -> usize
     ensures { Appended (map_numbers_of (mappings columns.now 0 n))
         k nodes.old result nodes.new }
 {
-    let mut v: u32 = 0;
     let mut j = k;
-    while v < n {
+    for v in 0..n {
         let value = ValuePosition(v);
         let column = column_of(columns, value);
         j = mapping(nodes, j, column.0, value.0);
-        v += 1;
     }
     j
 }

@@ -129,14 +129,12 @@ fn build_rows<'t>(
         0 area.old area.new k nodes.old nodes.new result }
 {
     let rows = count(parts, ROW);
-    let mut i: u32 = 0;
     let mut built = Part { cell: 0, used: k };
-    while i < rows {
+    for i in 0..rows {
         let e = entry_at(parts, ROW, i);
         built = build_row(
             catalog, statement, cells, e, area, built.cell, nodes, built.used,
         )?;
-        i += 1;
     }
     Ok(built)
 }

@@ -35,13 +35,11 @@ fn key_column(parts: &[u32], k: u32) -> Option<u32>
     ensures { (c q : Bytes) (cells : List ℕ) → create.Keys c q cells parts.now k result }
 {
     let count = entry::count(parts, entry::COLUMN);
-    let mut i = k;
-    while i < count {
+    for i in k..count {
         let e = entry::entry_at(parts, entry::COLUMN, i);
         if e.key == 1 {
             return Some(i);
         }
-        i += 1;
     }
     None
 }
@@ -178,12 +176,10 @@ fn columns(
         k nodes.old nodes.new result }
 {
     let count = entry::count(parts, entry::COLUMN);
-    let mut i: u32 = 0;
     let mut j = k;
-    while i < count {
+    for i in 0..count {
         let e = entry::entry_at(parts, entry::COLUMN, i);
         j = column(catalog, statement, cells, e, nodes, j)?;
-        i += 1;
     }
     Ok(j)
 }

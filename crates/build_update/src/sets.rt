@@ -93,9 +93,8 @@ pub fn write_sets<'t, 'a>(
         n k area.old area.new nodes.old nodes.new result }
 {
     let sets = entry::count(parts, entry::SET);
-    let mut v: u32 = 0;
     let mut written = Part { cell: n, used: k };
-    while v < sets {
+    for v in 0..sets {
         let e = entry::entry_at(parts, entry::SET, v);
         written = write_set(
             catalog,
@@ -114,7 +113,6 @@ pub fn write_sets<'t, 'a>(
             nodes,
             written.used,
         )?;
-        v += 1;
     }
     Ok(written)
 }

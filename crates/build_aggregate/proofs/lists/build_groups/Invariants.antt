@@ -1,5 +1,5 @@
 -- `lists::build_groups`: row by row.
-use Prim.Native.Nat.{◌+◌, ◌-◌, ◌≤◌}
+use Prim.Native.Nat.{◌+◌, ◌≤◌}
 use lib.ListN.{length, take}
 use Rattle.ast.specs.Table.{tree_at}
 use Rattle.build_aggregate.specs.Entries.{RowLoop}
@@ -11,7 +11,3 @@ invariant-loop-i l =
     (l.i ≤ length l.rows) × (l.k + length l.rows ≤ length l.initial.nodes) × RowLoop
     (groups_listing l.catalog l.statement l.table (take l.width l.labels) (take l.width l.matches) (take l.count l.tables))
     (tree_at l.catalog l.statement l.table) l.rows l.n l.k l.initial.area l.initial.nodes l.i l.m l.area l.nodes
-
-abbrev pub decreases-loop-i : goal.decreases-loop-i
-decreases-loop-i l =
-    length l.rows - l.i

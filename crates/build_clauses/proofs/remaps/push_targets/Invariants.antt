@@ -1,10 +1,6 @@
 -- `remaps::push_targets`: the targets of the columns so far.
 use Rattle.build_clauses.specs.Remaps.{Pushing}
-use Prim.Native.Nat.{◌-◌}
 use Rattle.build_clauses.proofs.remaps.push_targets.Given as goal
 
 abbrev pub invariant-loop-i : goal.invariant-loop-i
 invariant-loop-i l = Pushing l.width l.hidden l.i l.k l.initial.nodes l.j l.nodes
-
-abbrev pub decreases-loop-i : goal.decreases-loop-i
-decreases-loop-i l = l.width - l.i

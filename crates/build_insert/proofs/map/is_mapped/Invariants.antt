@@ -9,6 +9,3 @@ use Rattle.build_insert.proofs.map.is_mapped.Given as goal
 abbrev pub invariant-loop-i : goal.invariant-loop-i
 invariant-loop-i l =
     mapped (cindex l.column.0) (mappings l.columns 0 l.n) ≡ mapped (cindex l.column.0) (mappings l.columns l.i (l.n - l.i))
-
-abbrev pub decreases-loop-i : goal.decreases-loop-i
-decreases-loop-i l = l.n - l.i

@@ -1,11 +1,7 @@
 -- `map::map_names`: the names so far.
-use Prim.Native.Nat.{◌-◌}
 use Rattle.build_insert.specs.Map.{columns_of, MapSoFar}
 use Rattle.build_insert.proofs.map.map_names.Given as goal
 
 abbrev pub invariant-loop-v : goal.invariant-loop-v
 invariant-loop-v l =
     MapSoFar l.catalog l.statement l.cells l.parts (columns_of l.catalog l.statement l.tables l.i) l.initial.columns l.columns l.v
-
-abbrev pub decreases-loop-v : goal.decreases-loop-v
-decreases-loop-v l = l.count - l.v

@@ -1,11 +1,7 @@
 -- `rows::build_rows`: row by row.
-use Prim.Native.Nat.{◌-◌}
 use Rattle.build_insert.specs.Rows.{RowsSoFar}
 use Rattle.build_insert.proofs.rows.build_rows.Given as goal
 
 abbrev pub invariant-loop-i : goal.invariant-loop-i
 invariant-loop-i l =
     RowsSoFar l.catalog l.statement l.cells l.parts l.initial.area l.k l.initial.nodes l.i l.built.cell l.built.used l.area l.nodes
-
-abbrev pub decreases-loop-i : goal.decreases-loop-i
-decreases-loop-i l = l.rows - l.i

@@ -1,10 +1,6 @@
 -- `create::columns`: the columns so far.
-use Prim.Native.Nat.{◌-◌}
 use Rattle.build_statement.specs.Columns.{SoFar}
 use Rattle.build_statement.proofs.create.columns.Given as goal
 
 abbrev pub invariant-loop-i : goal.invariant-loop-i
 invariant-loop-i l = SoFar l.catalog l.statement l.cells l.parts l.k l.initial.nodes l.i l.j l.nodes
-
-abbrev pub decreases-loop-i : goal.decreases-loop-i
-decreases-loop-i l = l.count - l.i
