@@ -47,6 +47,7 @@ fn counted(line: u32, n: u32) -> u32
 }
 
 // Where the line at a position stands.
+#[tactic(auto, using(text::specs::Bytes::stops))]
 fn span_at(text: &[u8], at: usize) -> Span
     ensures { result ≡ span_at text.now at }
 {

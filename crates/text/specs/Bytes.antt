@@ -54,6 +54,9 @@ module _ (x y : ℕ) (t : Bytes) (p : ℕ) where
   unfolding stop_at
   stop-most e h = omega (arith, run-most x y (drop p t), length-drop p t)
 
+-- where a stop stands: from p on, and up to the end
+pub ruleset stops = (stop-after, stop-most)
+
 -- where the text has not ended, the byte looked for stands
 run-found : (x : ℕ) (bs : Bytes) → run x x bs < length bs → get_or bs (run x x bs) 0 ≡ x
 unfolding run

@@ -78,6 +78,7 @@ pub struct Line {
 }
 
 // The fields of the line at a position, of any line. A line that no LF closes has two empty fields more.
+#[tactic(auto, using(crate::specs::Bytes::stops))]
 fn any_fields(t: &[u8], at: usize) -> Line
     ensures { Fields t.now at result }
 {
@@ -133,6 +134,7 @@ fn few(s: [usize; 4], l: [usize; 4], count: usize, next: usize) -> Line
 }
 
 // The fields of the line at a position. Most lines have at most four and a LF: for these the loop would be slower.
+#[tactic(auto, using(crate::specs::Bytes::stops))]
 pub fn fields(t: &[u8], at: usize) -> Line
     ensures { Fields t.now at result }
 {
@@ -198,6 +200,7 @@ pub fn compare(x: &[u8], y: &[u8]) -> Ordering
 }
 
 // Which of some words, each closed by a blank, the n bytes at a are: its number, or how many words there are.
+#[tactic(auto, using(crate::specs::Bytes::stops))]
 pub fn which(words: &[u8], t: &[u8], a: usize, n: usize) -> usize
     ensures { result ≡ find (words_of words.now) (take n (drop a t.now)) }
 {

@@ -2,15 +2,11 @@
 use native.Mathlib.Omega.{arith}
 use mathlib.Core.Path.{refl}
 use lib.ListN.{length-set}
-use Rattle.text.specs.Bytes.{stop-after}
 use Rattle.text.specs.Lines.{begin, go_on, ends, unclosed, filled}
 use Rattle.text.proofs.any_fields.Goals as goal
 
 pub loop-n-init : goal.loop-n-init
 loop-n-init c = (refl, refl, begin _ _ _ _)
-
-pub overflow_sub-lens : goal.overflow_sub-lens
-overflow_sub-lens c = stop-after _ _ _ _ _ c.stop_at-e.ensures
 
 pub returns-then-t-e : goal.returns-then-t-e
 returns-then-t-e c = unclosed _ _ _ _ _ _ _ c.loop-n-test.true c.loop-n.invariant.0 c.loop-n.invariant.1 c.loop-n.invariant.2 c.stop_at-e.ensures _ c.min-count.ensures c.if-t-e.true
