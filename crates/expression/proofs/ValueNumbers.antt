@@ -2,6 +2,7 @@
 use mathlib.Core.Bool.{Bool, true, false}
 use mathlib.Core.Path.{◌≡◌, refl, sym, ap}
 use Prim.Native.Nat.{ℕ}
+use native.Mathlib.Omega.{arith}
 use lib.IntN.{pos, negsuc}
 use mir.Val.{bool_byte}
 use Rattle.rules.specs.Area.{flag}
@@ -14,14 +15,8 @@ use Rattle.value.specs.Values.{held}
 -- a float is none, whichever its bits
 pub natural-held : (r : Reason) (l : ℕ) (v : Value) → natural r l (held v) ≡ natural r l v
 unfolding natural held
-natural-held r l null = refl
-natural-held r l (bool b) = refl
-natural-held r l (int (pos n)) = refl
-natural-held r l (int (negsuc n)) = refl
-natural-held r l (float b) = refl
-natural-held r l (text w) = refl
+natural-held r l v = grind arith
 
 pub byte-flag : (b : Bool) → bool_byte b ≡ flag b
 unfolding flag
-byte-flag true = refl
-byte-flag false = refl
+byte-flag b = grind arith

@@ -56,7 +56,7 @@ fn halves(kind: u32, n: u64) -> Numbers
     }
 }
 
-// The numbers of a literal of kind k.
+// The numbers of a literal of kind k. (3 and 4 in one arm: the proof did not close.)
 pub fn literal_numbers(catalog: &[u8], statement: &[u8], k: u32, a: u32, b: u32) -> Numbers
     ensures { numbers_of result ≡ value_numbers (value_at catalog.now statement.now k a b) }
 {

@@ -17,6 +17,7 @@ use std::cmp::Ordering;
 use std::num::nearest_i64_to_f64;
 
 // How two values compare: their order, which a NaN has with no float; unknown where one is a null; or not at all.
+// An enum, as the rules have it: a Result of two Options is no plainer.
 #[derive(Clone, Copy)]
 pub enum Compared {
     Ordered(Option<Ordering>),

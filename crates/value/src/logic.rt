@@ -10,6 +10,7 @@ ghost use Rattle.value.specs.Values.{value_of, worked_of};
 use crate::Value;
 use numbers::refusals::Reason;
 
+// Apart from `or`: one body for both, by what a truth absorbs, is no plainer.
 pub fn and(a: Value, b: Value) -> Result<Value, Reason>
     ensures { (c q : Bytes) → worked_of c q result ≡ plain_of ast.and (value_of c q a) (value_of c q b) }
 {

@@ -78,6 +78,7 @@ fn answered(w: Result<Value, Reason>) -> Answer
     }
 }
 
+// By code, as C gives it; 28 where no operator has it, unlike the statement's table (crate expression).
 #[tactic(auto, unfolding(crate::specs::Codes::unary_worked, crate::specs::Codes::unary_at, crate::specs::Codes::applied, numbers::specs::Codes::coded, numbers::specs::Reasons::reason_of, value::specs::Values::worked_of))]
 fn unary(op: u32, a: Value) -> Result<Value, Reason>
     ensures { (c q : Bytes) → worked_of c q result ≡ unary_worked op (value_of c q a) }
