@@ -1,13 +1,12 @@
 -- `value::bits::to_bits` meets its contract.
 use Rattle.std.proofs.Common.{Bool, not, T, sym, ap, ◌∙◌, subst}
-use lib.Ieee.Compare.{differs_from_itself}
 use lib.Ieee.{to_bits, binary64}
-use Rattle.value.proofs.Floats.{differs}
+use Rattle.value.proofs.Floats.{only_nan}
 use Rattle.value.proofs.bits.to_bits.Goals as goal
 
-pub returns-then-x : goal.returns-then-x
+pub returns-then-is_nan : goal.returns-then-is_nan
 unfolding to_bits
-returns-then-x c = sym (ap (to_bits binary64) (differs_from_itself c.args.x (subst T (sym c.if-x.true) tt)))
+returns-then-is_nan c = ap (to_bits binary64) (only_nan c.args.x (sym c.is_nan.ensures.value ∙ c.if-is_nan.true))
 
 pub float_to_bits-result : goal.float_to_bits-result
-float_to_bits-result c = subst (λ (t : Bool). T (not t)) (sym (sym (differs c.args.x) ∙ c.if-x.false)) tt
+float_to_bits-result c = subst (λ (t : Bool). T (not t)) (sym (sym c.is_nan.ensures.value ∙ c.if-is_nan.false)) tt
