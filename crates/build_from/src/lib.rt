@@ -54,14 +54,22 @@ pub fn build_from<'t>(
             catalog, statement, tables, cells, froms, r, area, nodes, n, m, k,
         ),
         Some(side) => {
-            let a = build_from(
+            let first = build_from(
                 catalog, statement, tables, cells, froms, side.first, area, nodes, n, m, k,
-            )?;
-            let b = build_from(
+            );
+            // A match, since ? would hold a scope of 1.6 KB once more in each frame of the recursion.
+            let a = match first {
+                Ok(a) => a,
+                Err(refusal) => return Err(refusal),
+            };
+            let second = build_from(
                 catalog, statement, tables, cells, froms, side.second, area, nodes, a.cell, a.node,
                 a.used,
-            )?;
-            joins::build_join(catalog, statement, cells, froms, r, a, b, area, nodes)
+            );
+            match second {
+                Ok(b) => joins::build_join(catalog, statement, cells, froms, r, a, b, area, nodes),
+                Err(refusal) => Err(refusal),
+            }
         }
     }
 }
