@@ -1,6 +1,6 @@
 -- The contracts of building: what is built of the tree at a row, over a scope whose arrays are lent, and what is known of
 -- a record whose operands are still to be built.
-use Rattle.std.specs.Prelude.{ℕ, suc, ◌+◌, ◌*◌, ◌<◌, ◌≡◌, List, [], ◌∷◌, length, take}
+use Rattle.std.specs.Prelude.{ℕ, suc, ◌+◌, ◌*◌, ◌<◌, ◌≡◌, List, [], ◌∷◌, length, take, Result, Ok, Err}
 use Rattle.std.proofs.Common.{arith, ◌∙◌, take_all}
 use Rattle.std.proofs.Math.Option.{none}
 use Rattle.rules.specs.Lists.{Bytes}
@@ -13,6 +13,7 @@ use Rattle.ast.specs.Row.{line_at, operator_at, row_literal, first_operand, seco
 use Rattle.scope.specs.Scopes.{matches_of, scope_from}
 use Rattle.scope.specs.Matches.{matched-from}
 use Rattle.scope.specs.UsedMatches.{used_matches, used-again, used-scope}
+use Rattle.numbers.specs.declared.refusals.Refusal.{Refusal}
 use Rattle.plan.specs.Emits.{Emitting, Written, Emits, joined}
 use Rattle.build_expression.specs.Rows.{unary_step, is_step, binary_step}
 use Rattle.build_expression.specs.declared.Begun.{Begun}
@@ -85,9 +86,10 @@ module _ (c q : Bytes) (t xs ms ts : List ℕ) (r : ℕ) where
   Operates O.Binary = Two
 
   -- the whole tree is built, or its operands come first and the area is as it was
-  unfoldable pub BeginsAs : ℕ → List ℕ → List ℕ → Begun → Type 0
-  BeginsAs n area area' (B.Whole x) = Builds c q t xs ms ts r n area area' x
-  BeginsAs n area area' (B.Operands o) = (area' ≡ area) × Operates o
+  unfoldable pub BeginsAs : ℕ → List ℕ → List ℕ → Result Begun Refusal → Type 0
+  BeginsAs n area area' (Ok (B.Whole m)) = Builds c q t xs ms ts r n area area' (Ok m)
+  BeginsAs n area area' (Ok (B.Operands o)) = (area' ≡ area) × Operates o
+  BeginsAs n area area' (Err w) = Builds c q t xs ms ts r n area area' (Err w)
 
-pub record Begins (c q : Bytes) (t xs ms ts : List ℕ) (r n : ℕ) (area area' : List ℕ) (b : Begun) : Type 0 where
+pub record Begins (c q : Bytes) (t xs ms ts : List ℕ) (r n : ℕ) (area area' : List ℕ) (b : Result Begun Refusal) : Type 0 where
   pub is : BeginsAs c q t xs ms ts r n area area' b

@@ -1,5 +1,5 @@
 -- What is built of a record before its operands, by its kind.
-use Rattle.std.specs.Prelude.{ℕ, suc, ◌+◌, ◌*◌, ◌<◌, ◌≡◌, true, false, List, [], ◌∷◌, length, Ok, Err}
+use Rattle.std.specs.Prelude.{ℕ, suc, ◌+◌, ◌*◌, ◌<◌, ◌≡◌, true, false, List, [], ◌∷◌, length, Result, Ok, Err}
 use Rattle.std.specs.Prelude as std
 use Rattle.std.proofs.Common.{arith, ◌∙◌}
 use Rattle.std.proofs.Math.Path.{refl, sym, ap}
@@ -29,6 +29,8 @@ use Rattle.plan.specs.Emits.{Written, Emits, accepts, refuses, emits-same}
 use Rattle.build_expression.specs.Rows.{column_step, literal_step, column-is, unary-is, root_is, is-is, binary-is}
 use Rattle.build_expression.specs.Calls.{root_of, is-root, no-root, one_argument, call-unknown}
 use Rattle.build_expression.specs.Builds.{scope_at, Builds, Unmatched, unmatched, Operates, BeginsAs, Begins}
+use Rattle.numbers.specs.declared.refusals.Refusal.{Refusal}
+use Rattle.build_expression.specs.declared.Begun.{Begun}
 use Rattle.build_expression.specs.declared.Begun.TheVariants as B
 use Rattle.build_expression.specs.declared.Operator.TheVariants as O
 
@@ -40,15 +42,21 @@ pub not-matched : (c q : Bytes) (t ms : List ℕ) (r : ℕ) (m : std.Option ℕ)
     → option_of m ≡ match_at (matches_of (tree_at c q t) 0 ms) (tree_at c q t r) → m ≡ std.None → Unmatched c q t ms r
 not-matched c q t ms r m e f = record { is = sym e ∙ ap option_of f }
 
+-- the whole, or its refusal
+abbrev pub whole_of : Written → Result Begun Refusal
+whole_of (Ok m) = Ok (B.Whole m)
+whole_of (Err w) = Err w
+
 module _ (c q : Bytes) (t xs ms ts : List ℕ) (r n : ℕ) (area area' : List ℕ) where
-  pub begins-whole : (x : Written) → Builds c q t xs ms ts r n area area' x → Begins c q t xs ms ts r n area area' (B.Whole x)
+  pub begins-whole : (x : Written) → Builds c q t xs ms ts r n area area' x → Begins c q t xs ms ts r n area area' (whole_of x)
   unfolding BeginsAs
-  begins-whole x b = record { is = b }
+  begins-whole (Ok m) b = record { is = b }
+  begins-whole (Err w) b = record { is = b }
 
   -- a match is one column
   pub begins-matched : (m : std.Option ℕ) (i : ℕ)
       → option_of m ≡ match_at (matches_of (tree_at c q t) 0 ms) (tree_at c q t r) → m ≡ std.Some i
-      → Puts n (C.column i ∷ []) area area' → Begins c q t xs ms ts r n area area' (B.Whole (Ok (n + 1)))
+      → Puts n (C.column i ∷ []) area area' → Begins c q t xs ms ts r n area area' (Ok (B.Whole (n + 1)))
   unfolding BeginsAs
   begins-matched m i e f p = record {
     is = record {
@@ -68,7 +76,7 @@ module _ (c q : Bytes) (t xs ms ts : List ℕ) (r n : ℕ) (area area' : List �
 
     whole : (e : Expr) (x : Written) → tree_at c q t r ≡ e
         → ((h : ℕ) → Emits (emit (scope_at c q t xs ms ts h) n e) n area area' x)
-        → Begins c q t xs ms ts r n area area' (B.Whole x)
+        → Begins c q t xs ms ts r n area area' (whole_of x)
     whole e x f g = begins-whole x (built e x f g)
 
     pub built-qualified : (x : Written) (o : Option Word) → kind_at t r ≡ 3 → o ≡ some (row_qualifier c q t r)
@@ -84,7 +92,7 @@ module _ (c q : Bytes) (t xs ms ts : List ℕ) (r n : ℕ) (area area' : List �
 
     module _ (k : Kind) (kind : number_of k ≡ kind_at t r) where
       pub begins-star : (l : ℕ) → k ≡ K.Star → l ≡ line_at t r → length area' ≡ length area
-          → Begins c q t xs ms ts r n area area' (B.Whole (Err (record { reason = Re.UnsupportedStar; line = l })))
+          → Begins c q t xs ms ts r n area area' (Err (record { reason = Re.UnsupportedStar; line = l }))
       unfolding named
       begins-star l e f g =
           let tree = star-row c q t r k kind e in
@@ -94,7 +102,7 @@ module _ (c q : Bytes) (t xs ms ts : List ℕ) (r n : ℕ) (area area' : List �
       pub begins-column : (x : Written) → k ≡ K.Column
           → ((h : ℕ) → Emits (column_step n (line_at t r) (lookup (scope_at c q t xs ms ts h) none (row_name c q t r)))
           n area area' x)
-          → Begins c q t xs ms ts r n area area' (B.Whole x)
+          → Begins c q t xs ms ts r n area area' (whole_of x)
       begins-column x e g =
           let tree = column-row c q t r k kind e in
           whole _ x tree (λ h. emits-same (column-is _ n (line_at t r) none (row_name c q t r) (none_of _ h tree)) (g h))
@@ -102,7 +110,7 @@ module _ (c q : Bytes) (t xs ms ts : List ℕ) (r n : ℕ) (area area' : List �
       pub begins-qualified : (x : Written) (o : Option Word) → o ≡ some (row_qualifier c q t r) → k ≡ K.Qualified
           → ((h : ℕ) → Emits (column_step n (line_at t r) (lookup (scope_at c q t xs ms ts h) o (row_name c q t r)))
           n area area' x)
-          → Begins c q t xs ms ts r n area area' (B.Whole x)
+          → Begins c q t xs ms ts r n area area' (whole_of x)
       begins-qualified x o w e g =
           let tree = qualified-row c q t r k kind e in
           whole _ x tree (λ h. emits-same
@@ -110,7 +118,7 @@ module _ (c q : Bytes) (t xs ms ts : List ℕ) (r n : ℕ) (area area' : List �
           (rw w at (g h)))
 
       pub begins-literal : (x : Written) → k ≡ K.Literal → Emits (literal_step n (row_literal c q t r)) n area area' x
-          → Begins c q t xs ms ts r n area area' (B.Whole x)
+          → Begins c q t xs ms ts r n area area' (whole_of x)
       unfolding literal_step
       begins-literal x e g =
           let tree = literal-row c q t r k kind e in
@@ -118,7 +126,7 @@ module _ (c q : Bytes) (t xs ms ts : List ℕ) (r n : ℕ) (area area' : List �
 
       -- OPERANDS FIRST
       pub begins-unary : (x : ℕ) → k ≡ K.Unary → x ≡ unary_code (unary_at (operator_at t r)) → area' ≡ area
-          → Begins c q t xs ms ts r n area area' (B.Operands (O.Unary x))
+          → Begins c q t xs ms ts r n area area' (Ok (B.Operands (O.Unary x)))
       unfolding BeginsAs Operates size number_of
       begins-unary x e f g =
           let tree = unary-row c q t r k kind e in
@@ -137,7 +145,7 @@ module _ (c q : Bytes) (t xs ms ts : List ℕ) (r n : ℕ) (area area' : List �
             );
           }
 
-      pub begins-is : k ≡ K.Is → area' ≡ area → Begins c q t xs ms ts r n area area' (B.Operands O.Is)
+      pub begins-is : k ≡ K.Is → area' ≡ area → Begins c q t xs ms ts r n area area' (Ok (B.Operands O.Is))
       unfolding BeginsAs Operates size number_of
       begins-is e g =
           let tree = is_row c q t r k kind e in
@@ -152,7 +160,7 @@ module _ (c q : Bytes) (t xs ms ts : List ℕ) (r n : ℕ) (area area' : List �
             );
           }
 
-      pub begins-binary : k ≡ K.Binary → area' ≡ area → Begins c q t xs ms ts r n area area' (B.Operands O.Binary)
+      pub begins-binary : k ≡ K.Binary → area' ≡ area → Begins c q t xs ms ts r n area area' (Ok (B.Operands O.Binary))
       unfolding BeginsAs Operates size number_of
       begins-binary e g =
           let tree = binary-row c q t r k kind e in
@@ -175,7 +183,7 @@ module _ (c q : Bytes) (t xs ms ts : List ℕ) (r n : ℕ) (area area' : List �
       call-tree = call-row c q t r K.Call (sym kind) refl
 
       pub begins-root : (x : ℕ) → root_of c q t r ≡ true → x ≡ unary_code sqrt → area' ≡ area
-          → Begins c q t xs ms ts r n area area' (B.Operands (O.Unary x))
+          → Begins c q t xs ms ts r n area area' (Ok (B.Operands (O.Unary x)))
       unfolding BeginsAs Operates size size_all
       begins-root x e f g =
           let one = is-root c q t r e in
@@ -197,7 +205,7 @@ module _ (c q : Bytes) (t xs ms ts : List ℕ) (r n : ℕ) (area area' : List �
           }
 
       pub begins-unknown : (l : ℕ) → root_of c q t r ≡ false → l ≡ line_at t r → length area' ≡ length area
-          → Begins c q t xs ms ts r n area area' (B.Whole (Err (record { reason = Re.UnknownFunction; line = l })))
+          → Begins c q t xs ms ts r n area area' (Err (record { reason = Re.UnknownFunction; line = l }))
       unfolding named
       begins-unknown l e f g = whole _ _ call-tree (λ h. refuses unknown_function (line_at t r) Re.UnknownFunction l g refl f
           (call-unknown _ n (line_at t r) (row_name c q t r) (tree_at c q t) t _ _ (none_of _ h call-tree)

@@ -1,6 +1,6 @@
 -- A record whose operands are built: each operand has room, and a refused operand, or the cells behind the operands, are
 -- the whole tree's.
-use Rattle.std.specs.Prelude.{ℕ, suc, ◌+◌, ◌*◌, ◌<◌, ◌≡◌, List, Ok, Err}
+use Rattle.std.specs.Prelude.{ℕ, suc, ◌+◌, ◌*◌, ◌<◌, ◌≡◌, List, Result, Ok, Err}
 use Rattle.std.proofs.Common.{arith, add-one, ap, ◌∙◌}
 use Rattle.std.proofs.Math.ListN.{length}
 use Rattle.rules.specs.Lists.{Bytes}
@@ -35,13 +35,17 @@ built-kept b = (b.is 0).kept
 pub leaf_room : (e : Expr) (n : ℕ) (area : List ℕ) → Room n (3 * size e) area → Room n 1 area
 leaf_room e n area h = room-less 1 (omega (arith, arguments-most empty e)) h
 
-module _ {c q : Bytes} {t xs ms ts : List ℕ} {r n : ℕ} {area area₁ : List ℕ} {b : Begun}
+module _ {c q : Bytes} {t xs ms ts : List ℕ} {r n : ℕ} {area area₁ : List ℕ} {b : Result Begun Refusal}
     (g : Begins c q t xs ms ts r n area area₁ b) where
-  pub whole-built : (x : Written) → b ≡ B.Whole x → Builds c q t xs ms ts r n area area₁ x
+  pub whole-built : (m : ℕ) → b ≡ Ok (B.Whole m) → Builds c q t xs ms ts r n area area₁ (Ok m)
   unfolding BeginsAs
-  whole-built x e = rw e at g.is
+  whole-built m e = rw e at g.is
 
-  module _ (o : Operator) (e : b ≡ B.Operands o) where
+  pub begun-refused : (w : Refusal) → b ≡ Err w → Builds c q t xs ms ts r n area area₁ (Err w)
+  unfolding BeginsAs
+  begun-refused w e = rw e at g.is
+
+  module _ (o : Operator) (e : b ≡ Ok (B.Operands o)) where
     opened : (area₁ ≡ area) × Operates c q t xs ms ts r o
     unfolding BeginsAs
     opened = rw e at g.is

@@ -139,20 +139,20 @@ fn literal(
 }
 
 // A call: refused for any but `sqrt` of one argument, before its arguments.
-fn call(catalog: &[u8], statement: &[u8], table: &[u32], r: usize) -> Begun
+fn call(catalog: &[u8], statement: &[u8], table: &[u32], r: usize) -> Result<Begun, Refusal>
     requires { kind_at table.now r ≡ 4 }
     ensures { (xs ms ts area : List ℕ) (n : ℕ)
         → Unmatched catalog.now statement.now table.now ms r
         → Begins catalog.now statement.now table.now xs ms ts r n area area result }
 {
     if is_root(catalog, statement, table, r) {
-        return Begun::Operands(Operator::Unary(SQRT));
+        return Ok(Begun::Operands(Operator::Unary(SQRT)));
     }
     let refusal = Refusal {
         reason: Reason::UnknownFunction,
         line: row::line(table, r),
     };
-    Begun::Whole(Err(refusal))
+    Err(refusal)
 }
 
 // A record that is matched to no column.
@@ -168,7 +168,7 @@ fn unmatched<'t, 'a>(
     count: u32,
     area: &mut [u32],
     n: u32,
-) -> Begun
+) -> Result<Begun, Refusal>
     requires room { Room n 1 area.old }
     requires unmatched { Unmatched catalog.now statement.now table.now (take width matches.now) r }
     ensures { Begins catalog.now statement.now table.now
@@ -177,21 +177,21 @@ fn unmatched<'t, 'a>(
 {
     let kind = row::kind_of(table, r);
     match kind {
-        Kind::Star => Begun::Whole(Err(Refusal {
+        Kind::Star => Err(Refusal {
             reason: Reason::UnsupportedStar,
             line: row::line(table, r),
-        })),
-        Kind::Column => Begun::Whole(column(
+        }),
+        Kind::Column => Ok(Begun::Whole(column(
             catalog, statement, table, r, labels, matches, width, tables, count, None, area, n,
-        )),
-        Kind::Qualified => Begun::Whole(qualified(
+        )?)),
+        Kind::Qualified => Ok(Begun::Whole(qualified(
             catalog, statement, table, r, labels, matches, width, tables, count, area, n,
-        )),
+        )?)),
         Kind::Call => call(catalog, statement, table, r),
-        Kind::Unary => Begun::Operands(Operator::Unary(row::unary_code(table, r))),
-        Kind::Binary => Begun::Operands(Operator::Binary),
-        Kind::Is => Begun::Operands(Operator::Is),
-        Kind::Literal => Begun::Whole(Ok(literal(catalog, statement, table, r, area, n))),
+        Kind::Unary => Ok(Begun::Operands(Operator::Unary(row::unary_code(table, r)))),
+        Kind::Binary => Ok(Begun::Operands(Operator::Binary)),
+        Kind::Is => Ok(Begun::Operands(Operator::Is)),
+        Kind::Literal => Ok(Begun::Whole(literal(catalog, statement, table, r, area, n))),
     }
 }
 
@@ -208,7 +208,7 @@ pub fn begin<'t, 'a>(
     count: u32,
     area: &mut [u32],
     n: u32,
-) -> Begun
+) -> Result<Begun, Refusal>
     requires { Room n 1 area.old }
     ensures { Begins catalog.now statement.now table.now
         (take width labels.now) (take width matches.now) (take count tables.now)
@@ -218,7 +218,7 @@ pub fn begin<'t, 'a>(
     match matched {
         Some(i) => {
             cells::column(area, n, i);
-            Begun::Whole(Ok(n + 1))
+            Ok(Begun::Whole(n + 1))
         }
         None => unmatched(
             catalog, statement, table, r, labels, matches, width, tables, count, area, n,

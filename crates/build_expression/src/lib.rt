@@ -23,10 +23,10 @@ pub enum Operator {
     Binary,
 }
 
-// What is built of a record before its operands: the whole, or nothing yet.
+// What is built of a record before its operands: the whole, up to the next cell, or nothing yet.
 #[derive(Clone, Copy)]
 pub enum Begun {
-    Whole(Result<u32, Refusal>),
+    Whole(u32),
     Operands(Operator),
 }
 
@@ -51,9 +51,9 @@ fn build_tree<'t, 'a>(
 {
     let begun = leaves::begin(
         catalog, statement, table, r, labels, matches, width, tables, count, area, n,
-    );
+    )?;
     match begun {
-        Begun::Whole(whole) => whole,
+        Begun::Whole(next) => Ok(next),
         Begun::Operands(operator) => {
             let left = r + 1;
             let right = rows::next(table, left);

@@ -3,6 +3,7 @@ use mathlib.Core.Path.{refl, sym, ap, ◌∙◌}
 use Rattle.ast.specs.Row.{number_of}
 use Rattle.ast.specs.Table.{tree_at}
 use Rattle.scope.specs.Lookup.{qualifier_of}
+use Rattle.plan.specs.Emits.{exit}
 use Rattle.build_expression.specs.Leaves.{begins-star, begins-column, begins-whole, begins-literal, begins-unary, begins-is, begins-binary}
 use Rattle.build_expression.proofs.leaves.unmatched.Goals as goal
 
@@ -22,13 +23,23 @@ pub returns-in-Star : goal.returns-in-Star
 returns-in-Star c = begins-star _ _ _ _ _ _ _ _ _ _ c.requires.unmatched _ c.kind_of-kind.ensures _
     c.in-Star.is c.line.ensures refl
 
-pub returns-in-Column : goal.returns-in-Column
+pub returns-in_ok-column-in-Column : goal.returns-in_ok-column-in-Column
 unfolding qualifier_of
-returns-in-Column c = begins-column _ _ _ _ _ _ _ _ _ _ c.requires.unmatched _ c.kind_of-kind.ensures _
-    c.in-Column.is (λ h. c.column.ensures (tree_at _ _ _) h)
+returns-in_ok-column-in-Column c = rw c.in_ok-column-in-Column.was at (begins-column _ _ _ _ _ _ _ _ _ _ c.requires.unmatched _ c.kind_of-kind.ensures _
+    c.in-Column.is (λ h. c.column.ensures (tree_at _ _ _) h))
 
-pub returns-in-Qualified : goal.returns-in-Qualified
-returns-in-Qualified c = begins-whole _ _ _ _ _ _ _ _ _ _ _ c.qualified.ensures
+pub returns-in_err-column-in-Column : goal.returns-in_err-column-in-Column
+unfolding qualifier_of
+returns-in_err-column-in-Column c = rw (exit c.from_residual.result c.from_residual.ensures.1)
+    (rw c.in_err-column-in-Column.was at (begins-column _ _ _ _ _ _ _ _ _ _ c.requires.unmatched _ c.kind_of-kind.ensures _
+    c.in-Column.is (λ h. c.column.ensures (tree_at _ _ _) h)))
+
+pub returns-in_ok-qualified-in-Qualified : goal.returns-in_ok-qualified-in-Qualified
+returns-in_ok-qualified-in-Qualified c = rw c.in_ok-qualified-in-Qualified.was at (begins-whole _ _ _ _ _ _ _ _ _ _ _ c.qualified.ensures)
+
+pub returns-in_err-qualified-in-Qualified : goal.returns-in_err-qualified-in-Qualified
+returns-in_err-qualified-in-Qualified c = rw (exit c.from_residual-in_err-qualified-in-Qualified.result c.from_residual-in_err-qualified-in-Qualified.ensures.1)
+    (rw c.in_err-qualified-in-Qualified.was at (begins-whole _ _ _ _ _ _ _ _ _ _ _ c.qualified.ensures))
 
 pub returns-in-Call : goal.returns-in-Call
 returns-in-Call c = c.call.ensures _ _ _ _ _ c.requires.unmatched
