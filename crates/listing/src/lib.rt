@@ -5,7 +5,7 @@ mod cells; // cells.rt: the lines of cells
 mod nodes; // nodes.rt: the lines of nodes
 mod own; // own.rt: the statement's own lines
 mod parts; // parts.rt: the repeated parts of a node's line
-mod put; // put.rt: bytes and fields
+pub mod put; // put.rt: bytes and fields
 
 ghost use Rattle.std.specs.Prelude.{drop};
 ghost use Rattle.rules.specs.Print.{show_lines};

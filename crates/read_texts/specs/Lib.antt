@@ -1,3 +1,2 @@
-pub mod Decimals
-pub mod Fields
 pub mod Line
+pub mod Short

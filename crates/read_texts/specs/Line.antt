@@ -1,5 +1,5 @@
 -- The line that is printed: what was read, or the refusal as the planning program prints it (docs/PLAN.md).
-use Rattle.std.specs.Prelude.{ℕ, zero, suc, ◌≡◌, refl, [], ◌∷◌, ◌++◌, length, get_or, Result, Ok, Err}
+use Rattle.std.specs.Prelude.{ℕ, zero, suc, ◌≡◌, refl, List, [], ◌∷◌, ◌++◌, length, get_or, Result, Ok, Err}
 use Rattle.rules.specs.Refusals.{Text, catalog, statement, refusal_number, Refusal, Answer, ok, refused}
 use Rattle.rules.specs.Lists.{Bytes}
 use Rattle.rules.specs.Lines.{bytes}
@@ -38,9 +38,12 @@ unfoldable pub text_word : Tx.Text → Bytes
 text_word T.Catalog = bytes "catalog"
 text_word T.Statement = bytes "statement"
 
+unfoldable pub fields_of : Result Texts TextRefusal → List Bytes
+fields_of (Ok t) = bytes "read" ∷ kind_word t.kind ∷ decimal_of t.cells ∷ decimal_of t.tables ∷ []
+fields_of (Err w) = bytes "refused" ∷ decimal_of (refusal_number (reason_of w.reason)) ∷ text_word w.text ∷ decimal_of w.line ∷ []
+
 unfoldable pub line_of : Result Texts TextRefusal → Bytes
-line_of (Ok t) = tabbed (bytes "read" ∷ kind_word t.kind ∷ decimal_of t.cells ∷ decimal_of t.tables ∷ []) ++ (10 ∷ [])
-line_of (Err w) = tabbed (bytes "refused" ∷ decimal_of (refusal_number (reason_of w.reason)) ∷ text_word w.text ∷ decimal_of w.line ∷ []) ++ (10 ∷ [])
+line_of t = tabbed (fields_of t) ++ (10 ∷ [])
 
 -- a number that is no kind's
 pub kind-other : (k : ℕ) → (k ≡ 1 → ⊥) → (k ≡ 2 → ⊥) → (k ≡ 3 → ⊥) → (k ≡ 4 → ⊥) → (k ≡ 5 → ⊥) → (k ≡ 6 → ⊥) → kind_word k ≡ bytes "other"
@@ -70,11 +73,11 @@ text-word catalog = refl
 text-word statement = refl
 
 refused-line : (r : Refusal) → line_of (texts_of (refused r)) ≡ printed (refused r)
-unfolding line_of texts_of printed show_answer show_lines show_refusal
+unfolding line_of fields_of texts_of printed show_answer show_lines show_refusal
 refused-line r = rw (text-word r.text, reason-named r.reason)
 
 -- what is answered is printed so
 pub line-told : (a : Answer (Catalog × Statement)) → line_of (texts_of a) ≡ printed a
-unfolding line_of texts_of printed
+unfolding line_of fields_of texts_of printed
 line-told (ok x) = rw (kind-word x.1)
 line-told (refused r) = refused-line r
