@@ -62,11 +62,13 @@ module _ (t : Bytes) (a n : ℕ) (i : Inside t a n) where
 
   pub table-some : (e : ℕ) (r : FromRecord) → is_name n ≡ true → numbers_of r ≡ 1 ∷ 0 ∷ (most_bytes + a) ∷ n ∷ 0 ∷ 0 ∷ [] → r.next ≡ e → IsFromRow t e (table_fields (field most_bytes t a n ∷ [])) (Some r)
   unfolding RowSays table_fields map_option name_alias both optional_name
-  table-some e r h x y = record { says = rw (field-name h) (record {
-    is = unfold from_numbers option_span span field in rw (field-length t a n i) (sym x);
-    fits = λ c. unfold FromFits NameFits in (field_fits t a n i c, tt);
-    next = y;
-  }) }
+  table-some e r h x y = record {
+    says = rw (field-name h) (record {
+      is = unfold from_numbers option_span span field in rw (field-length t a n i) (sym x);
+      fits = λ c. unfold FromFits NameFits in (field_fits t a n i c, tt);
+      next = y;
+    });
+  }
 
 module _ (t : Bytes) (a n b m : ℕ) (i : Inside t a n) (j : Inside t b m) where
   pub alias-first : is_name n ≡ false → table_fields (field most_bytes t a n ∷ field most_bytes t b m ∷ []) ≡ none
@@ -80,11 +82,13 @@ module _ (t : Bytes) (a n b m : ℕ) (i : Inside t a n) (j : Inside t b m) where
   pub alias-some : (e : ℕ) (r : FromRecord) → is_name n ≡ true → is_name m ≡ true → numbers_of r ≡ 1 ∷ 0 ∷ (most_bytes + a) ∷ n ∷ (most_bytes + b) ∷ m ∷ [] → r.next ≡ e
       → IsFromRow t e (table_fields (field most_bytes t a n ∷ field most_bytes t b m ∷ [])) (Some r)
   unfolding RowSays table_fields map_option name_alias both optional_name
-  alias-some e r h g x y = record { says = rw (field-name t a n i h, field-name t b m j g) (record {
-    is = unfold from_numbers option_span span field in rw (field-length t a n i, field-length t b m j) (sym x);
-    fits = λ c. unfold FromFits in (field_fits t a n i c, field_fit t b m j c g);
-    next = y;
-  }) }
+  alias-some e r h g x y = record {
+    says = rw (field-name t a n i h, field-name t b m j g) (record {
+      is = unfold from_numbers option_span span field in rw (field-length t a n i, field-length t b m j) (sym x);
+      fits = λ c. unfold FromFits in (field_fits t a n i c, field_fit t b m j c g);
+      next = y;
+    });
+  }
 
 -- JOINS
 pub join-words : keys joins ≡ words_of (bytes "cross inner left right ")
@@ -149,11 +153,13 @@ module _ (t : Bytes) (a n b m j : ℕ) (words : Bytes) (w : keys joins ≡ words
     join-some e r hj ho x y =
         let u = join-at j hj in
         let v = flag_at o ho in
-        record { says = rw (joins-is, u.is, predicates-is, v.is) (record {
-          is = unfold from_numbers in rw (u.number, v.number) (sym x);
-          fits = λ c. unfold FromFits in tt;
-          next = y;
-        }) }
+        record {
+          says = rw (joins-is, u.is, predicates-is, v.is) (record {
+            is = unfold from_numbers in rw (u.number, v.number) (sym x);
+            fits = λ c. unfold FromFits in tt;
+            next = y;
+          });
+        }
 
 -- RECORDS BY THEIR KEYWORD
 pub from-words : keys from_heads ≡ words_of (bytes "from join ")

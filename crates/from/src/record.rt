@@ -10,7 +10,7 @@ ghost use Rattle.text.specs.Fields.{Inside};
 ghost use Rattle.read_expression.specs.Reading.{here};
 ghost use Rattle.from.specs.Records.{table_fields, join_fields, IsFromRow};
 
-// The kind of a table's row; those of joins are 2 to 5.
+// The kind of a table's row; those of joins are 2 to 5: numbers, as they stand in the rows (fixed memory).
 pub const TABLE: u32 = 1;
 
 // A FROM record: the kind of its row, whether a predicate follows a join (1), the table's address and length in a and b, the alias's
@@ -46,14 +46,7 @@ fn table_record(t: &[u8], a: usize, n: usize, e: usize) -> Option<FromRecord>
 }
 
 // A table's name and its alias.
-fn alias_record(
-    t: &[u8],
-    a: usize,
-    n: usize,
-    b: usize,
-    m: usize,
-    e: usize,
-) -> Option<FromRecord>
+fn alias_record(t: &[u8], a: usize, n: usize, b: usize, m: usize, e: usize) -> Option<FromRecord>
     requires fact_1 { Inside t.now a n }
     requires fact_2 { Inside t.now b m }
     ensures { IsFromRow t.now e (table_fields (field most_bytes t.now a n ∷ field most_bytes t.now b m ∷ [])) result }

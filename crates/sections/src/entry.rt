@@ -8,7 +8,7 @@ ghost use Rattle.sections.specs.Expressions as expressions;
 use super::{ENTRY_SIZE, start_of};
 use numbers::number;
 
-// The kinds of sections.
+// The kinds of sections: numbers, since a SELECT's clauses are read by counting through them (statement::bodies::read_run).
 pub const ITEM: u32 = 0;
 
 pub const WHERE: u32 = 1;

@@ -13,7 +13,7 @@ ghost use Rattle.statement.specs.FirstRecord.{first_said};
 
 use text::places::address;
 
-// The kinds of statements.
+// The kinds of statements: numbers, as they stand in the parts (fixed memory).
 pub const SELECT: u32 = 1;
 
 pub const CREATE: u32 = 2;
