@@ -63,7 +63,16 @@ pub fn build_from<'t>(
                 Err(refusal) => return Err(refusal),
             };
             let second = build_from(
-                catalog, statement, tables, cells, froms, side.second, area, nodes, a.cell, a.node,
+                catalog,
+                statement,
+                tables,
+                cells,
+                froms,
+                side.second,
+                area,
+                nodes,
+                a.cell,
+                a.node,
                 a.used,
             );
             match second {

@@ -15,11 +15,9 @@ pub fn group_rows(parts: &[u32], rows: &mut [usize]) -> usize
     ensures { Appended (section_rows parts.now group_kind) 0 rows.old result rows.new }
 {
     let n = count(parts, GROUP);
-    let mut i: u32 = 0;
-    while i < n {
+    for i in 0..n {
         let e = entry_at(parts, GROUP, i);
         rows[i as usize] = first_row(e);
-        i += 1;
     }
     n as usize
 }
@@ -62,11 +60,9 @@ fn collect_section(
 {
     let n = count(parts, kind);
     let mut x = k;
-    let mut i: u32 = 0;
-    while i < n {
+    for i in 0..n {
         let e = entry_at(parts, kind, i);
         x = collect_at(catalog, statement, cells, first_row(e), rows, x);
-        i += 1;
     }
     x
 }

@@ -101,26 +101,26 @@ module _ {c q : Bytes} {cells parts : List ℕ} {scope : Scope} {n m k : ℕ} {a
         t.kept)
 
     module _ {area₂ nodes₂ : List ℕ} {y : Step} (t : OrderSteps area₂ nodes₂ (Ok y)) where
-        pub order-state : OrderState c q cells parts scope.width scope.hidden y.cell y.node y.used area₂ nodes₂
-        order-state =
-            let o = step-on on.held (order-step (Ok y) t) y refl in
-            record {
-              catalog = h.catalog;
-              select = h.select;
-              stage = h.stage;
-              node = o.node;
-              past = record { before = on.node; past = after; is = o.answer };
-              read = h.read;
-              scope = scope;
-              scoped = h.scoped;
-              width = refl;
-              hidden = refl;
-              held = o.held;
-            }
+      pub order-state : OrderState c q cells parts scope.width scope.hidden y.cell y.node y.used area₂ nodes₂
+      order-state =
+          let o = step-on on.held (order-step (Ok y) t) y refl in
+          record {
+            catalog = h.catalog;
+            select = h.select;
+            stage = h.stage;
+            node = o.node;
+            past = record { before = on.node; past = after; is = o.answer };
+            read = h.read;
+            scope = scope;
+            scoped = h.scoped;
+            width = refl;
+            hidden = refl;
+            held = o.held;
+          }
 
-        pub order-plans : {area₃ : List ℕ} {x : Written}
-            → Plans (select_offset order-state.select order-state.stage order-state.node) area₂ area₃ x
-            → Plans (select_having h.select h.stage) area area₃ x
-        unfolding order-state
-        order-plans p = plans-after {area' = area₂} (t.kept ∙ s.kept)
-            (having-on ∙ stages.order-step h.select h.stage on.node order-state.node order-state.past.is) p
+      pub order-plans : {area₃ : List ℕ} {x : Written}
+          → Plans (select_offset order-state.select order-state.stage order-state.node) area₂ area₃ x
+          → Plans (select_having h.select h.stage) area area₃ x
+      unfolding order-state
+      order-plans p = plans-after {area' = area₂} (t.kept ∙ s.kept)
+          (having-on ∙ stages.order-step h.select h.stage on.node order-state.node order-state.past.is) p

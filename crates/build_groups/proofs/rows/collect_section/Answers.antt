@@ -7,13 +7,13 @@ use Rattle.build_groups.specs.Collects.{collect-end, collect-room, collect-put}
 use Rattle.build_groups.proofs.rows.collect_section.Goals as goal
 
 pub loop-i-init : goal.loop-i-init
-loop-i-init c = (search rules, search rules, appending-begin _ _ _ _ (ap (collect_each_rows c.args.catalog.now c.args.statement.now c.args.cells.now) (section-entries _ _ _ c.count-n.ensures)) (search rules))
+loop-i-init c = (appending-begin _ _ _ _ (ap (collect_each_rows c.args.catalog.now c.args.statement.now c.args.cells.now) (section-entries _ _ _ c.count-n.ensures)) (search rules))
 
 pub collect_at-x-requires : goal.collect_at-x-requires
-collect_at-x-requires c = collect-room _ _ _ _ _ _ _ c.loop-i.invariant.2 _ _ c.loop-i-test.true c.entry_at-e.ensures c.first_row.ensures c.loop-i.invariant.0
+collect_at-x-requires c = collect-room _ _ _ _ _ _ _ c.loop-i.invariant _ _ c.loop-i-test.true c.entry_at-e.ensures c.first_row.ensures c.requires
 
 pub loop-i-preserved : goal.loop-i-preserved
-loop-i-preserved c = (search rules, search rules, collect-put _ _ _ _ _ _ _ c.loop-i.invariant.2 _ _ c.loop-i-test.true c.entry_at-e.ensures c.first_row.ensures c.collect_at-x.ensures)
+loop-i-preserved c = (collect-put _ _ _ _ _ _ _ c.loop-i.invariant _ _ c.loop-i-test.true c.entry_at-e.ensures c.first_row.ensures c.collect_at-x.ensures)
 
 pub returns : goal.returns
-returns c = collect-end _ _ _ _ _ _ _ c.loop-i.invariant.2 c.loop-i-test.false
+returns c = collect-end _ _ _ _ _ _ _ c.loop-i.invariant c.loop-i-test.false

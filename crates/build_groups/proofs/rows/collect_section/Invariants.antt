@@ -1,16 +1,10 @@
 -- `rows::collect_section`: of the aggregates those of the entries from the i-th on are still to come.
-use Prim.Native.Nat.{◌+◌, ◌-◌, ◌≤◌}
-use lib.ListN.{length}
+use Prim.Native.Nat.{◌-◌}
 use Rattle.build_groups.specs.Rows.{entry_rows, section_rows, collect_each_rows}
 use Rattle.build_groups.specs.Collects.{Appending}
 use Rattle.build_groups.proofs.rows.collect_section.Given as goal
 
 abbrev pub invariant-loop-i : goal.invariant-loop-i
 invariant-loop-i l =
-    (l.k + length (collect_each_rows l.catalog l.statement l.cells (section_rows l.parts l.kind)) ≤ length l.initial.rows)
-    × (l.i ≤ l.n)
-    × Appending (collect_each_rows l.catalog l.statement l.cells (section_rows l.parts l.kind))
+    Appending (collect_each_rows l.catalog l.statement l.cells (section_rows l.parts l.kind))
     (collect_each_rows l.catalog l.statement l.cells (entry_rows l.parts l.kind l.i (l.n - l.i))) l.k l.initial.rows l.x l.rows
-
-abbrev pub decreases-loop-i : goal.decreases-loop-i
-decreases-loop-i l = l.n - l.i

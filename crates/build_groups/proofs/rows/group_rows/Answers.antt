@@ -7,13 +7,13 @@ use Rattle.build_groups.specs.Collects.{appending-begin}
 use Rattle.build_groups.proofs.rows.group_rows.Goals as goal
 
 pub loop-i-init : goal.loop-i-init
-loop-i-init c = (search rules, search rules, appending-begin _ _ _ _ (section-entries _ _ _ c.count-n.ensures) (search rules))
+loop-i-init c = (appending-begin _ _ _ _ (section-entries _ _ _ c.count-n.ensures) (search rules))
 
 pub bounds-rows-i : goal.bounds-rows-i
-bounds-rows-i c = row_room _ _ _ _ c.loop-i.invariant.2 c.loop-i-test.true (search rules)
+bounds-rows-i c = row_room _ _ _ _ c.loop-i.invariant c.loop-i-test.true (search rules)
 
 pub loop-i-preserved : goal.loop-i-preserved
-loop-i-preserved c = (search rules, search rules, row_put _ _ _ _ c.loop-i.invariant.2 _ _ c.loop-i-test.true (search rules) c.entry_at-e.ensures c.first_row.ensures)
+loop-i-preserved c = (row_put _ _ _ _ c.loop-i.invariant _ _ c.loop-i-test.true (search rules) c.entry_at-e.ensures c.first_row.ensures)
 
 pub returns : goal.returns
-returns c = rows_end _ _ _ _ c.loop-i.invariant.2 c.loop-i-test.false (omega arith)
+returns c = rows_end _ _ _ _ c.loop-i.invariant c.loop-i-test.false (omega arith)

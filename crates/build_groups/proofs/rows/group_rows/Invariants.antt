@@ -1,6 +1,5 @@
 -- `rows::group_rows`: of the groups' rows those from the i-th on are still to come.
-use Prim.Native.Nat.{◌-◌, ◌≤◌}
-use lib.ListN.{length}
+use Prim.Native.Nat.{◌-◌}
 use Rattle.sections.specs.Access.{group_kind}
 use Rattle.build_groups.specs.Rows.{entry_rows, section_rows}
 use Rattle.build_groups.specs.Collects.{Appending}
@@ -8,9 +7,4 @@ use Rattle.build_groups.proofs.rows.group_rows.Given as goal
 
 abbrev pub invariant-loop-i : goal.invariant-loop-i
 invariant-loop-i l =
-    (length (section_rows l.parts group_kind) ≤ length l.initial.rows)
-    × (l.i ≤ l.n)
-    × Appending (section_rows l.parts group_kind) (entry_rows l.parts group_kind l.i (l.n - l.i)) 0 l.initial.rows l.i l.rows
-
-abbrev pub decreases-loop-i : goal.decreases-loop-i
-decreases-loop-i l = l.n - l.i
+    Appending (section_rows l.parts group_kind) (entry_rows l.parts group_kind l.i (l.n - l.i)) 0 l.initial.rows l.i l.rows

@@ -23,7 +23,7 @@ loop-i-init t c = (
   omega arith,
   operands-inside _ _ (λ e. c.if-left-eq0.false (c.operands-left.ensures ∙ e)),
   let z : c.operands-left.result - 0 ≡ c.operands-left.result = omega arith in
-  rw z (visiting-begin _ _ _ _ _ _ c.requires c.kind-any.ensures c.operands-left.ensures),
+      rw z (visiting-begin _ _ _ _ _ _ c.requires c.kind-any.ensures c.operands-left.ensures),
 )
 
 pub visit_rows-answer-requires : goal.visit_rows-answer-requires

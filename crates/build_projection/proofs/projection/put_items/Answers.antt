@@ -51,7 +51,10 @@ shape_of-projected c = c.loop-i.invariant.1.room ∙ sym c.requires.projected_le
 pub returns : goal.returns
 returns c = record {
   items_put = pushing-end c.loop-i.invariant.0 c.loop-i-test.false;
-  labelled = record { is = stored c.loop-i.invariant.1 refl (length-map c.args.items.now (label_number c.args.catalog.now c.args.statement.now c.args.cells.now c.args.parts.now
-      (take c.args.width c.args.labels.now) (take c.args.width c.args.matches.now)
-      (take c.args.count c.args.tables.now))) c.loop-i.invariant.0.within c.loop-i-test.false; kept = kept-part _ _ c.loop-i.invariant.2 c.loop-i.invariant.0.within (omega arith) };
+  labelled = record {
+    is = stored c.loop-i.invariant.1 refl (length-map c.args.items.now (label_number c.args.catalog.now c.args.statement.now c.args.cells.now c.args.parts.now
+        (take c.args.width c.args.labels.now) (take c.args.width c.args.matches.now)
+        (take c.args.count c.args.tables.now))) c.loop-i.invariant.0.within c.loop-i-test.false;
+    kept = kept-part _ _ c.loop-i.invariant.2 c.loop-i.invariant.0.within (omega arith);
+  };
 }
