@@ -16,6 +16,7 @@ pub fn fill<R: Read>(from: &mut R, text: &mut [u8]) -> io::Result<usize>
     ensures within { Within text.new result }
     ensures took { Took (R.remaining from.old) (R.remaining from.new) text.new result }
 {
+    // A read takes as many bytes as came, so no `for` counts them; `read_exact` would refuse a reader that has fewer.
     let mut done: usize = 0;
     while done < text.len() {
         let n = from.read(&mut text[done..])?;

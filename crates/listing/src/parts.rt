@@ -11,6 +11,7 @@ use crate::cells::tail;
 use crate::put::Writer;
 use numbers::number;
 
+// The loops below differ in one call: a function that takes it as a closure is no plainer.
 impl<'a> Writer<'a> {
     // An alias, where there is one.
     pub fn alias(&mut self, a: u32, n: u32)

@@ -116,6 +116,7 @@ impl<'a> Writer<'a> {
 pub fn nth_word(words: &[u8], k: u32) -> &[u8]
     ensures { result.now ≡ get_or (words_of words.now) k [] }
 {
+    // From word to word, so no `for` counts the bytes.
     let mut left = k;
     let mut i: usize = 0;
     while i < words.len() {
