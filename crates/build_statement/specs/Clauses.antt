@@ -1,11 +1,10 @@
 -- A WHERE that may be missing: its cells are the plan's first ones, and the next cell is the number of its root.
-use Rattle.std.specs.Prelude.{ℕ, ◌*◌, ◌≤◌, pred, ◌≡◌, refl, take, Ok, Err}
-use Rattle.std.proofs.Common.{arith, sym, ◌∙◌}
+use Rattle.std.specs.Prelude.{ℕ, ◌*◌, ◌≤◌, pred, ◌≡◌, refl, take, Ok}
+use Rattle.std.proofs.Common.{arith, sym}
 use Rattle.std.proofs.Math.Path.{ap}
 use mathlib.Core.List.{List, [], append-nil}
 use Rattle.std.proofs.Math.Option.{Option, none, some}
 use Rattle.rules.specs.Refusals.{Refusal, ok, refused}
-use Rattle.numbers.specs.Reasons.{noted}
 use Rattle.rules.specs.Lists.{Bytes, concat, map_option}
 use Rattle.rules.specs.Ast.{Expr, size}
 use Rattle.rules.specs.Cells.{Cell}
@@ -24,7 +23,6 @@ use Rattle.statement.specs.declared.access.Clause.TheVariants.{Missing, Stands}
 use Rattle.plan.specs.Layout.{cells_end}
 use Rattle.plan.specs.Cells.{Room}
 use Rattle.plan.specs.Emits.{Emitting, Written, written_of, Emits}
-use Rattle.numbers.specs.declared.refusals.Refusal as code
 use Rattle.build_expression.specs.Rows.{emit-within}
 use Rattle.build_expression.specs.Builds.{scope_at, Builds}
 
@@ -91,18 +89,3 @@ pub not_taken : (s : Scope) (o : Option Expr) (w : Refusal) → emit_given s o �
 unfolding emit_given
 not_taken s none w h = absurd (let z : ◌≡◌ {A = ℕ} 0 1 = cc in omega arith)
 not_taken s (some e) w h = option-stop s 0 e w h
-
--- what a refused step gave
-pub record Stopped (a : Emitting) (x : Written) : Type 0 where
-  pub refusal : Refusal
-  pub is : a ≡ refused refusal
-  pub answer : x ≡ Err (noted refusal)
-
-pub stopped : {a : Emitting} {n : ℕ} {area area' : List ℕ} {x : Written} (v : code.Refusal) → Emits a n area area' x
-    → x ≡ Err v → Stopped a x
-unfolding written_of
-stopped {a} {n} {area} {area'} {x} v h e = go a h.answer
-  where
-    go : (b : Emitting) → x ≡ written_of b → Stopped b x
-    go (ok p) g = absurd (let y : ◌≡◌ {A = Written} (Err v) (Ok p.1) = sym e ∙ g in let z : ◌≡◌ {A = ℕ} 0 1 = cc in omega arith)
-    go (refused w) g = record { refusal = w; is = refl; answer = g }

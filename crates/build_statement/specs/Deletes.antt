@@ -1,7 +1,7 @@
 -- DELETE: the plan at the end, and its answer.
 use Rattle.std.specs.Prelude.{ℕ, ◌+◌, ◌*◌, ◌≤◌, ◌≡◌, List, [], ◌∷◌, ◌++◌, length, take, Ok, Err}
 use Rattle.std.proofs.Common.{arith, sym, ◌∙◌}
-use Rattle.std.proofs.Math.Path.{refl}
+use Rattle.std.proofs.Math.Path.{refl, ap}
 use Rattle.std.proofs.Math.Option.{Option, none}
 use Rattle.rules.specs.Refusals.{ok, refuse, unknown_table}
 use Rattle.rules.specs.Lists.{Bytes}
@@ -40,6 +40,7 @@ use Rattle.plan.specs.Appended.{Appended}
 use Rattle.plan.specs.Cells.{Room}
 use Rattle.plan.specs.Emits.{Written, Emits, accepted}
 use Rattle.plan.specs.Finished.{finished}
+use Rattle.plan.specs.Steps.{emits-refused}
 use Rattle.plan.specs.Exit.{pieces, delete-exit}
 use Rattle.numbers.specs.Reasons.{named as named_reason}
 use Rattle.numbers.specs.declared.refusals.Reason.TheVariants as Re
@@ -48,7 +49,7 @@ use Rattle.build_statement.specs.Plans.{Plans}
 use Rattle.build_statement.specs.Kinds.{Free, ReadyFor, name_of, delete_at}
 use Rattle.build_statement.specs.Ends.{span-at, finish-room, plan-count, planned, not-planned, refused-at}
 use Rattle.build_statement.specs.Tables.{table_named}
-use Rattle.build_statement.specs.Clauses.{emit_given, Filters, taken, not_taken, stopped}
+use Rattle.build_statement.specs.Clauses.{emit_given, Filters, taken, not_taken}
 use Rattle.build_statement.specs.Scans.{Scanned, scan-record, scan-in-use, scan-all, where-room}
 use Rattle.build_statement.specs.Filtered.{not_there, there, filtered}
 
@@ -144,10 +145,10 @@ module _ (c q : Bytes) (tables cells parts : List ℕ) {area nodes : List ℕ}
           → Plans (build_delete (catalog_at c q tables) (delete_at c q cells parts)) area area₁ (Err v)
       unfolding delete_of
       delete-refused v z =
-          let p = stopped v built z in
-          refused-at p.refusal built.kept (sym z ∙ p.answer)
-          (delete-where (catalog_at c q tables) (delete_at c q cells parts) t has p.refusal
-          (not_taken (table_scope t) o p.refusal p.is))
+          let p = emits-refused v built z in
+          refused-at p.why built.kept (ap Err p.noted')
+          (delete-where (catalog_at c q tables) (delete_at c q cells parts) t has p.why
+          (not_taken (table_scope t) o p.why p.is))
 
       module _ (m : ℕ) (z : x ≡ Ok m) where
         pub delete-most : m ≤ most_plan_cells

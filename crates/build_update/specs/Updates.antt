@@ -49,6 +49,7 @@ use Rattle.plan.specs.Emits.{Written, Emits, accepted}
 use Rattle.plan.specs.Own as O
 use Rattle.plan.specs.Own.{updating, update-whole}
 use Rattle.plan.specs.Finished.{finished}
+use Rattle.plan.specs.Steps.{emits-refused}
 use Rattle.plan.specs.Exit.{pieces, update-exit}
 use Rattle.plan.specs.declared.steps.Part.{Part}
 use Rattle.numbers.specs.Reasons.{named as named_reason, noted}
@@ -59,7 +60,7 @@ use Rattle.build_statement.specs.Plans.{Plans}
 use Rattle.build_statement.specs.Kinds.{Free, free-kept, ReadyFor, name_of, update_at}
 use Rattle.build_statement.specs.Ends.{span-at, finish-room, plan-count, planned, not-planned, refused-at}
 use Rattle.build_statement.specs.Tables.{table_named}
-use Rattle.build_statement.specs.Clauses.{emit_given, Filters, taken, not_taken, stopped}
+use Rattle.build_statement.specs.Clauses.{emit_given, Filters, taken, not_taken}
 use Rattle.build_statement.specs.Scans.{Scanned, scan-record, scan-in-use, scan-all, where-room}
 use Rattle.build_statement.specs.Filtered.{not_there, there, scope-is, filtered}
 use Rattle.build_update.specs.Writes.{Setting, SetsWritten, Writes, was-done, was-refused}
@@ -228,10 +229,10 @@ module _ (c q : Bytes) (tables cells parts : List ℕ) {area nodes : List ℕ}
           → Plans (build_update (catalog_at c q tables) (update_at c q cells parts)) area area₁ (Err v)
       unfolding update_of
       update-refused v z =
-          let p = stopped v built z in
-          refused-at p.refusal built.kept (sym z ∙ p.answer)
-          (U.update-where (catalog_at c q tables) (update_at c q cells parts) here has p.refusal
-          (not_taken (table_scope here) o p.refusal p.is))
+          let p = emits-refused v built z in
+          refused-at p.why built.kept (ap Err p.noted')
+          (U.update-where (catalog_at c q tables) (update_at c q cells parts) here has p.why
+          (not_taken (table_scope here) o p.why p.is))
 
       module _ (m : ℕ) (z : x ≡ Ok m) where
         pub update-few-sets : FewSets m (sets_at c q cells parts)

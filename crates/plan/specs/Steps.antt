@@ -16,7 +16,7 @@ use Rattle.appends.specs.From.Laid.{stage_of, StageLaid, NodeLaid}
 use Rattle.plan.specs.Layout.{cells_end}
 use Rattle.plan.specs.Appended.{Appended, appended-none}
 use Rattle.plan.specs.Records.{records-append, records-first}
-use Rattle.numbers.specs.Reasons.{reason_of, named, noted, reason-named}
+use Rattle.numbers.specs.Reasons.{named, noted}
 use Rattle.numbers.specs.declared.refusals.Reason as reasons
 use Rattle.numbers.specs.declared.refusals.Refusal as code
 use Rattle.plan.specs.Emits.{Emitting, Written, written_of, Emits}
@@ -56,23 +56,6 @@ refusal-some R.wrong_operand = omega arith
 refusal-some R.not_worked_out = omega arith
 refusal-some R.invalid_is = omega arith
 
--- a is refused with document 01's number x, at line l
-pub record Refuses {A : Type 0} (a : Answer A) (x l : ℕ) : Type 0 where
-  pub why : Refusal
-  pub is : a ≡ refused why
-  pub number : x ≡ refusal_number why.reason
-  pub line : l ≡ why.line
-
-pub refuses-at : {A : Type 0} {a : Answer A} (k : Reason) (l x y : ℕ) → a ≡ refuse k l → x ≡ refusal_number k → y ≡ l
-    → Refuses a x y
-unfolding refuse
-refuses-at k l x y e f g = record { why = _; is = e; number = f; line = g }
-
--- a refusal ends the whole
-pub refuses-on : {A B : Type 0} {a : Answer A} {b : Answer B} {x l : ℕ} → Refuses a x l
-    → ((w : Refusal) → a ≡ refused w → b ≡ refused w) → Refuses b x l
-refuses-on h f = record { why = h.why; is = f h.why h.is; number = h.number; line = h.line }
-
 -- a is refused, which the code has as w
 pub record RefusedWith {A : Type 0} (a : Answer A) (w : code.Refusal) : Type 0 where
   pub why : Refusal
@@ -84,6 +67,7 @@ pub refused-at : {A : Type 0} {a : Answer A} (k : Reason) (l : ℕ) (x : reasons
 unfolding refuse
 refused-at k l x y e f g = record { why = _; is = e; noted' = rw (f, g) }
 
+-- a refusal ends the whole
 pub refused-on : {A B : Type 0} {a : Answer A} {b : Answer B} {w : code.Refusal} → RefusedWith a w
     → ((v : Refusal) → a ≡ refused v → b ≡ refused v) → RefusedWith b w
 refused-on h f = record { why = h.why; is = f h.why h.is; noted' = h.noted' }
@@ -97,16 +81,6 @@ emits-refused {a} {r = r} w h e = go a (sym e ∙ h.answer)
     go : (b : Emitting) → ◌≡◌ {A = Written} (Err w) (written_of b) → RefusedWith b w
     go (ok p) g = absurd (let z : ◌≡◌ {A = ℕ} 0 1 = cc in omega arith)
     go (refused v) g = record { why = v; is = refl; noted' = cc }
-
--- by its number
-pub refuses-number : {A : Type 0} {a : Answer A} {w : code.Refusal} → RefusedWith a w
-    → Refuses a (refusal_number (reason_of w.reason)) w.line
-refuses-number h = record {
-  why = h.why;
-  is = h.is;
-  number = rw (h.noted', reason-named h.why.reason);
-  line = rw h.noted';
-}
 
 -- WHAT STANDS in the area and among the nodes: cells from the i-th on, records behind u numbers
 pub record Stands (i u : ℕ) (area nodes : List ℕ) (cs : List Cell) (rs : List NodeRecord) (j v : ℕ)
@@ -163,9 +137,6 @@ pub record Taken {B : Type 0} (view : Node Built → B) (a : Node Built → Answ
   pub stands : Stands n k area nodes cells records n' k' area' nodes'
 
 -- refused, whatever node stands before it
-abbrev pub NotTaken : {B : Type 0} → (Node Built → Answer B) → ℕ → ℕ → ℕ → ℕ → Type 0
-NotTaken a n m x l = (d : Node Built) (cs : List Cell) (rs : List NodeRecord) → Lays 0 0 d cs rs n m → Refuses (a d) x l
-
 abbrev pub StoppedWith : {B : Type 0} → (Node Built → Answer B) → ℕ → ℕ → code.Refusal → Type 0
 StoppedWith a n m w = (d : Node Built) (cs : List Cell) (rs : List NodeRecord) → Lays 0 0 d cs rs n m → RefusedWith (a d) w
 
