@@ -3,7 +3,7 @@
 
 pub mod halves;
 pub mod literals; // literals.rt: literals by their kinds and two numbers
-pub mod refusals; // refusals.rt: the numbers of refusals
+pub mod refusals; // refusals.rt: why a statement is refused, and where
 
 ghost use Rattle.std.specs.Prelude.{◌≡◌, [], ◌∷◌, ◌+◌, ◌≤◌, length, get_or};
 ghost use Rattle.std.proofs.lemmas.List.Edits.{sets};

@@ -96,9 +96,7 @@ fn plan_with<'t>(
     );
     match texts {
         Err(w) => refuse(area, w.reason.number(), w.text.number(), w.line),
-        Ok(_) => plan_read(
-            catalog, statement, tables, &mut cells, &froms, &parts, area,
-        ),
+        Ok(_) => plan_read(catalog, statement, tables, &mut cells, &froms, &parts, area),
     }
 }
 

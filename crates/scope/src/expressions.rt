@@ -67,7 +67,16 @@ pub fn label_of<'t, 'a>(
             let n = name_length(table, r);
             let place = qualifier(table, r);
             label_found(
-                catalog, statement, labels, matches, width, tables, count, Some(place), a, n,
+                catalog,
+                statement,
+                labels,
+                matches,
+                width,
+                tables,
+                count,
+                Some(place),
+                a,
+                n,
             )
         }
         Kind::Star => 0,
