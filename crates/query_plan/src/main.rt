@@ -16,7 +16,7 @@ use lines::line_at;
 use listing::{WINDOW, Window};
 use plan_listing::list_outcome;
 use planner::{LEAST_AREA, Outcome, planner_plan};
-use reader::CATALOG;
+use reader::Text;
 use std::fs::File;
 use std::io;
 use std::io::Write;
@@ -97,6 +97,7 @@ fn show_line<W: Write>(to: &mut W, text: &[u8], n: u32) -> io::Result<()>
 }
 
 // Writes the record that a refusal points at, for whoever has to mend it.
+#[tactic(auto, unfolding(rules::specs::Entry::text_number, reader::specs::Reading::text_of))]
 fn show_record<W: Write>(
     to: &mut W,
     catalog: &[u8],
@@ -109,7 +110,7 @@ fn show_record<W: Write>(
     if outcome.number == 0 {
         return Ok(());
     }
-    if outcome.text == CATALOG {
+    if outcome.text == Text::Catalog.number() {
         return show_line(to, catalog, outcome.line);
     }
     show_line(to, statement, outcome.line)
