@@ -1,5 +1,5 @@
 -- WHERE and HAVING as steps: the cells of an expression, then a filter.
-use Rattle.std.specs.Prelude.{ℕ, pred, ◌+◌, ◌-◌, ◌*◌, ◌≤◌, ◌<◌, ◌≡◌, Bool, true, false, List, [], ◌∷◌, ◌++◌, length, Ok, Err}
+use Rattle.std.specs.Prelude.{ℕ, pred, ◌+◌, ◌-◌, ◌*◌, ◌≤◌, ◌<◌, ◌≡◌, Bool, true, false, List, [], ◌∷◌, ◌++◌, length, Ok, Err, Option, None, Some}
 use Rattle.std.proofs.Math.Numerals.{sub-one}
 use Rattle.std.proofs.Math.Path.{refl, ap}
 use Rattle.std.proofs.Common.{◌∙◌}
@@ -23,7 +23,6 @@ use Rattle.ast.specs.Table.{tree_at}
 use Rattle.scope.specs.Scopes.{matches_of, scope_from}
 use Rattle.statement.specs.EntryAccess.{clause_of}
 use Rattle.statement.specs.declared.access.Clause.{Clause}
-use Rattle.statement.specs.declared.access.Clause.TheVariants as C
 use Rattle.plan.specs.Cells.{Room}
 use Rattle.plan.specs.Appended.{Appended}
 use Rattle.plan.specs.Emits.{Emitting, Written, accepted}
@@ -109,38 +108,38 @@ module _ {B : Type 0} (view : Node Built → B) (a : Node Built → Answer B) (e
   filter_steps f g u v (Err w) y = step-refused u v (λ d cs rs z. refused-on y (g d cs rs z))
 
 -- the room of a clause's expression
-pub clause-room : (c q : Bytes) (t : List ℕ) {w : Clause} {n : ℕ} {area : List ℕ} (l r : ℕ) → w ≡ C.Stands l r
-    → Room n (3 * clause_size (clause_of c q t w)) area → Room n (3 * size (tree_at c q t r)) area
+pub clause-room : (c q : Bytes) (t : List ℕ) {w : Option Clause} {n : ℕ} {area : List ℕ} (clause : Clause) → w ≡ Some clause
+    → Room n (3 * clause_size (clause_of c q t w)) area → Room n (3 * size (tree_at c q t clause.row)) area
 unfolding clause_of clause_expr map_option clause_size option_size
-clause-room c q t l r e h = rw e at h
+clause-room c q t clause e h = rw e at h
 
 -- WHERE
-pub record WhereBuilt (c q : Bytes) (t : List ℕ) (w : Clause) (xs ms ts : List ℕ) (n m k : ℕ)
+pub record WhereBuilt (c q : Bytes) (t : List ℕ) (w : Option Clause) (xs ms ts : List ℕ) (n m k : ℕ)
     (area nodes area' nodes' : List ℕ) (x : Stepped) : Type 0 where
   pub is : (h : ℕ) → Steps (λ d. stage_of d (scope_at c q t xs ms ts h))
       (λ d. build_where (stage_of d (scope_at c q t xs ms ts h)) (clause_of c q t w)) n m k area nodes area' nodes' x
 
-module _ {c q : Bytes} {t : List ℕ} {w : Clause} {xs ms ts : List ℕ} {n m k : ℕ} {area nodes : List ℕ} where
-  pub where-missing : w ≡ C.Missing → k ≤ length nodes
+module _ {c q : Bytes} {t : List ℕ} {w : Option Clause} {xs ms ts : List ℕ} {n m k : ℕ} {area nodes : List ℕ} where
+  pub where-missing : w ≡ None → k ≤ length nodes
       → WhereBuilt c q t w xs ms ts n m k area nodes area nodes (Ok (record { cell = n; node = m; used = k }))
   unfolding clause_of build_where clause_expr map_option build_option filtered ◌>>=◌
   where-missing e l = rw e (record { is = λ h. step-none l (λ d. refl) })
 
-  pub where-stands : (l r : ℕ) → w ≡ C.Stands l r → {area' nodes' : List ℕ} {x : Stepped}
-      → Filtered c q t xs ms ts r n m k area nodes area' nodes' x
+  pub where-stands : (clause : Clause) → w ≡ Some clause → {area' nodes' : List ℕ} {x : Stepped}
+      → Filtered c q t xs ms ts clause.row n m k area nodes area' nodes' x
       → WhereBuilt c q t w xs ms ts n m k area nodes area' nodes' x
   unfolding clause_of
-  where-stands l r e {x = x} f = rw e (record {
+  where-stands clause e {x = x} f = rw e (record {
     is = λ h.
         let s = scope_at c q t xs ms ts h in
-        filter_steps (λ d. stage_of d s) _ (emit s n (tree_at c q t r))
+        filter_steps (λ d. stage_of d s) _ (emit s n (tree_at c q t clause.row))
         (λ d cs rs y zs p g. stage-lies (where-step 0 0 d cs rs n m y _ s zs p g))
         (λ d cs rs y v g. where-refused 0 0 d cs rs n m y _ s v g)
         f.kept f.kept-nodes x (f.is h);
   })
 
 -- HAVING
-pub record HavingBuilt (c q : Bytes) (t : List ℕ) (w : Clause) (xs ms ts : List ℕ) (n m k : ℕ)
+pub record HavingBuilt (c q : Bytes) (t : List ℕ) (w : Option Clause) (xs ms ts : List ℕ) (n m k : ℕ)
     (area nodes area' nodes' : List ℕ) (x : Stepped) : Type 0 where
   pub is : (h : ℕ) → Steps (λ d. d) (λ d. build_having d (clause_of c q t w) (scope_at c q t xs ms ts h))
       n m k area nodes area' nodes' x
@@ -151,25 +150,25 @@ not_back true false e = refl
 not_back false true e = refl
 not_back false false e = e
 
-module _ {c q : Bytes} {t : List ℕ} {w : Clause} {xs ms ts : List ℕ} {n m k : ℕ} {area nodes : List ℕ} where
-  pub having-missing : w ≡ C.Missing → k ≤ length nodes
+module _ {c q : Bytes} {t : List ℕ} {w : Option Clause} {xs ms ts : List ℕ} {n m k : ℕ} {area nodes : List ℕ} where
+  pub having-missing : w ≡ None → k ≤ length nodes
       → HavingBuilt c q t w xs ms ts n m k area nodes area nodes (Ok (record { cell = n; node = m; used = k }))
   unfolding clause_of build_having
   having-missing e l = rw e (record { is = λ h. step-none l (λ d. refl) })
 
-  module _ (l r : ℕ) (e : w ≡ C.Stands l r) {b : Bool} (g : (f : ℕ → Expr) → b ≡ not (is_empty (matches_of f 0 ms))) where
+  module _ (clause : Clause) (e : w ≡ Some clause) {b : Bool} (g : (f : ℕ → Expr) → b ≡ not (is_empty (matches_of f 0 ms))) where
     pub having-unmatched : b ≡ false → HavingBuilt c q t w xs ms ts n m k area nodes area nodes
-        (Err (record { reason = Re.HavingWithoutAggregate; line = l }))
+        (Err (record { reason = Re.HavingWithoutAggregate; line = clause.line }))
     unfolding clause_of scope_from named
     having-unmatched f =
         let u = not_back b (is_empty (matches_of (tree_at c q t) 0 ms)) (g (tree_at c q t)) in
         rw e (record {
-          is = λ h. step-refused refl refl (λ d cs rs z. refused-at having_without_aggregate l Re.HavingWithoutAggregate l
+          is = λ h. step-refused refl refl (λ d cs rs z. refused-at having_without_aggregate clause.line Re.HavingWithoutAggregate clause.line
               (having-without 0 0 d cs rs n m z _ (scope_at c q t xs ms ts h) (u ∙ ap not f)) refl refl);
         })
 
     pub having-matched : b ≡ true → {area' nodes' : List ℕ} {x : Stepped}
-        → Filtered c q t xs ms ts r n m k area nodes area' nodes' x
+        → Filtered c q t xs ms ts clause.row n m k area nodes area' nodes' x
         → HavingBuilt c q t w xs ms ts n m k area nodes area' nodes' x
     unfolding clause_of scope_from
     having-matched y {x = x} f =
@@ -177,7 +176,7 @@ module _ {c q : Bytes} {t : List ℕ} {w : Clause} {xs ms ts : List ℕ} {n m k 
         rw e (record {
           is = λ h.
               let s = scope_at c q t xs ms ts h in
-              filter_steps (λ d. d) _ (emit s n (tree_at c q t r))
+              filter_steps (λ d. d) _ (emit s n (tree_at c q t clause.row))
               (λ d cs rs z zs p v. node-lies (having-step 0 0 d cs rs n m z _ s zs p u v))
               (λ d cs rs z v j. having-refused 0 0 d cs rs n m z _ s v u j)
               f.kept f.kept-nodes x (f.is h);

@@ -23,7 +23,6 @@ use Rattle.expression.specs.declared.Constant.{Constant}
 use Rattle.std.specs.Option.{ok_or}
 use Rattle.statement.specs.EntryAccess.{clause_of}
 use Rattle.statement.specs.declared.access.Clause.{Clause}
-use Rattle.statement.specs.declared.access.Clause.TheVariants as C
 use Rattle.numbers.specs.Reasons.{reason_of, named-reason}
 use Rattle.numbers.specs.declared.refusals.Refusal.{Refusal}
 use Rattle.plan.specs.Layout.{cells_end}
@@ -31,14 +30,14 @@ use Rattle.plan.specs.Appended.{Appended}
 use Rattle.plan.specs.Steps.{refused-at, Stands, stands_one, Stepped, Steps, step-none, step-done, step-refused}
 
 -- a clause w that refuses by r what is no number of 0 or more, and makes of a number a node by f
-pub record RowsBuilt (r : Reason) (f : ℕ → Node Built → Node Built) (c q : Bytes) (t : List ℕ) (w : Clause) (n m k : ℕ)
+pub record RowsBuilt (r : Reason) (f : ℕ → Node Built → Node Built) (c q : Bytes) (t : List ℕ) (w : Option Clause) (n m k : ℕ)
     (nodes nodes' : List ℕ) (x : Stepped) : Type 0 where
   pub is : (area : List ℕ) → Steps (λ d. d) (λ d. build_rows r f d (clause_of c q t w)) n m k area nodes area nodes' x
 
-abbrev pub OffsetBuilt : Bytes → Bytes → List ℕ → Clause → ℕ → ℕ → ℕ → List ℕ → List ℕ → Stepped → Type 0
+abbrev pub OffsetBuilt : Bytes → Bytes → List ℕ → Option Clause → ℕ → ℕ → ℕ → List ℕ → List ℕ → Stepped → Type 0
 OffsetBuilt = RowsBuilt invalid_offset (λ y d. P.offset d y)
 
-abbrev pub LimitBuilt : Bytes → Bytes → List ℕ → Clause → ℕ → ℕ → ℕ → List ℕ → List ℕ → Stepped → Type 0
+abbrev pub LimitBuilt : Bytes → Bytes → List ℕ → Option Clause → ℕ → ℕ → ℕ → List ℕ → List ℕ → Stepped → Type 0
 LimitBuilt = RowsBuilt invalid_limit (λ y d. P.limit d y)
 
 -- a record and no cell behind the n-th
@@ -71,25 +70,25 @@ pub counted-by : {c q : Bytes} {t : List ℕ} {p : ℕ} {x : Result ℕ Refusal}
     → Counted (reason_of w.reason) w.line c q t p x
 counted-by {c} {q} {t} {p} {x} v w e h = subst (λ (u : Refusal). Counted (reason_of u.reason) u.line c q t p x) e h
 
-rows_told : (r : Reason) (f : ℕ → Node Built → Node Built) (l : ℕ) {c q : Bytes} {t : List ℕ} {p : ℕ} {x : Result ℕ Refusal}
-    → Counted r l c q t p x → (d : Node Built)
-    → build_rows r f d (clause_of c q t (C.Stands l p)) ≡ (answered (λ y. y) x >>= λ y. ok (f y d))
+rows_told : (r : Reason) (f : ℕ → Node Built → Node Built) (clause : Clause) {c q : Bytes} {t : List ℕ} {x : Result ℕ Refusal}
+    → Counted r clause.line c q t clause.row x → (d : Node Built)
+    → build_rows r f d (clause_of c q t (Some clause)) ≡ (answered (λ y. y) x >>= λ y. ok (f y d))
 unfolding clause_of
-rows_told r f l {c} {q} {t} {p} told d =
-    rows-built r f d (record { line = l; expr = tree_at c q t p }) ∙ ap (λ (a : Answer ℕ). a >>= λ y. ok (f y d)) (sym told.is)
+rows_told r f clause {c} {q} {t} told d =
+    rows-built r f d (record { line = clause.line; expr = tree_at c q t clause.row }) ∙ ap (λ (a : Answer ℕ). a >>= λ y. ok (f y d)) (sym told.is)
 
-module _ (r : Reason) (f : ℕ → Node Built → Node Built) {c q : Bytes} {t : List ℕ} {w : Clause} {n m k : ℕ}
+module _ (r : Reason) (f : ℕ → Node Built → Node Built) {c q : Bytes} {t : List ℕ} {w : Option Clause} {n m k : ℕ}
     {nodes : List ℕ} where
-  pub rows-missing : w ≡ C.Missing → k ≤ length nodes → RowsBuilt r f c q t w n m k nodes nodes (Ok (record { cell = n; node = m; used = k }))
+  pub rows-missing : w ≡ None → k ≤ length nodes → RowsBuilt r f c q t w n m k nodes nodes (Ok (record { cell = n; node = m; used = k }))
   unfolding clause_of build_rows
   rows-missing e l = rw e (record { is = λ area. step-none l (λ d. refl) })
 
-  module _ (l p : ℕ) (e : w ≡ C.Stands l p) {x : Result ℕ Refusal} (told : Counted r l c q t p x) where
+  module _ (clause : Clause) (e : w ≡ Some clause) {x : Result ℕ Refusal} (told : Counted r clause.line c q t clause.row x) where
     pub rows-refused : (v : Refusal) → x ≡ Err v → RowsBuilt r f c q t w n m k nodes nodes (Err v)
     unfolding answered refuse
     rows-refused v g = rw e (record {
       is = λ area. step-refused refl refl (λ d cs rs u. refused-at (reason_of v.reason) v.line v.reason v.line
-          (rows_told r f l told d ∙ bind-refused _ _ _ (ap (answered (λ y. y)) g)) (sym (named-reason v.reason)) refl);
+          (rows_told r f clause told d ∙ bind-refused _ _ _ (ap (answered (λ y. y)) g)) (sym (named-reason v.reason)) refl);
     })
 
     rows-number : (v : ℕ → ℕ → NodeRecord)
@@ -105,23 +104,23 @@ module _ (r : Reason) (f : ℕ → Node Built → Node Built) {c q : Bytes} {t :
         records = v (pred m) y ∷ [];
         lies = λ d cs rs h. record {
           node = f y d;
-          answer = rows_told r f l told d ∙ bind_ok _ _ y (ap (answered (λ y. y)) g);
+          answer = rows_told r f clause told d ∙ bind_ok _ _ y (ap (answered (λ y. y)) g);
           lays = rw (append-nil cs) (lays d cs rs h y);
         };
         stands = stands-record (v (pred m) y) n area (rw (← sub-one m) a);
       });
     })
 
-module _ {c q : Bytes} {t : List ℕ} {w : Clause} {n m k : ℕ} {nodes : List ℕ} (l p : ℕ) (e : w ≡ C.Stands l p)
+module _ {c q : Bytes} {t : List ℕ} {w : Option Clause} {n m k : ℕ} {nodes : List ℕ} (clause : Clause) (e : w ≡ Some clause)
     {x : Result ℕ Refusal} {j : ℕ} {nodes' : List ℕ} where
-  pub offset-number : Counted invalid_offset l c q t p x → (y : ℕ) → x ≡ Ok y → Appended (record_numbers (offset (m - 1) y)) k nodes j nodes'
+  pub offset-number : Counted invalid_offset clause.line c q t clause.row x → (y : ℕ) → x ≡ Ok y → Appended (record_numbers (offset (m - 1) y)) k nodes j nodes'
       → OffsetBuilt c q t w n m k nodes nodes'
       (Ok (record { cell = n; node = m + 1; used = j }))
-  offset-number told y g a = rows-number invalid_offset (λ z d. P.offset d z) l p e told offset
+  offset-number told y g a = rows-number invalid_offset (λ z d. P.offset d z) clause e told offset
       (λ d cs rs h z. lays-offset 0 0 d cs rs n m h z) y g a
 
-  pub limit-number : Counted invalid_limit l c q t p x → (y : ℕ) → x ≡ Ok y → Appended (record_numbers (limit (m - 1) y)) k nodes j nodes'
+  pub limit-number : Counted invalid_limit clause.line c q t clause.row x → (y : ℕ) → x ≡ Ok y → Appended (record_numbers (limit (m - 1) y)) k nodes j nodes'
       → LimitBuilt c q t w n m k nodes nodes'
       (Ok (record { cell = n; node = m + 1; used = j }))
-  limit-number told y g a = rows-number invalid_limit (λ z d. P.limit d z) l p e told limit
+  limit-number told y g a = rows-number invalid_limit (λ z d. P.limit d z) clause e told limit
       (λ d cs rs h z. lays-limit 0 0 d cs rs n m h z) y g a

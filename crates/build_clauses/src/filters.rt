@@ -55,7 +55,7 @@ pub fn build_where<'t, 'a>(
     catalog: &'t [u8],
     statement: &'t [u8],
     cells: &[u32],
-    clause: Clause,
+    clause: Option<Clause>,
     labels: &'a [u32],
     matches: &'a [u16],
     width: u32,
@@ -73,17 +73,17 @@ pub fn build_where<'t, 'a>(
         (take width labels.now) (take width matches.now) (take count tables.now)
         n m k area.old nodes.old area.new nodes.new result }
 {
-    match clause {
-        Clause::Missing => Ok(Step {
+    let Some(clause) = clause else {
+        return Ok(Step {
             cell: n,
             node: m,
             used: k,
-        }),
-        Clause::Stands(_, r) => build_filter(
-            catalog, statement, cells, r, labels, matches, width, tables, count, area, n, nodes, m,
-            k,
-        ),
-    }
+        });
+    };
+    build_filter(
+        catalog, statement, cells, clause.row, labels, matches, width, tables, count, area, n,
+        nodes, m, k,
+    )
 }
 
 // HAVING, which wants a group or an aggregate.
@@ -91,7 +91,7 @@ pub fn build_having<'t, 'a>(
     catalog: &'t [u8],
     statement: &'t [u8],
     cells: &[u32],
-    clause: Clause,
+    clause: Option<Clause>,
     labels: &'a [u32],
     matches: &'a [u16],
     width: u32,
@@ -109,23 +109,21 @@ pub fn build_having<'t, 'a>(
         (take width labels.now) (take width matches.now) (take count tables.now)
         n m k area.old nodes.old area.new nodes.new result }
 {
-    match clause {
-        Clause::Missing => Ok(Step {
+    let Some(clause) = clause else {
+        return Ok(Step {
             cell: n,
             node: m,
             used: k,
-        }),
-        Clause::Stands(line, r) => {
-            if !is_matched(matches, width) {
-                return Err(Refusal {
-                    reason: Reason::HavingWithoutAggregate,
-                    line,
-                });
-            }
-            build_filter(
-                catalog, statement, cells, r, labels, matches, width, tables, count, area, n,
-                nodes, m, k,
-            )
-        }
+        });
+    };
+    if !is_matched(matches, width) {
+        return Err(Refusal {
+            reason: Reason::HavingWithoutAggregate,
+            line: clause.line,
+        });
     }
+    build_filter(
+        catalog, statement, cells, clause.row, labels, matches, width, tables, count, area, n,
+        nodes, m, k,
+    )
 }

@@ -31,7 +31,7 @@ pub fn build_offset(
     catalog: &[u8],
     statement: &[u8],
     cells: &[u32],
-    clause: Clause,
+    clause: Option<Clause>,
     nodes: &mut [u32],
     n: u32,
     m: u32,
@@ -41,22 +41,21 @@ pub fn build_offset(
     ensures { OffsetBuilt catalog.now statement.now cells.now clause n m k
         nodes.old nodes.new result }
 {
-    match clause {
-        Clause::Missing => Ok(Step {
+    let Some(clause) = clause else {
+        return Ok(Step {
             cell: n,
             node: m,
             used: k,
-        }),
-        Clause::Stands(line, r) => {
-            let z = row_count(catalog, statement, cells, r, Reason::InvalidOffset.at(line))?;
-            let used = offset(nodes, k, m - 1, z);
-            Ok(Step {
-                cell: n,
-                node: m + 1,
-                used,
-            })
-        }
-    }
+        });
+    };
+    let invalid = Reason::InvalidOffset.at(clause.line);
+    let z = row_count(catalog, statement, cells, clause.row, invalid)?;
+    let used = offset(nodes, k, m - 1, z);
+    Ok(Step {
+        cell: n,
+        node: m + 1,
+        used,
+    })
 }
 
 // The first rows.
@@ -64,7 +63,7 @@ pub fn build_limit(
     catalog: &[u8],
     statement: &[u8],
     cells: &[u32],
-    clause: Clause,
+    clause: Option<Clause>,
     nodes: &mut [u32],
     n: u32,
     m: u32,
@@ -74,20 +73,19 @@ pub fn build_limit(
     ensures { LimitBuilt catalog.now statement.now cells.now clause n m k
         nodes.old nodes.new result }
 {
-    match clause {
-        Clause::Missing => Ok(Step {
+    let Some(clause) = clause else {
+        return Ok(Step {
             cell: n,
             node: m,
             used: k,
-        }),
-        Clause::Stands(line, r) => {
-            let z = row_count(catalog, statement, cells, r, Reason::InvalidLimit.at(line))?;
-            let used = limit(nodes, k, m - 1, z);
-            Ok(Step {
-                cell: n,
-                node: m + 1,
-                used,
-            })
-        }
-    }
+        });
+    };
+    let invalid = Reason::InvalidLimit.at(clause.line);
+    let z = row_count(catalog, statement, cells, clause.row, invalid)?;
+    let used = limit(nodes, k, m - 1, z);
+    Ok(Step {
+        cell: n,
+        node: m + 1,
+        used,
+    })
 }

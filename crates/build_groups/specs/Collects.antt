@@ -10,7 +10,6 @@ use Rattle.sections.specs.declared.entry.Entry.{Entry}
 use Rattle.plan.specs.Appended.{Appended, appended-none, appended-on, appended-as, appended-sets}
 use Rattle.statement.specs.EntryAccess.{clause_at}
 use Rattle.statement.specs.declared.access.Clause.{Clause}
-use Rattle.statement.specs.declared.access.Clause.TheVariants as C
 use Rattle.build_groups.specs.Rows.{entry_rows, entries_none, entries-more, section_rows, clause_rows}
 use Rattle.build_groups.specs.Rows.{collect_each_rows, function_rows}
 
@@ -111,17 +110,17 @@ module _ (c q : Bytes) (t parts : List ℕ) (kind i n : ℕ) {xs : List ℕ} {k�
     collect-put b = appending-more a (collect_rows c q t r) _ collect-more b
 
 -- AGGREGATES of a clause
-module _ (c q : Bytes) (t : List ℕ) {x : Clause} where
-  pub clause-missing : x ≡ C.Missing → collect_each_rows c q t (clause_rows x) ≡ []
+module _ (c q : Bytes) (t : List ℕ) {x : Option Clause} where
+  pub clause-missing : x ≡ None → collect_each_rows c q t (clause_rows x) ≡ []
   unfolding collect_each_rows clause_rows
   clause-missing h = rw h
 
-  pub clause-stands : (l r : ℕ) → x ≡ C.Stands l r → collect_each_rows c q t (clause_rows x) ≡ collect_rows c q t r
+  pub clause-stands : (clause : Clause) → x ≡ Some clause → collect_each_rows c q t (clause_rows x) ≡ collect_rows c q t clause.row
   unfolding collect_each_rows clause_rows
-  clause-stands l r h = rw h (append-nil (collect_rows c q t r))
+  clause-stands clause h = rw h (append-nil (collect_rows c q t clause.row))
 
 -- ALL AGGREGATES
-module _ (c q : Bytes) (t parts : List ℕ) {x : Clause} (h : x ≡ clause_at parts having_kind) where
+module _ (c q : Bytes) (t parts : List ℕ) {x : Option Clause} (h : x ≡ clause_at parts having_kind) where
   pub functions-length : length (function_rows c q t parts) ≡ length (collect_each_rows c q t (section_rows parts item_kind))
       + (length (collect_each_rows c q t (clause_rows x)) + length (collect_each_rows c q t (section_rows parts order_kind)))
   unfolding function_rows

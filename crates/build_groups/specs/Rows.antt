@@ -1,5 +1,5 @@
 -- The rows of a SELECT's groups, and of the aggregates in its items, HAVING and ORDER.
-use Rattle.std.specs.Prelude.{ℕ, suc, ◌+◌, ◌-◌, ◌≤◌, ◌<◌, ◌≡◌}
+use Rattle.std.specs.Prelude.{ℕ, suc, ◌+◌, ◌-◌, ◌≤◌, ◌<◌, ◌≡◌, Option, None, Some}
 use native.Mathlib.Omega.{arith}
 use Rattle.std.proofs.Common.{add-one, ◌∙◌}
 use Rattle.std.proofs.Math.Path.{refl, sym, ap}
@@ -24,7 +24,6 @@ use Rattle.statement.specs.Layout.{map_entries, to_item, to_group, to_key, to_cl
 use Rattle.statement.specs.Access.{select_at}
 use Rattle.statement.specs.EntryAccess.{clause_at, clause_of, clause-is, group_at, map-length}
 use Rattle.statement.specs.declared.access.Clause as Cl
-use Rattle.statement.specs.declared.access.Clause.TheVariants as C
 
 -- THE SELECT'S groups, and the aggregates of its items, HAVING and ORDER, whatever FROM is
 unfoldable pub groups_at : Bytes → Bytes → List ℕ → List ℕ → List Expr
@@ -53,9 +52,9 @@ unfoldable pub section_rows : List ℕ → ℕ → List ℕ
 section_rows parts kind = entry_rows parts kind 0 (get_or parts (start_of kind) 0)
 
 -- of a clause
-unfoldable pub clause_rows : Cl.Clause → List ℕ
-clause_rows C.Missing = []
-clause_rows (C.Stands l r) = r ∷ []
+unfoldable pub clause_rows : Option Cl.Clause → List ℕ
+clause_rows None = []
+clause_rows (Some clause) = clause.row ∷ []
 
 -- of the aggregates in the trees at rows
 unfoldable pub collect_each_rows : Bytes → Bytes → List ℕ → List ℕ → List ℕ
@@ -133,10 +132,10 @@ module _ (c q : Bytes) (t : List ℕ) where
         let z : 0 + k ≡ k = omega arith in
         rw z (group_at c q t parts kind k (numbers_at parts kind k) refl (omega (arith, m)) l)))
 
-    clause-trees : (x : Cl.Clause) → map (tree_at c q t) (clause_rows x) ≡ given (clause_expr (clause_of c q t x))
+    clause-trees : (x : Option Cl.Clause) → map (tree_at c q t) (clause_rows x) ≡ given (clause_expr (clause_of c q t x))
     unfolding clause_rows clause_of clause_expr given map_option
-    clause-trees C.Missing = refl
-    clause-trees (C.Stands l r) = refl
+    clause-trees None = refl
+    clause-trees (Some clause) = refl
 
     -- they are the SELECT's groups
     pub group-trees : map (tree_at c q t) (section_rows parts group_kind) ≡ groups_at c q t parts

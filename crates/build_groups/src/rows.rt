@@ -72,7 +72,7 @@ fn collect_clause(
     catalog: &[u8],
     statement: &[u8],
     cells: &[u32],
-    clause: Clause,
+    clause: Option<Clause>,
     rows: &mut [usize],
     k: usize,
 ) -> usize
@@ -83,8 +83,8 @@ fn collect_clause(
         rows.old result rows.new }
 {
     match clause {
-        Clause::Missing => k,
-        Clause::Stands(_, r) => collect_at(catalog, statement, cells, r, rows, k),
+        None => k,
+        Some(clause) => collect_at(catalog, statement, cells, clause.row, rows, k),
     }
 }
 

@@ -1,5 +1,5 @@
 -- The rows visited for HAVING and ORDER BY, one expression after the other.
-use Rattle.std.specs.Prelude.{ℕ, suc, ◌+◌, ◌≤◌, ◌<◌, ◌≡◌, refl, Bool, length, drop}
+use Rattle.std.specs.Prelude.{ℕ, suc, ◌+◌, ◌≤◌, ◌<◌, ◌≡◌, refl, Bool, length, drop, Option, None, Some}
 use Rattle.std.proofs.Common.{arith, sym, ◌∙◌, length-append, drop_of_length-le}
 use Rattle.std.proofs.Math.Numerals.{add-one}
 use Rattle.std.proofs.Math.Path.{ap}
@@ -20,7 +20,6 @@ use Rattle.statement.specs.Layout.{map_entries, to_key, select_of}
 use Rattle.statement.specs.Access.{select_at}
 use Rattle.statement.specs.EntryAccess.{clause_at, clause_of, clause-is, key-at, map-length}
 use Rattle.statement.specs.declared.access.Clause as Cl
-use Rattle.statement.specs.declared.access.Clause.TheVariants as C
 use Rattle.plan.specs.Appended.{Appended, appended-none, appended-on}
 use Rattle.build_hidden.specs.Visits.{hidden_by, hidden-append, trees_at}
 use Rattle.build_hidden.specs.Rows.{RowsFit, RowsVisited}
@@ -139,18 +138,18 @@ module _ {cells parts rows : List ℕ} {n : ℕ} {rows' : List ℕ} {m k : ℕ} 
 
 -- HAVING AND ORDER BY
 module _ (c q : Bytes) (cells parts froms : List ℕ) (s : length cells ≡ table_size) where
-  later-none : C.Missing ≡ clause_at parts having_kind
+  later-none : None ≡ clause_at parts having_kind
       → later_of (select_at c q cells froms parts) ≡ expressions_of (keys_at c q cells parts)
   unfolding later_of select_at select_of keys_at clause_of clause_expr given map_option
-  later-none e = rw (clause-is parts having_kind c q cells (omega (arith, s)) C.Missing e)
+  later-none e = rw (clause-is parts having_kind c q cells (omega (arith, s)) None e)
 
-  later-some : (l r : ℕ) → C.Stands l r ≡ clause_at parts having_kind
-      → later_of (select_at c q cells froms parts) ≡ tree_at c q cells r ∷ expressions_of (keys_at c q cells parts)
+  later-some : (clause : Cl.Clause) → Some clause ≡ clause_at parts having_kind
+      → later_of (select_at c q cells froms parts) ≡ tree_at c q cells clause.row ∷ expressions_of (keys_at c q cells parts)
   unfolding later_of select_at select_of keys_at clause_of clause_expr given map_option
-  later-some l r e = rw (clause-is parts having_kind c q cells (omega (arith, s)) (C.Stands l r) e)
+  later-some clause e = rw (clause-is parts having_kind c q cells (omega (arith, s)) (Some clause) e)
 
-module _ {cells parts rows : List ℕ} (f : LaterFit cells parts rows) {x : Cl.Clause} (e : x ≡ clause_at parts having_kind) where
-  module _ (g : x ≡ C.Missing) where
+module _ {cells parts rows : List ℕ} (f : LaterFit cells parts rows) {x : Option Cl.Clause} (e : x ≡ clause_at parts having_kind) where
+  module _ (g : x ≡ None) where
     pub none-fits : KeysFit cells parts 0 rows
     none-fits = record {
       c = f.c;
@@ -168,16 +167,16 @@ module _ {cells parts rows : List ℕ} (f : LaterFit cells parts rows) {x : Cl.C
       appended = o.appended;
     }
 
-  module _ {l r : ℕ} (g : x ≡ C.Stands l r) where
+  module _ {clause : Cl.Clause} (g : x ≡ Some clause) where
     some_size : total size (later_of (select_at f.c f.q cells [] parts))
-        ≡ size (tree_at f.c f.q cells r) + total size (expressions_of (keys_at f.c f.q cells parts))
+        ≡ size (tree_at f.c f.q cells clause.row) + total size (expressions_of (keys_at f.c f.q cells parts))
     unfolding total
-    some_size = ap (total size) (later-some f.c f.q cells parts [] f.table l r (sym g ∙ e))
+    some_size = ap (total size) (later-some f.c f.q cells parts [] f.table clause (sym g ∙ e))
 
-    pub having-fits : RowsFit cells r 0 rows
+    pub having-fits : RowsFit cells clause.row 0 rows
     having-fits = record { c = f.c; q = f.q; fits = omega (arith, f.fits [], some_size) }
 
-    module _ {rows₁ : List ℕ} {m : ℕ} {b : Bool} (o : RowsVisited cells r rows 0 rows₁ m b) where
+    module _ {rows₁ : List ℕ} {m : ℕ} {b : Bool} (o : RowsVisited cells clause.row rows 0 rows₁ m b) where
       pub some_fits : KeysFit cells parts m rows₁
       some_fits = record {
         c = f.c;
@@ -191,7 +190,7 @@ module _ {cells parts rows : List ℕ} (f : LaterFit cells parts rows) {x : Cl.C
       unfolding hidden_of
       some-visited k = record {
         seen = o.seen ++ k.seen;
-        is = λ c q froms s h. ap (λ es. hidden_of s es h) (later-some c q cells parts froms f.table l r (sym g ∙ e))
+        is = λ c q froms s h. ap (λ es. hidden_of s es h) (later-some c q cells parts froms f.table clause (sym g ∙ e))
             ∙ ap (λ (u : Hidden). hidden_of s (expressions_of (keys_at c q cells parts)) u) (ap (λ v. v.hidden) (o.walks.is c q s h))
             ∙ k.is c q s _
             ∙ rw (

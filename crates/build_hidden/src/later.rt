@@ -3,7 +3,7 @@ ghost use Rattle.build_hidden.specs.Later.{KeysFit, KeysVisited, LaterFit, Later
 
 use super::walk::visit_rows;
 use sections::entry::{HAVING, ORDER, count, entry_at, first_row};
-use statement::access::{Clause, clause_at};
+use statement::access::clause_at;
 
 // Those of the order keys, behind n others; how many there are then.
 fn order_rows(cells: &[u32], parts: &[u32], rows: &mut [usize], n: usize) -> usize
@@ -24,13 +24,9 @@ pub fn later_rows(cells: &[u32], parts: &[u32], rows: &mut [usize]) -> usize
     requires { LaterFit cells.now parts.now rows.old }
     ensures { LaterVisited cells.now parts.now rows.old rows.new result }
 {
-    let having = clause_at(parts, HAVING);
-    match having {
-        Clause::Missing => order_rows(cells, parts, rows, 0),
-        Clause::Stands(_, r) => {
-            let mut n = 0;
-            visit_rows(cells, r, rows, &mut n);
-            order_rows(cells, parts, rows, n)
-        }
+    let mut n = 0;
+    if let Some(having) = clause_at(parts, HAVING) {
+        visit_rows(cells, having.row, rows, &mut n);
     }
+    order_rows(cells, parts, rows, n)
 }

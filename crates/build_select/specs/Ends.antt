@@ -1,5 +1,6 @@
 -- OFFSET, LIMIT, the last remap and the end of a SELECT's plan.
 use Rattle.std.specs.Prelude.{ℕ, ◌+◌, ◌≤◌, ◌≡◌, List, [], length, Ok, Err, Result}
+use Rattle.std.specs.Prelude as std
 use Rattle.std.proofs.Common.{arith, ap, ◌∙◌}
 use Rattle.std.proofs.Math.Path.{refl}
 use Rattle.std.proofs.Math.Option.{Option, none, some}
@@ -12,7 +13,7 @@ use Rattle.rules.specs.Cells.{expressions, cell_count}
 use Rattle.rules.specs.Scope as rules
 use Rattle.rules.specs.Scope.{remap_hidden}
 use Rattle.rules.specs.BuildSelect.{build_rows, build_remap}
-use Rattle.appends.specs.Answers.{ok_same, ok-not-refused}
+use Rattle.appends.specs.Answers.{ok_same}
 use Rattle.appends.specs.Area.{select-area, select-count}
 use Rattle.appends.specs.Select.Stages as stages
 use Rattle.appends.specs.Select.Stages.{select_remap, select_limit, select_offset}
@@ -134,17 +135,17 @@ module _ {c q : Bytes} {cells parts : List ℕ} {w g n m k : ℕ} {area nodes : 
   limit-follows = held-follows h.held
       (omega (arith, held-numbers h.held, rooms.limit-numbers h.past h.is h.held.free.fits, h.held.free.later))
 
-  limit-clause : {z : Clause} → z ≡ clause_at parts limit_kind → h.select.limit ≡ clause_of c q cells z
+  limit-clause : {z : std.Option Clause} → z ≡ clause_at parts limit_kind → h.select.limit ≡ clause_of c q cells z
   limit-clause hz = h.read.limit ∙ clause-read c q cells parts limit_kind h.read.table hz
 
-  abbrev LimitSteps : Clause → List ℕ → Result Step Refusal → Type 0
+  abbrev LimitSteps : std.Option Clause → List ℕ → Result Step Refusal → Type 0
   LimitSteps z nodes' r = Steps (λ d. d) (λ d. build_rows invalid_limit (λ i t. P.limit t i) d (clause_of c q cells z)) n m k area nodes area nodes' r
 
-  limit-step : {z : Clause} → z ≡ clause_at parts limit_kind → {nodes' : List ℕ} (r : Result Step Refusal) → LimitSteps z nodes' r
+  limit-step : {z : std.Option Clause} → z ≡ clause_at parts limit_kind → {nodes' : List ℕ} (r : Result Step Refusal) → LimitSteps z nodes' r
       → Steps (λ d. d) (λ d. build_rows invalid_limit (λ i t. P.limit t i) d h.select.limit) n m k area nodes area nodes' r
   limit-step hz r t = rw (limit-clause hz) t
 
-  module _ {z : Clause} (hz : z ≡ clause_at parts limit_kind) {nodes' : List ℕ} where
+  module _ {z : std.Option Clause} (hz : z ≡ clause_at parts limit_kind) {nodes' : List ℕ} where
     pub limit-stop : {x : Refusal} → LimitSteps z nodes' (Err x) → Plans (select_limit h.select h.stage h.node) area area (Err x)
     limit-stop {x} t = plans-refused
         (refused-on (step-stop h.held (limit-step hz (Err x) t) x refl) (stages.limit-refused h.select h.stage h.node)) refl
@@ -185,17 +186,17 @@ module _ {c q : Bytes} {cells parts : List ℕ} {w g n m k : ℕ} {area nodes : 
   offset-follows = held-follows h.held
       (omega (arith, held-numbers h.held, rooms.offset-numbers h.past h.held.free.fits, h.held.free.later))
 
-  offset-clause : {z : Clause} → z ≡ clause_at parts offset_kind → h.select.offset ≡ clause_of c q cells z
+  offset-clause : {z : std.Option Clause} → z ≡ clause_at parts offset_kind → h.select.offset ≡ clause_of c q cells z
   offset-clause hz = h.read.offset ∙ clause-read c q cells parts offset_kind h.read.table hz
 
-  abbrev OffsetSteps : Clause → List ℕ → Result Step Refusal → Type 0
+  abbrev OffsetSteps : std.Option Clause → List ℕ → Result Step Refusal → Type 0
   OffsetSteps z nodes' r = Steps (λ d. d) (λ d. build_rows invalid_offset (λ i t. P.offset t i) d (clause_of c q cells z)) n m k area nodes area nodes' r
 
-  offset_step : {z : Clause} → z ≡ clause_at parts offset_kind → {nodes' : List ℕ} (r : Result Step Refusal) → OffsetSteps z nodes' r
+  offset_step : {z : std.Option Clause} → z ≡ clause_at parts offset_kind → {nodes' : List ℕ} (r : Result Step Refusal) → OffsetSteps z nodes' r
       → Steps (λ d. d) (λ d. build_rows invalid_offset (λ i t. P.offset t i) d h.select.offset) n m k area nodes area nodes' r
   offset_step hz r t = rw (offset-clause hz) t
 
-  module _ {z : Clause} (hz : z ≡ clause_at parts offset_kind) {nodes' : List ℕ} where
+  module _ {z : std.Option Clause} (hz : z ≡ clause_at parts offset_kind) {nodes' : List ℕ} where
     pub offset-stop : {x : Refusal} → OffsetSteps z nodes' (Err x) → Plans (select_offset h.select h.stage h.node) area area (Err x)
     offset-stop {x} t = plans-refused
         (refused-on (step-stop h.held (offset_step hz (Err x) t) x refl) (stages.offset-refused h.select h.stage h.node)) refl

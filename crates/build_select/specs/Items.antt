@@ -1,5 +1,5 @@
 -- The items of a SELECT over FROM's scope, stars expanded into rows behind the statement's, and WHERE.
-use Rattle.std.specs.Prelude.{ℕ, ◌*◌, ◌≡◌, List, map, length, take, Result, Ok, Err}
+use Rattle.std.specs.Prelude.{ℕ, ◌*◌, ◌≡◌, List, map, length, take, Result, Ok, Err, Option}
 use Rattle.std.proofs.Common.{arith, sym, ap, ◌∙◌}
 use Rattle.std.proofs.Math.Path.{refl}
 use Rattle.rules.specs.Refusals.{Answer, ok, refused}
@@ -127,7 +127,7 @@ module _ {c q : Bytes} {cells parts : List ℕ} {scope : Scope} {n m k : ℕ} {a
 
 -- WHERE
 module _ {c q : Bytes} {cells parts items : List ℕ} {scope : Scope} {n m k : ℕ} {area nodes : List ℕ}
-    (h : ItemsState c q cells parts items scope n m k area nodes) {w : Clause} (hw : w ≡ clause_at parts where_kind) where
+    (h : ItemsState c q cells parts items scope n m k area nodes) {w : Option Clause} (hw : w ≡ clause_at parts where_kind) where
   filter-is : h.select.filter ≡ clause_of c q cells w
   filter-is = h.read.filter ∙ clause-read c q cells parts where_kind h.read.table hw
 

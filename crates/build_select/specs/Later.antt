@@ -1,5 +1,5 @@
 -- HAVING and ORDER of a SELECT, over the projected scope.
-use Rattle.std.specs.Prelude.{ℕ, ◌+◌, ◌*◌, ◌≡◌, refl, List, length, take, Result, Ok, Err}
+use Rattle.std.specs.Prelude.{ℕ, ◌+◌, ◌*◌, ◌≡◌, refl, List, length, take, Result, Ok, Err, Option}
 use Rattle.std.proofs.Common.{arith, ap, ◌∙◌}
 use Rattle.rules.specs.Lists.{Bytes}
 use Rattle.rules.specs.Sizes.{clause_size, keys_size}
@@ -30,7 +30,7 @@ use Rattle.build_select.specs.Held.{plans-after}
 use Rattle.build_select.specs.States.{clause-read, ProjectionState, OrderState}
 
 module _ {c q : Bytes} {cells parts : List ℕ} {scope : Scope} {n m k : ℕ} {area nodes : List ℕ}
-    (h : ProjectionState c q cells parts scope n m k area nodes) {w : Clause} (hw : w ≡ clause_at parts having_kind) where
+    (h : ProjectionState c q cells parts scope n m k area nodes) {w : Option Clause} (hw : w ≡ clause_at parts having_kind) where
   having-is : h.select.having ≡ clause_of c q cells w
   having-is = h.read.having ∙ clause-read c q cells parts having_kind h.read.table hw
 

@@ -1,5 +1,5 @@
 -- FROM of a SELECT: what is known of a SELECT that was read, and what stands behind its FROM.
-use Rattle.std.specs.Prelude.{ℕ, ◌≡◌, refl, List, length, Result, Ok, Err}
+use Rattle.std.specs.Prelude.{ℕ, ◌≡◌, refl, List, length, Ok, Err}
 use Rattle.std.proofs.Common.{arith}
 use Rattle.rules.specs.Lists.{Bytes}
 use Rattle.rules.specs.Ast.{Select}
@@ -19,7 +19,7 @@ use Rattle.statement.specs.Access.{from_rows, select_at}
 use Rattle.statement.specs.Stays.{SectionsStay}
 use Rattle.numbers.specs.declared.refusals.Refusal.{Refusal}
 use Rattle.plan.specs.Emits.{Written}
-use Rattle.plan.specs.Steps.{RefusedWith, refused-on}
+use Rattle.plan.specs.Steps.{refused-on}
 use Rattle.build_from.specs.Clause.{ClauseRoom, clause-room, ClauseBuilds}
 use Rattle.build_from.specs.declared.Source.{Source}
 use Rattle.build_statement.specs.Plans.{Plans}

@@ -1,6 +1,6 @@
 -- What is known between the clauses of a SELECT: how far the rules have built it, what stands of its plan, and what the
 -- numbers of its parts stand for.
-use Rattle.std.specs.Prelude.{ℕ, ◌*◌, ◌≤◌, ◌≡◌, List, map, length}
+use Rattle.std.specs.Prelude.{ℕ, ◌*◌, ◌≤◌, ◌≡◌, List, map, length, Option}
 use Rattle.std.proofs.Common.{arith, sym, ap}
 use Rattle.rules.specs.Refusals.{ok, invalid_offset, invalid_limit}
 use Rattle.rules.specs.Limits.{most_bytes}
@@ -46,7 +46,7 @@ pub record Read (c q : Bytes) (cells parts : List ℕ) (d : Select) : Type 0 whe
   pub limit : d.limit ≡ to_clause (section_at c q cells parts limit_kind)
 
 -- the clause of a kind, by its numbers
-pub clause-read : (c q : Bytes) (cells parts : List ℕ) (kind : ℕ) {w : Clause} → length cells ≡ table_size
+pub clause-read : (c q : Bytes) (cells parts : List ℕ) (kind : ℕ) {w : Option Clause} → length cells ≡ table_size
     → w ≡ clause_at parts kind → to_clause (section_at c q cells parts kind) ≡ clause_of c q cells w
 clause-read c q cells parts kind {w} l e = clause-is parts kind c q cells (omega (arith, l)) w e
 

@@ -1,5 +1,6 @@
 -- A WHERE that may be missing: its cells are the plan's first ones, and the next cell is the number of its root.
 use Rattle.std.specs.Prelude.{ℕ, ◌*◌, ◌≤◌, pred, ◌≡◌, refl, take, Ok}
+use Rattle.std.specs.Prelude as std
 use Rattle.std.proofs.Common.{arith, sym}
 use Rattle.std.proofs.Math.Path.{ap}
 use mathlib.Core.List.{List, [], append-nil}
@@ -19,7 +20,6 @@ use Rattle.appends.specs.Expressions.Option.{emit_option, option-none, option-st
 use Rattle.ast.specs.Table.{tree_at}
 use Rattle.statement.specs.EntryAccess.{clause_of}
 use Rattle.statement.specs.declared.access.Clause.{Clause}
-use Rattle.statement.specs.declared.access.Clause.TheVariants.{Missing, Stands}
 use Rattle.plan.specs.Layout.{cells_end}
 use Rattle.plan.specs.Cells.{Room}
 use Rattle.plan.specs.Emits.{Emitting, Written, written_of, Emits}
@@ -32,11 +32,11 @@ emit_given s none = ok ([], 0)
 emit_given s (some e) = emit s 0 e
 
 -- a clause w over the scope of labels xs, matches ms and tables ts, whatever is hidden
-pub record Filters (c q : Bytes) (t xs ms ts : List ℕ) (w : Clause) (area area' : List ℕ) (x : Written) : Type 0 where
+pub record Filters (c q : Bytes) (t xs ms ts : List ℕ) (w : std.Option Clause) (area area' : List ℕ) (x : Written) : Type 0 where
   pub is : (h : ℕ) → Emits (emit_given (scope_at c q t xs ms ts h) (clause_expr (clause_of c q t w))) 0 area area' x
 
-module _ {c q : Bytes} {t xs ms ts : List ℕ} {w : Clause} {area : List ℕ} where
-  pub filters-none : w ≡ Missing → Filters c q t xs ms ts w area area (Ok 0)
+module _ {c q : Bytes} {t xs ms ts : List ℕ} {w : std.Option Clause} {area : List ℕ} where
+  pub filters-none : w ≡ std.None → Filters c q t xs ms ts w area area (Ok 0)
   unfolding emit_given clause_of clause_expr map_option written_of cells_numbers concat
   filters-none e = rw e (record {
     is = λ h. record {
@@ -50,16 +50,16 @@ module _ {c q : Bytes} {t xs ms ts : List ℕ} {w : Clause} {area : List ℕ} wh
     };
   })
 
-  module _ (l r : ℕ) (e : w ≡ Stands l r) where
-    pub filters-some : {area' : List ℕ} {x : Written} → Builds c q t xs ms ts r 0 area area' x
+  module _ (clause : Clause) (e : w ≡ std.Some clause) where
+    pub filters-some : {area' : List ℕ} {x : Written} → Builds c q t xs ms ts clause.row 0 area area' x
         → Filters c q t xs ms ts w area area' x
     unfolding emit_given clause_of clause_expr map_option emit
     filters-some b = rw e (record { is = b.is })
 
-pub filters-room : (c q : Bytes) (t : List ℕ) {w : Clause} {area : List ℕ} (l r : ℕ) → w ≡ Stands l r
-    → Room 0 (3 * clause_size (clause_of c q t w)) area → Room 0 (3 * size (tree_at c q t r)) area
+pub filters-room : (c q : Bytes) (t : List ℕ) {w : std.Option Clause} {area : List ℕ} (clause : Clause) → w ≡ std.Some clause
+    → Room 0 (3 * clause_size (clause_of c q t w)) area → Room 0 (3 * size (tree_at c q t clause.row)) area
 unfolding clause_of clause_expr map_option clause_size option_size
-filters-room c q t l r e h = rw e at h
+filters-room c q t clause e h = rw e at h
 
 -- ACCEPTED
 pub record Taken (s : Scope) (o : Option Expr) (xs : List Cell) (m : ℕ) : Type 0 where

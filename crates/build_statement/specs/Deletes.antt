@@ -118,7 +118,7 @@ module _ (c q : Bytes) (tables cells parts : List ℕ) {area nodes : List ℕ}
       (delete-table (catalog_at c q tables) (delete_at c q cells parts) _
       (not_there c q tables cells parts h.within named a n ha hn r f e))
 
-  module _ {w : Clause} (hw : w ≡ clause_at parts where_kind) (s : length cells ≤ outside_row) where
+  module _ {w : std.Option Clause} (hw : w ≡ clause_at parts where_kind) (s : length cells ≤ outside_row) where
     few : clause_size (delete_at c q cells parts).filter ≤ most_cells
     few = delete-few h.within
 

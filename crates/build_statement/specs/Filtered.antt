@@ -49,7 +49,7 @@ module _ (c q : Bytes) (tables cells parts : List ℕ) {d : Statement} (h : Text
       pub scope-is : scope_of (tree_at c q cells) c q S ≡ table_scope (table_named c q tables i a n)
       scope-is = table-scope c q tables a n r f i e h (rw name-is named) g (tree_at c q cells)
 
-      pub filtered : {w : Clause} → w ≡ clause_at parts where_kind → length cells ≤ outside_row
+      pub filtered : {w : std.Option Clause} → w ≡ clause_at parts where_kind → length cells ≤ outside_row
           → {area area' : List ℕ} {x : Written}
           → Filters c q cells (labels_of S) (take S.width S.matches) (table_numbers S) w area area' x
           → Emits (emit_given (table_scope (table_named c q tables i a n))

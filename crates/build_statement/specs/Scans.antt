@@ -1,5 +1,6 @@
 -- The one scan of a DELETE or an UPDATE, its filter's cells the first of the plan.
 use Rattle.std.specs.Prelude.{ℕ, zero, suc, ◌*◌, ◌≤◌, ◌≡◌, List, [], ◌∷◌, length}
+use Rattle.std.specs.Prelude as std
 use Rattle.std.proofs.Common.{arith}
 use Rattle.std.proofs.Math.Path.{refl}
 use Rattle.std.proofs.Math.Option.{Option, none, some}
@@ -57,7 +58,7 @@ module _ (c q : Bytes) (tables : List ℕ) (i a n l m : ℕ) {nodes nodes' : Lis
   scan-all = (h (table_named c q tables i a n) none (root_of m) (span-at c q a n l hl) refl (root-number m)).all
 
 -- THE FILTER'S ROOM, from its clause as it was read
-module _ (c q : Bytes) (cells parts : List ℕ) {w : Clause} (hw : w ≡ clause_at parts where_kind)
+module _ (c q : Bytes) (cells parts : List ℕ) {w : std.Option Clause} (hw : w ≡ clause_at parts where_kind)
     (s : length cells ≤ outside_row) where
   pub where-is : to_clause (section_at c q cells parts where_kind) ≡ clause_of c q cells w
   where-is = clause-is parts where_kind c q cells s w hw

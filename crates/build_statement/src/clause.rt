@@ -14,7 +14,7 @@ pub fn build_where<'t, 'a>(
     catalog: &'t [u8],
     statement: &'t [u8],
     cells: &[u32],
-    clause: Clause,
+    clause: Option<Clause>,
     labels: &'a [u32],
     matches: &'a [u16],
     width: u32,
@@ -28,9 +28,9 @@ pub fn build_where<'t, 'a>(
         clause area.old area.new result }
 {
     match clause {
-        Clause::Missing => Ok(0),
-        Clause::Stands(_, r) => build_expression(
-            catalog, statement, cells, r, labels, matches, width, tables, count, area, 0,
+        None => Ok(0),
+        Some(clause) => build_expression(
+            catalog, statement, cells, clause.row, labels, matches, width, tables, count, area, 0,
         ),
     }
 }

@@ -202,7 +202,7 @@ module _ (c q : Bytes) (tables cells parts : List ℕ) {area nodes : List ℕ}
       (U.update-table (catalog_at c q tables) (update_at c q cells parts) _
       (not_there c q tables cells parts h.within named a n ha hn r f e))
 
-  module _ {w : Clause} (hw : w ≡ clause_at parts where_kind) (s : length cells ≤ outside_row) where
+  module _ {w : std.Option Clause} (hw : w ≡ clause_at parts where_kind) (s : length cells ≤ outside_row) where
     few : sets_size (update_at c q cells parts).sets + clause_size (update_at c q cells parts).filter ≤ most_cells
     few = update-few h.within
 

@@ -1,6 +1,7 @@
 -- What the entries of a statement stand for, by their numbers (crate sections): the k-th item, group, order key, name, row, set or
 -- column, and a clause.
 use Rattle.std.specs.Prelude.{ℕ, zero, suc, ◌≤◌, ◌<◌, ◌≡◌, Bool, List, [], ◌∷◌, length, get_or, drop}
+use Rattle.std.specs.Prelude as std
 use Rattle.std.proofs.Common.{arith, ◌∙◌}
 use Rattle.std.proofs.Math.Decide.{dec_lt}
 use Rattle.std.proofs.Math.Path.{refl, sym, ap}
@@ -26,7 +27,6 @@ use Rattle.statement.specs.Layout.{first_or, first_of, word_or, map_entries, to_
 use Rattle.statement.specs.Layout.{to_named, to_names, to_row, to_set, to_null, to_column}
 use Rattle.numbers.specs.Values.{type_at}
 use Rattle.statement.specs.declared.access.Clause as Cl
-use Rattle.statement.specs.declared.access.Clause.TheVariants as C
 
 -- NAMES
 -- a name that may be missing: there is none where the length is 0
@@ -202,44 +202,44 @@ names-some [] ns h = absurd (h refl)
 names-some (c ∷ cs) ns h = refl
 
 -- the clause that a section's numbers are
-unfoldable pub clause_at : List ℕ → ℕ → Cl.Clause
+unfoldable pub clause_at : List ℕ → ℕ → std.Option Cl.Clause
 clause_at parts kind = elim (eqb (get_or parts (start_of kind) 0) 0) [
-  | true ↦ C.Missing
-  | false ↦ C.Stands (numbers_at parts kind 0).line (first_row (numbers_at parts kind 0))
+  | true ↦ std.None
+  | false ↦ std.Some (record { line = (numbers_at parts kind 0).line; row = first_row (numbers_at parts kind 0) })
 ]
 
 -- what it stands for
-unfoldable pub clause_of : Bytes → Bytes → List ℕ → Cl.Clause → Option Clause
-clause_of b q cells C.Missing = none
-clause_of b q cells (C.Stands l r) = some (record { line = l; expr = tree_at b q cells r })
+unfoldable pub clause_of : Bytes → Bytes → List ℕ → std.Option Cl.Clause → Option Clause
+clause_of b q cells std.None = none
+clause_of b q cells (std.Some clause) = some (record { line = clause.line; expr = tree_at b q cells clause.row })
 
 module _ (parts : List ℕ) (kind : ℕ) where
-  pub clause-none : get_or parts (start_of kind) 0 ≡ 0 → C.Missing ≡ clause_at parts kind
+  pub clause-none : get_or parts (start_of kind) 0 ≡ 0 → std.None ≡ clause_at parts kind
   unfolding clause_at
   clause-none h = rw (clause_at, eq-eqb _ 0 h)
 
   pub clause-some : (get_or parts (start_of kind) 0 ≡ 0 → ⊥)
-      → C.Stands (numbers_at parts kind 0).line (first_row (numbers_at parts kind 0)) ≡ clause_at parts kind
+      → std.Some (record { line = (numbers_at parts kind 0).line; row = first_row (numbers_at parts kind 0) }) ≡ clause_at parts kind
   unfolding clause_at
   clause-some h = rw (clause_at, ne_eqb _ 0 h)
 
   pub clause-by : (e : Entry) (r n : ℕ) → e ≡ numbers_at parts kind 0 → r ≡ first_row e → n ≡ get_or parts (start_of kind) 0
-      → (n ≡ 0 → ⊥) → C.Stands e.line r ≡ clause_at parts kind
+      → (n ≡ 0 → ⊥) → std.Some (record { line = e.line; row = r }) ≡ clause_at parts kind
   clause-by e r n h g m ne = rw (g, h) (clause-some (λ z. ne (m ∙ z)))
 
   module _ (b q : Bytes) (cells : List ℕ) (s : length cells ≤ outside_row) where
     clause-first : (e : Entry) (ys : List E.Entry)
-        → to_clause (entry_of b q cells e ∷ ys) ≡ clause_of b q cells (C.Stands e.line (first_row e))
+        → to_clause (entry_of b q cells e ∷ ys) ≡ clause_of b q cells (std.Some (record { line = e.line; row = first_row e }))
     unfolding to_clause clause_of entry_of
     clause-first e ys = ap (λ (x : Expr). some (record { line = e.line; expr = x })) (first-tree b q cells s e)
 
     clause-missing : get_or parts (start_of kind) 0 ≡ 0
-        → to_clause (section_at b q cells parts kind) ≡ clause_of b q cells C.Missing
+        → to_clause (section_at b q cells parts kind) ≡ clause_of b q cells std.None
     unfolding to_clause clause_of
     clause-missing n = ap to_clause (no-entries (section_at b q cells parts kind) (section-count b q cells parts kind ∙ n))
 
     clause-stands : (get_or parts (start_of kind) 0 ≡ 0 → ⊥) → to_clause (section_at b q cells parts kind)
-        ≡ clause_of b q cells (C.Stands (numbers_at parts kind 0).line (first_row (numbers_at parts kind 0)))
+        ≡ clause_of b q cells (std.Some (record { line = (numbers_at parts kind 0).line; row = first_row (numbers_at parts kind 0) }))
     clause-stands n =
         let xs = section_at b q cells parts kind in
         let e = numbers_at parts kind 0 in
@@ -249,7 +249,7 @@ module _ (parts : List ℕ) (kind : ℕ) where
         ap to_clause f ∙ clause-first e (drop 1 xs)
 
     -- the clause, by its numbers
-    pub clause-is : (x : Cl.Clause) → x ≡ clause_at parts kind
+    pub clause-is : (x : std.Option Cl.Clause) → x ≡ clause_at parts kind
         → to_clause (section_at b q cells parts kind) ≡ clause_of b q cells x
     clause-is x h = go (eqb (get_or parts (start_of kind) 0) 0) refl
       where

@@ -34,11 +34,11 @@ pub enum Kind {
     Other,
 }
 
-// A clause: none, or the line of its record and the row of its expression.
+// A clause: the line of its record, and the row of its expression.
 #[derive(Clone, Copy)]
-pub enum Clause {
-    Missing,
-    Stands(u32, usize),
+pub struct Clause {
+    pub line: u32,
+    pub row: usize,
 }
 
 pub fn kind_of(parts: &[u32]) -> Kind
@@ -90,15 +90,18 @@ pub fn from_rows(parts: &[u32]) -> u32
     number(parts, FROM_ROWS)
 }
 
-// The clause of a kind of section.
-pub fn clause_at(parts: &[u32], kind: u32) -> Clause
+// The clause of a kind of section, if there is one.
+pub fn clause_at(parts: &[u32], kind: u32) -> Option<Clause>
     ensures { result ≡ entryAccess.clause_at parts.now kind }
 {
     if count(parts, kind) == 0 {
-        return Clause::Missing;
+        return None;
     }
     let e = entry_at(parts, kind, 0);
-    Clause::Stands(e.line, first_row(e))
+    Some(Clause {
+        line: e.line,
+        row: first_row(e),
+    })
 }
 
 // Whether an order key descends.

@@ -7,14 +7,14 @@ use Rattle.rules.specs.Refusals.{invalid_offset}
 use Rattle.numbers.specs.Reasons.{reason_of}
 use Rattle.build_clauses.proofs.rows.build_offset.Goals as goal
 
-pub returns-in-Missing : goal.returns-in-Missing
-returns-in-Missing c = rows-missing invalid_offset (λ y d. P.offset d y) c.in-Missing.is (omega (arith, c.requires.room))
+pub returns-in_default : goal.returns-in_default
+returns-in_default c = rows-missing invalid_offset (λ y d. P.offset d y) c.in_default.is (omega (arith, c.requires.room))
 
-pub returns-in_err-z-in-Stands : goal.returns-in_err-z-in-Stands
+pub returns-in_err-z : goal.returns-in_err-z
 unfolding reason_of
-returns-in_err-z-in-Stands c = let p = err_from_is_err_and c.from_residual.result c.from_residual.ensures.1 in
-    rw (p.1, p.2) (rows-refused invalid_offset (λ y d. P.offset d y) _ _ c.in-Stands.is (counted-by _ _ c.at.ensures c.row_count.ensures) _ c.in_err-z-in-Stands.was)
+returns-in_err-z c = let p = err_from_is_err_and c.from_residual.result c.from_residual.ensures.1 in
+    rw (p.1, p.2) (rows-refused invalid_offset (λ y d. P.offset d y) _ c.in-Some.is (counted-by _ _ c.at-invalid.ensures c.row_count.ensures) _ c.in_err-z.was)
 
-pub returns-in_ok-z-in-Stands : goal.returns-in_ok-z-in-Stands
+pub returns : goal.returns
 unfolding reason_of
-returns-in_ok-z-in-Stands c = offset-number _ _ c.in-Stands.is (counted-by _ _ c.at.ensures c.row_count.ensures) _ c.in_ok-z-in-Stands.was c.offset-used.ensures
+returns c = offset-number _ c.in-Some.is (counted-by _ _ c.at-invalid.ensures c.row_count.ensures) _ c.in_ok-z.was c.offset-used.ensures
