@@ -117,7 +117,6 @@ module _ {t : Bytes} {p₀ l₀ c₀ : ℕ} {cells₀ : List ℕ} {p l c k n : �
   unfolding FromsRead prefixed
   froms-end e = record {
     value = reverse h.trees;
-    tables = k;
     is = sym rest-is ∙ rw (froms-none (here t p l c k) (h.fuel - 1) e, append-nil (reverse h.trees));
     position = h.ready.position;
     moved = h.moved;

@@ -13,11 +13,10 @@ use Rattle.read_expression.specs.Reading.{here, Position}
 use Rattle.from.specs.Layout.{froms_at}
 use Rattle.from.specs.declared.Froms.{Froms}
 
--- FROM, read from row c on to row c', in n FROM rows; k tables
-pub record FromsTook (t : Bytes) (p l c : ℕ) (cells cells' rows' : List ℕ) (p' l' c' n : ℕ) : Type 0 where
+-- FROM, read from row c on to row c', with k tables and in n FROM rows
+pub record FromsTook (t : Bytes) (p l c : ℕ) (cells cells' rows' : List ℕ) (p' l' c' k n : ℕ) : Type 0 where
   pub value : List From
-  pub tables : ℕ
-  pub is : turns froms (here t p l c 0) ≡ ok (value, here t p' l' c' tables)
+  pub is : turns froms (here t p l c 0) ≡ ok (value, here t p' l' c' k)
   pub position : Position t p' l' c'
   pub moved : p ≤ p'
   pub more : c ≤ c'
@@ -26,5 +25,5 @@ pub record FromsTook (t : Bytes) (p l c : ℕ) (cells cells' rows' : List ℕ) (
   pub cells-kept : Kept 0 (row_size * c) cells cells'
 
 unfoldable pub FromsRead : (t : Bytes) (p l c : ℕ) (cells cells' rows' : List ℕ) → Result Froms code.Refusal → Type 0
-FromsRead t p l c cells cells' rows' (Ok f) = FromsTook t p l c cells cells' rows' f.at.position f.at.line f.at.rows f.rows
+FromsRead t p l c cells cells' rows' (Ok f) = FromsTook t p l c cells cells' rows' f.at.position f.at.line f.at.rows f.tables f.rows
 FromsRead t p l c cells cells' rows' (Err w) = turns froms (here t p l c 0) ≡ refused (told statement w)

@@ -48,7 +48,7 @@ sections-same b t x cells parts e f zero l = e
 sections-same b t x cells parts e f (suc k) l = run-same b t x cells parts 1 6 f (suc k) (omega arith) (omega arith)
 
 stays-froms : {c m : ℕ} {cells parts : List ℕ} {P : List ℕ → List ℕ → Type 0} → Stays c m cells parts P
-    → {t : Bytes} {p l p' l' c' n : ℕ} {cells' rows' : List ℕ} (f : FromsTook t p l c cells cells' rows' p' l' c' n)
+    → {t : Bytes} {p l p' l' c' k n : ℕ} {cells' rows' : List ℕ} (f : FromsTook t p l c cells cells' rows' p' l' c' k n)
     → Stays c' m cells' parts λ x y. P x y × ((b : Bytes) → froms_at b t x rows' n ≡ f.value)
 stays-froms {m = m} h f =
     let o : m ≤ m = omega arith in
@@ -72,11 +72,11 @@ module _ (t : Bytes) (p : ℕ) (cells cells₁ parts parts₁ : List ℕ) where
     select-from-refused w f = come ∙ inner-no (turns froms) _ _ _ _ f
 
     module _ (fs : Froms) (f : FromsRead t q₁.position q₁.line q₁.rows cells₁ cells₂ rows' (Ok fs)) where
-      pub from-took : FromsTook t q₁.position q₁.line q₁.rows cells₁ cells₂ rows' fs.at.position fs.at.line fs.at.rows fs.rows
+      pub from-took : FromsTook t q₁.position q₁.line q₁.rows cells₁ cells₂ rows' fs.at.position fs.at.line fs.at.rows fs.tables fs.rows
       unfolding FromsRead
       from-took = f
 
-      come-clauses : sections_of select_head 1 (here t p 2 0 0) ≡ ((run 1 6 >>= λ xss. give (select_by items.value from-took.value xss)) >>= λ d. give (Ast.select d)) (here t fs.at.position fs.at.line fs.at.rows from-took.tables)
+      come-clauses : sections_of select_head 1 (here t p 2 0 0) ≡ ((run 1 6 >>= λ xss. give (select_by items.value from-took.value xss)) >>= λ d. give (Ast.select d)) (here t fs.at.position fs.at.line fs.at.rows fs.tables)
       come-clauses = come ∙ inner-ok (turns froms) _ _ _ _ _ from-took.is ∙ bind-same _ _ _ _ _ (run_on_lem 1 6 _ _)
 
       -- all that was read, whatever stands behind its rows
@@ -91,7 +91,7 @@ module _ (t : Bytes) (p : ℕ) (cells cells₁ parts parts₁ : List ℕ) where
       pub select_read : (cells₃ parts₃ : List ℕ) (r₂ : Result Cursor code.Refusal) → ((k : ℕ) → Given (run 1 6) (RunRead t 1 6 fs.at.rows cells₂ cells₃ parts₁ parts₃) t fs.at.position fs.at.line fs.at.rows k r₂) → length parts₃ ≡ 3863
           → BodyRead t select_head p cells₃ rows' parts (set parts₃ 2367 fs.rows) r₂
       select_read cells₃ parts₃ r₂ g w =
-          body-last t select_head p cells₃ rows' parts (set parts₃ 2367 fs.rows) (run 1 6) (RunRead t 1 6 fs.at.rows cells₂ cells₃ parts₁ parts₃) (select_by items.value from-took.value) Ast.select fs.at.position fs.at.line fs.at.rows from-took.tables
+          body-last t select_head p cells₃ rows' parts (set parts₃ 2367 fs.rows) (run 1 6) (RunRead t 1 6 fs.at.rows cells₂ cells₃ parts₁ parts₃) (select_by items.value from-took.value) Ast.select fs.at.position fs.at.line fs.at.rows fs.tables
           come-clauses (λ c₃ xss l h.
           let y = stands cells₃ parts₃ c₃ xss l h cells₃ (kept-all 0 _ _) in
           (λ b. unfold body_at in rw (get_or-set_same parts₃ 2367 fs.rows 0 (omega arith), y.0.0.1 b, y.0.1 b, by-run b t cells₃ (set parts₃ 2367 fs.rows) items.value from-took.value, y.1 b), y.0.0.0))
@@ -100,7 +100,7 @@ module _ (t : Bytes) (p : ℕ) (cells cells₁ parts parts₁ : List ℕ) where
                 let y = stands cells₃ parts₃ c₃ xss l h cells₃ (kept-all 0 _ _) in
                 let z = stands cells₃ parts₃ c₃ xss l h x (kept-first _ k (omega arith)) in
                 sections-same b t x cells₃ (set parts₃ 2367 fs.rows) (z.0.0.1 b ∙ sym (y.0.0.1 b)) (z.1 b ∙ sym (y.1 b)) kind o;
-          }) r₂ (g from-took.tables)
+          }) r₂ (g fs.tables)
 
       pub select-run-refused : (cells₃ parts₃ : List ℕ) (w : code.Refusal) → ((k : ℕ) → Given (run 1 6) (RunRead t 1 6 fs.at.rows cells₂ cells₃ parts₁ parts₃) t fs.at.position fs.at.line fs.at.rows k (Err w)) → length parts₃ ≡ 3863
           → BodyRead t select_head p cells₃ rows' parts parts₃ (Err w)
