@@ -2,7 +2,6 @@
 use Rattle.std.specs.Prelude.{ℕ, suc, ◌≡◌, refl, ◌++◌}
 use Rattle.std.proofs.Common.{arith, add-zero, sym, ◌∙◌, append-nil}
 use Rattle.std.proofs.Math.Path.{ap}
-use Rattle.std.proofs.Math.Option.{some}
 use Rattle.rules.specs.Refusals.{Refusal, Answer, ok, refused}
 use Rattle.rules.specs.Lists.{Bytes}
 use Rattle.rules.specs.Schema.{Value}
@@ -29,11 +28,11 @@ build is_head l as' = star l
 
 -- its row stands before those of its operands
 pub record Built (h : Head) (l : ℕ) (as' : Exprs) (e : Expr) : Type 0 where
-  pub rows : encode e ≡ row_of l (suc (size_all as')) (head_numbers (some h)) ++ encode_all as'
+  pub rows : encode e ≡ row_of l (suc (size_all as')) (head_numbers h) ++ encode_all as'
   pub size : size e ≡ suc (size_all as')
-  pub fits : (b t : Bytes) → HeadFits b t (some h) → FitsAll b t as' → Fits b t e
+  pub fits : (b t : Bytes) → HeadFits b t h → FitsAll b t as' → Fits b t e
 
-pub built : (h : Head) (l : ℕ) (as' : Exprs) → (h ≡ is_head → ⊥) → count_of as' ≡ arity (some h) → Built h l as' (build h l as')
+pub built : (h : Head) (l : ℕ) (as' : Exprs) → (h ≡ is_head → ⊥) → count_of as' ≡ arity h → Built h l as' (build h l as')
 unfolding build encode encode_all arity count_of size size_all Fits FitsAll HeadFits
 built star_head l nil n s = record { rows = sym (append-nil _); size = refl; fits = λ b t f g. tt }
 built star_head l (cons a as') n s = absurd (omega arith)
@@ -66,7 +65,7 @@ unfoldable mapped : (Exprs → Expr) → Answer (Exprs × Place) → Answer (Exp
 mapped f (ok r) = ok (f r.0, r.1)
 mapped f (refused x) = refused x
 
-operands-build : (h : Head) (l : ℕ) (e : Read Expr) (p : Place) → (h ≡ is_head → ⊥) → operands h l e p ≡ mapped (build h l) (times (arity (some h)) e p)
+operands-build : (h : Head) (l : ℕ) (e : Read Expr) (p : Place) → (h ≡ is_head → ⊥) → operands h l e p ≡ mapped (build h l) (times (arity h) e p)
 unfolding operands mapped build times arity give ◌>>=◌
 operands-build star_head l e p n = refl
 operands-build (column_head t m) l e p n = refl
@@ -95,7 +94,7 @@ operands-build (binary_head o) l e p n = go (e p)
     go (ok r) = second r.0 (e r.1)
     go (refused r) = refl
 
-pub operands-ok : (h : Head) (l : ℕ) (e : Read Expr) (p q : Place) (as' : Exprs) → (h ≡ is_head → ⊥) → times (arity (some h)) e p ≡ ok (as', q) → operands h l e p ≡ ok (build h l as', q)
+pub operands-ok : (h : Head) (l : ℕ) (e : Read Expr) (p q : Place) (as' : Exprs) → (h ≡ is_head → ⊥) → times (arity h) e p ≡ ok (as', q) → operands h l e p ≡ ok (build h l as', q)
 unfolding mapped
 operands-ok h l e p q as' n g = operands-build h l e p n ∙ rw g
 
@@ -130,7 +129,7 @@ module _ (e : Read Expr) (p : Place) where
     unfolding operands give
     is_read v r g = bind_ok e _ p a q h ∙ bind_ok literal_here _ q v r g
 
-pub operands-no : (h : Head) (l : ℕ) (e : Read Expr) (p : Place) (x : Refusal) → times (arity (some h)) e p ≡ refused x → operands h l e p ≡ refused x
+pub operands-no : (h : Head) (l : ℕ) (e : Read Expr) (p : Place) (x : Refusal) → times (arity h) e p ≡ refused x → operands h l e p ≡ refused x
 unfolding mapped arity
 operands-no is_head l e p x g = unfold operands in bind-no e _ p x (one-no e p x g)
 operands-no star_head l e p x g = operands-build star_head l e p (λ j. let u : ◌≡◌ {A = ℕ} 0 1 = cc in omega arith) ∙ rw g

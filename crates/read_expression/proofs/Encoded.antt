@@ -9,7 +9,7 @@ use Rattle.numbers.specs.Values.{literal-numbers}
 use Rattle.ast.specs.Table.{row_size}
 use Rattle.read_expression.specs.Encode.{head_numbers, is_numbers, row_of, count_of, encode, encode_all}
 
-row-length : (l n : ℕ) (h : Head) → length (row_of l n (head_numbers (some h))) ≡ 8
+row-length : (l n : ℕ) (h : Head) → length (row_of l n (head_numbers h)) ≡ 8
 unfolding row_of head_numbers
 row-length l n star_head = refl
 row-length l n is_head = refl

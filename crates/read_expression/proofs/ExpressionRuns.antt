@@ -177,7 +177,7 @@ module _ {t : Bytes} (p l c k : ℕ) {row : Row} (s : (l c k : ℕ) → RowOf t 
   took : Took (times row.operands (deep (d - 1))) (Rows t (c + 1) cells cells₁ c₁) t q (l + 1) (c + 1) k p₁ l₁ c₁
   took = given-done _ _ _ _ _ _ _ _ g
 
-  many : times (arity (some h.0)) (deep (d - 1)) (here t q (l + 1) (c + 1) k) ≡ ok (took.value, here t p₁ l₁ c₁ k)
+  many : times (arity h.0) (deep (d - 1)) (here t q (l + 1) (c + 1) k) ≡ ok (took.value, here t p₁ l₁ c₁ k)
   many = ap (λ n. times n (deep (d - 1)) (here t q (l + 1) (c + 1) k)) (sym h.2.many) ∙ took.is
 
   passed : p ≤ q
@@ -192,7 +192,7 @@ module _ {t : Bytes} (p l c k : ℕ) {row : Row} (s : (l c k : ℕ) → RowOf t 
       let b = built h.0 l took.value other (times-count _ _ _ _ _ many) in
       let rows = took.holds in
       let same : suc (size_all took.value) ≡ c₁ - c = omega (arith, rows.rows) in
-      let row_is : row_of l (suc (size_all took.value)) (head_numbers (some h.0)) ≡ row.kind ∷ l ∷ (c₁ - c) ∷ row.code ∷ row.a ∷ row.b ∷ row.c ∷ row.d ∷ [] = head-row l h.2.is same in
+      let row_is : row_of l (suc (size_all took.value)) (head_numbers h.0) ≡ row.kind ∷ l ∷ (c₁ - c) ∷ row.code ∷ row.a ∷ row.b ∷ row.c ∷ row.d ∷ [] = head-row l h.2.is same in
       gives-done _ _ _ _ _ _ _ p₁ l₁ c₁ (record {
         value = build h.0 l took.value;
         is = deep-read t p l c k d h.0 h.1 m y f ∙ operands-ok h.0 l (deep (d - 1)) _ _ took.value other many;
@@ -215,7 +215,7 @@ module _ {t : Bytes} (p l c k : ℕ) {row : Row} (s : (l c k : ℕ) → RowOf t 
     operand : (a : Expr) × (took.value ≡ cons a nil) × (deep (d - 1) (here t q (l + 1) (c + 1) k) ≡ ok (a, here t p₁ l₁ c₁ k))
     operand = one_ok (deep (d - 1)) (here t q (l + 1) (c + 1) k) _ _ (ap (λ n. times n (deep (d - 1)) (here t q (l + 1) (c + 1) k)) (sym one) ∙ many)
       where
-        one : arity (some h.0) ≡ 1
+        one : arity h.0 ≡ 1
         one = unfold arity in rw is-head
 
     reads : deep d (here t p l c k) ≡ operands is_head l (deep (d - 1)) (here t q (l + 1) (c + 1) k)

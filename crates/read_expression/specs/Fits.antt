@@ -11,15 +11,14 @@ ColumnFits c q none n = WordFits c q n
 ColumnFits c q (some t) n = WordFits c q t × WordFits c q n
 
 -- what a record says
-unfoldable pub HeadFits : Bytes → Bytes → Option Head → Type 0
-HeadFits c q none = Unit {0}
-HeadFits c q (some star_head) = Unit {0}
-HeadFits c q (some is_head) = Unit {0}
-HeadFits c q (some (column_head t n)) = ColumnFits c q t n
-HeadFits c q (some (value_head v)) = ValueFits c q v
-HeadFits c q (some (call_head n k)) = WordFits c q n
-HeadFits c q (some (unary_head o)) = Unit {0}
-HeadFits c q (some (binary_head o)) = Unit {0}
+unfoldable pub HeadFits : Bytes → Bytes → Head → Type 0
+HeadFits c q star_head = Unit {0}
+HeadFits c q is_head = Unit {0}
+HeadFits c q (column_head t n) = ColumnFits c q t n
+HeadFits c q (value_head v) = ValueFits c q v
+HeadFits c q (call_head n k) = WordFits c q n
+HeadFits c q (unary_head o) = Unit {0}
+HeadFits c q (binary_head o) = Unit {0}
 
 unfoldable mutual
   pub Fits : Bytes → Bytes → Expr → Type 0

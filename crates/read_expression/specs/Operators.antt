@@ -1,6 +1,5 @@
 -- The operators' rows, by their number in the table of words.
-use Rattle.std.specs.Prelude.{ℕ, zero, suc, ◌≤◌, ◌<◌, ◌≡◌, refl, List, [], ◌∷◌, length, get_or, take, drop}
-use Rattle.std.specs.Prelude as std
+use Rattle.std.specs.Prelude.{ℕ, zero, suc, ◌≤◌, ◌<◌, ◌≡◌, refl, List, [], ◌∷◌, length, get_or, take, drop, Some}
 use Rattle.std.proofs.Common.{arith, sym, ◌∙◌}
 use Rattle.std.proofs.Math.Option.{none, some}
 use Rattle.rules.specs.Limits.{most_bytes}
@@ -20,21 +19,21 @@ use Rattle.read_expression.specs.RowOf.{Plain, RowSays, RowOf}
 
 -- a record with no place and no literal
 pub record Plainly (h : Head) (kind code n : ℕ) : Type 0 where
-  pub is : head_numbers (some h) ≡ kind ∷ code ∷ 0 ∷ 0 ∷ 0 ∷ 0 ∷ []
-  pub many : n ≡ arity (some h)
+  pub is : head_numbers h ≡ kind ∷ code ∷ 0 ∷ 0 ∷ 0 ∷ 0 ∷ []
+  pub many : n ≡ arity h
   pub small : n ≤ 2
-  pub fits : (c t : Bytes) → HeadFits c t (some h)
+  pub fits : (c t : Bytes) → HeadFits c t h
 
-pub row-of-plain : (t : Bytes) (h : Head) (r : std.Option Row) (kind code n : ℕ) → Plainly h kind code n → Plain r kind code n → RowOf t (some h) r
+pub row-of-plain : (t : Bytes) (h : Head) (r : Row) (kind code n : ℕ) → Plainly h kind code n → Plain r kind code n → RowOf t (some h) (Some r)
 unfolding RowSays
-row-of-plain t h r kind code n p e = rw e.1 (record {
+row-of-plain t h r kind code n p e = record {
   says = record {
-    is = p.is ∙ sym e.2;
-    many = e.3 ∙ p.many;
-    small = omega (arith, e.3, p.small);
+    is = p.is ∙ sym e.0;
+    many = e.1 ∙ p.many;
+    small = omega (arith, e.1, p.small);
     fits = λ c. p.fits c t;
   };
-})
+}
 
 unary-plainly : (o : Unary) → Plainly (unary_head o) 5 (unary_code o) 1
 unfolding head_numbers arity HeadFits
@@ -98,7 +97,7 @@ module _ (t : Bytes) (a n k : ℕ) (words : Bytes) (e : keys operators ≡ words
   pub operator-none : 20 ≤ k → word operators (field most_bytes t a n) ≡ none
   operator-none l = operator-is ∙ nth-none operators k (unfold operators in l)
 
-  pub operator-some : (r : std.Option Row) → k < 20 → Plain r (get_or kinds k 0) (get_or codes k 0) (get_or counts k 0) → RowOf t (word operators (field most_bytes t a n)) r
+  pub operator-some : (r : Row) → k < 20 → Plain r (get_or kinds k 0) (get_or codes k 0) (get_or counts k 0) → RowOf t (word operators (field most_bytes t a n)) (Some r)
   operator-some r l p =
       let b = beside_at operators kinds codes counts k operators-beside (unfold operators in l) in
       rw (operator-is ∙ b.1) (row-of-plain t b.0 r _ _ _ b.2 p)

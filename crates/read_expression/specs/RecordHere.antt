@@ -47,7 +47,7 @@ row-of-is (binary_head o) s e = let z : ◌≡◌ {A = ℕ} 6 7 = cc s.is in abs
 
 pub row-of-not-is : {t : Bytes} (h : Head) {r : Row} → RowIs t h r → (r.kind ≡ 7 → ⊥) → h ≡ is_head → ⊥
 unfolding head_numbers
-row-of-not-is h s n e = n (let w : head_numbers (some h) ≡ head_numbers (some is_head) = rw e in cc s.is)
+row-of-not-is h s n e = n (let w : head_numbers h ≡ head_numbers is_head = rw e in cc s.is)
 
 -- POSITIONS
 -- behind the end of the text no record stands

@@ -13,15 +13,15 @@ abbrev pub numbers_of : Row → List ℕ
 numbers_of r = r.kind ∷ r.code ∷ r.a ∷ r.b ∷ r.c ∷ r.d ∷ []
 
 -- a row with no place and no literal
-abbrev pub Plain : std.Option Row → ℕ → ℕ → ℕ → Type 0
-Plain r kind code n = (x : Row) × (r ≡ Some x) × (numbers_of x ≡ kind ∷ code ∷ 0 ∷ 0 ∷ 0 ∷ 0 ∷ []) × (x.operands ≡ n)
+abbrev pub Plain : Row → ℕ → ℕ → ℕ → Type 0
+Plain r kind code n = (numbers_of r ≡ kind ∷ code ∷ 0 ∷ 0 ∷ 0 ∷ 0 ∷ []) × (r.operands ≡ n)
 
 -- the row of a record of the statement t
 pub record RowIs (t : Bytes) (h : Head) (r : Row) : Type 0 where
-  pub is : head_numbers (some h) ≡ numbers_of r
-  pub many : r.operands ≡ arity (some h)
+  pub is : head_numbers h ≡ numbers_of r
+  pub many : r.operands ≡ arity h
   pub small : r.operands ≤ most_cells + 1
-  pub fits : (c : Bytes) → HeadFits c t (some h)
+  pub fits : (c : Bytes) → HeadFits c t h
 
 -- a record that fits has a row, and no other
 unfoldable pub RowSays : (t : Bytes) → Option Head → std.Option Row → Type 0

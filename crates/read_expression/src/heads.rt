@@ -31,10 +31,10 @@ pub struct Row {
 }
 
 // A row with no place and no literal.
-fn plain_row(kind: u32, code: u32, operands: u32) -> Option<Row>
+fn plain_row(kind: u32, code: u32, operands: u32) -> Row
     ensures { Plain result kind code operands }
 {
-    Some(Row {
+    Row {
         kind,
         code,
         a: 0,
@@ -42,7 +42,7 @@ fn plain_row(kind: u32, code: u32, operands: u32) -> Option<Row>
         c: 0,
         d: 0,
         operands,
-    })
+    }
 }
 
 // An operator by its field.
@@ -51,26 +51,26 @@ fn operator(t: &[u8], a: usize, n: usize) -> Option<Row>
 {
     let w = text::packed(t, a, n);
     match w {
-        text::words::AND => plain_row(BINARY, 16, 2),
-        text::words::NOT => plain_row(UNARY, 8, 1),
-        text::words::OR => plain_row(BINARY, 17, 2),
-        text::words::EQ => plain_row(BINARY, 18, 2),
-        text::words::GT => plain_row(BINARY, 19, 2),
-        text::words::GE => plain_row(BINARY, 28, 2),
-        text::words::IS => plain_row(IS, 0, 1),
-        text::words::LT => plain_row(BINARY, 20, 2),
-        text::words::LE => plain_row(BINARY, 29, 2),
-        text::words::NE => plain_row(BINARY, 30, 2),
-        text::words::ADD => plain_row(BINARY, 21, 2),
-        text::words::DIV => plain_row(BINARY, 22, 2),
-        text::words::POW => plain_row(BINARY, 23, 2),
-        text::words::FACT => plain_row(UNARY, 9, 1),
-        text::words::IDENT => plain_row(UNARY, 10, 1),
-        text::words::MUL => plain_row(BINARY, 24, 2),
-        text::words::NEG => plain_row(UNARY, 11, 1),
-        text::words::REM => plain_row(BINARY, 25, 2),
-        text::words::SUB => plain_row(BINARY, 26, 2),
-        text::words::LIKE => plain_row(BINARY, 27, 2),
+        text::words::AND => Some(plain_row(BINARY, 16, 2)),
+        text::words::NOT => Some(plain_row(UNARY, 8, 1)),
+        text::words::OR => Some(plain_row(BINARY, 17, 2)),
+        text::words::EQ => Some(plain_row(BINARY, 18, 2)),
+        text::words::GT => Some(plain_row(BINARY, 19, 2)),
+        text::words::GE => Some(plain_row(BINARY, 28, 2)),
+        text::words::IS => Some(plain_row(IS, 0, 1)),
+        text::words::LT => Some(plain_row(BINARY, 20, 2)),
+        text::words::LE => Some(plain_row(BINARY, 29, 2)),
+        text::words::NE => Some(plain_row(BINARY, 30, 2)),
+        text::words::ADD => Some(plain_row(BINARY, 21, 2)),
+        text::words::DIV => Some(plain_row(BINARY, 22, 2)),
+        text::words::POW => Some(plain_row(BINARY, 23, 2)),
+        text::words::FACT => Some(plain_row(UNARY, 9, 1)),
+        text::words::IDENT => Some(plain_row(UNARY, 10, 1)),
+        text::words::MUL => Some(plain_row(BINARY, 24, 2)),
+        text::words::NEG => Some(plain_row(UNARY, 11, 1)),
+        text::words::REM => Some(plain_row(BINARY, 25, 2)),
+        text::words::SUB => Some(plain_row(BINARY, 26, 2)),
+        text::words::LIKE => Some(plain_row(BINARY, 27, 2)),
         _ => None,
     }
 }
@@ -187,7 +187,7 @@ pub fn head(t: &[u8], p: usize, f: Line) -> Option<Row>
         if n != 1 {
             return None;
         }
-        return plain_row(STAR, 0, 0);
+        return Some(plain_row(STAR, 0, 0));
     }
     literal_row(literal_at(t, MOST_BYTES, p, f))
 }
