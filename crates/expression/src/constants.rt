@@ -45,7 +45,7 @@ fn check_call(catalog: &[u8], statement: &[u8], table: &[u32], r: usize) -> Resu
     Err(Reason::UnknownFunction.at(line))
 }
 
-// A record, the first refusal of its operands given: 13 comes before that, 29 after it.
+// A record, the first refusal of its operands given: an unknown function comes before that, an invalid `is` after it.
 fn check_record(
     catalog: &[u8],
     statement: &[u8],
@@ -102,6 +102,7 @@ pub fn build_constant_value(
 ) -> Result<Constant, Refusal>
     ensures { constant_of catalog.now statement.now result ≡ constant (tree_at catalog.now statement.now table.now r) }
 {
-    check_constant(catalog, statement, table, r)?;
+    let checked = check_constant(catalog, statement, table, r);
+    checked?;
     evaluate_constant(catalog, statement, table, r)
 }

@@ -62,7 +62,7 @@ pub fn binary(
     }
 }
 
-// `is` with a literal of kind k, in a record at a line: a null, or a NaN; any other is 29.
+// `is` with a literal of kind k, in a record at a line: a null, or a NaN; any other is invalid.
 #[tactic(auto, unfolding(crate::specs::Answers::answered, numbers::specs::Codes::coded, numbers::specs::Reasons::reason_of, numbers::specs::Values::value_at, rules::specs::Evaluate::worked_at, rules::specs::Operators::is_of))]
 pub fn is(k: u32, a: Value, line: u32) -> Result<Value, Refusal>
     ensures { (x y : ℕ) (c q : Bytes) → answer_of c q result ≡ worked_at line (is_of (value_at c q k x y) (value_of c q a)) }
