@@ -154,11 +154,7 @@ pub const SMALL_NUMBERS: usize = 873;
 pub fn numbers_for(bytes: usize) -> usize
     ensures { result ≡ numbers_for bytes }
 {
-    let enough = COLUMNS + COLUMN_SIZE * (bytes / LEAST_COLUMN);
-    if NUMBERS < enough {
-        return NUMBERS;
-    }
-    enough
+    NUMBERS.min(COLUMNS + COLUMN_SIZE * (bytes / LEAST_COLUMN))
 }
 
 // The catalog from its text, whatever that is, into enough numbers. Where it is refused the numbers mean nothing.

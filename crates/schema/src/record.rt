@@ -69,9 +69,7 @@ pub fn column_record(catalog: &[u8], at: usize, line: u32) -> Result<Option<Colu
 fn is_taken(catalog: &[u8], tables: &[u32], n: u32, a: u32, m: u32) -> bool
     ensures { result ≡ any (same (bytes_at catalog.now catalog.now a m)) (names catalog.now tables.now n) }
 {
-    let mut i = n as usize;
-    while 0 < i {
-        i -= 1;
+    for i in (0..n as usize).rev() {
         let t = TABLES + TABLE_SIZE * i;
         if text::places::same_bytes(
             catalog,

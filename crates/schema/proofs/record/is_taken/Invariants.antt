@@ -1,11 +1,7 @@
 -- `is_taken`: the names before this one decide as all do.
-use Prim.Native.Nat.{◌≤◌, ◌<◌}
 use Rattle.rules.specs.Places.{bytes_at}
 use Rattle.schema.specs.TableRecords.{Taken}
 use Rattle.schema.proofs.record.is_taken.Given as goal
 
 abbrev pub invariant-loop-i : goal.invariant-loop-i
-invariant-loop-i l = (l.i ≤ l.n) × (l.n < 4294967296) × Taken l.catalog l.tables (bytes_at l.catalog l.catalog l.a l.m) l.n l.i
-
-abbrev pub decreases-loop-i : goal.decreases-loop-i
-decreases-loop-i l = l.i
+invariant-loop-i l = Taken l.catalog l.tables (bytes_at l.catalog l.catalog l.a l.m) l.n l.i
