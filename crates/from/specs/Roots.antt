@@ -40,9 +40,6 @@ module _ (froms : List ℕ) where
   pub left_is : (r f : ℕ) → f ≡ first_at froms (r - 1) → f - 1 ≡ left_at froms r
   left_is r f e = ap (λ x. x - 1) e ∙ sym (left_by r)
 
-  pub left-none : (r f : ℕ) → f ≡ first_at froms (r - 1) → f ≡ 0 → 0 ≡ left_at froms r
-  left-none r f e z = let w : 0 ≡ f - 1 = omega (arith, z) in w ∙ left_is r f e
-
   roots-enough : (m k n : ℕ) → n ≤ m → n ≤ k → roots_in froms m n ≡ roots_in froms k n
   unfolding roots_in
   roots-enough zero zero n h g = refl
@@ -98,9 +95,6 @@ module _ (froms : List ℕ) where
     pub is : get_or (roots_at froms n) k 0 ≡ get_or (roots_at froms N) k 0
     pub count : j ≡ length (roots_before froms n)
     pub more : k < j
-
-  pub finds-begin : (N k j : ℕ) → j ≡ length (roots_before froms N) → k < j → Finds N k N j
-  finds-begin N k j e h = record { is = refl; count = e; more = h }
 
   pub finds-none : (N k j : ℕ) → j ≡ length (roots_before froms N) → j ≤ k → 0 ≡ get_or (roots_at froms N) k 0
   finds-none N k j e h = sym (get_or-eq_default (roots_at froms N) 0 {n = k} (omega (arith, count-order N)))

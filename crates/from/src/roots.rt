@@ -9,25 +9,14 @@ use ast::rows::at;
 pub fn first(rows: &[u32], r: u32) -> u32
     ensures { result ≡ first_at rows.now r }
 {
-    let s = at(rows, r as usize, 7);
-    if r <= s {
-        return 0;
-    }
-    r - s
+    r.saturating_sub(at(rows, r as usize, 7))
 }
 
 // The root of the left side of a join in row r; that of the right one is the row before r.
 pub fn left(rows: &[u32], r: u32) -> u32
     ensures { result ≡ left_at rows.now r }
 {
-    if r == 0 {
-        return 0;
-    }
-    let f = first(rows, r - 1);
-    if f == 0 {
-        return 0;
-    }
-    f - 1
+    first(rows, r.saturating_sub(1)).saturating_sub(1)
 }
 
 // How many items the first n rows have.
@@ -47,14 +36,13 @@ pub fn items(rows: &[u32], n: u32) -> u32
 pub fn root(rows: &[u32], n: u32, k: u32) -> u32
     ensures { result ≡ get_or (roots_at rows.now n) k 0 }
 {
-    let mut j = items(rows, n);
-    if j <= k {
+    let count = items(rows, n);
+    if count <= k {
         return 0;
     }
     let mut end = n;
-    while k < j - 1 {
+    for _ in k + 1..count {
         end = first(rows, end - 1);
-        j = j - 1;
     }
     end - 1
 }

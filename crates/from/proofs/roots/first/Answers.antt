@@ -3,10 +3,6 @@ use borrow.Author.Rules.{rules}
 use Rattle.from.specs.Layout.{size_at, first_at}
 use Rattle.from.proofs.roots.first.Goals as goal
 
-pub returns-then-r-s : goal.returns-then-r-s
-unfolding first_at size_at
-returns-then-r-s c = search rules
-
 pub returns : goal.returns
 unfolding first_at size_at
 returns c = search rules

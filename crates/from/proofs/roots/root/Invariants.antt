@@ -1,9 +1,7 @@
 -- `roots::root`: from the last root on, as many as stand behind the one.
+use Prim.Native.Nat.{◌+◌, ◌-◌}
 use Rattle.from.specs.Roots.{Finds}
 use Rattle.from.proofs.roots.root.Given as goal
 
-abbrev pub invariant-loop-j : goal.invariant-loop-j
-invariant-loop-j l = Finds l.rows l.n l.k l.end l.j
-
-abbrev pub decreases-loop-j : goal.decreases-loop-j
-decreases-loop-j l = l.j
+abbrev pub invariant-loop : goal.invariant-loop
+invariant-loop l = Finds l.rows l.n l.k l.end (l.count + l.k + 1 - l.counter)
