@@ -7,4 +7,4 @@ mod EqualWalk
 mod Same
 mod Walks
 mod Collects
-mod KindNumbers
+pub mod KindNumbers

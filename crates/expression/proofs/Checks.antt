@@ -1,6 +1,7 @@
 -- Building over the empty scope: what the root adds to the refusals of its operands, in a tree and at a row of the table.
 use mathlib.Core.Bool.{Bool, true, false, not, ◌&&◌}
 use mathlib.Core.List.{List}
+use mathlib.Core.Logic.{◌⊎◌, inl, inr}
 use mathlib.Core.Path.{◌≡◌, refl, sym, ap, ◌∙◌}
 use Prim.Native.Nat.{ℕ, zero, suc, ◌+◌, ◌-◌, ◌≤◌, ◌<◌}
 use native.Mathlib.Numerals.{add-one}
@@ -21,7 +22,7 @@ use Rattle.rules.specs.Refusals.{Answer, ok, refused, ◌>>=◌, refuse, refuse_
 use Rattle.rules.specs.Schema.{Value}
 use Rattle.rules.specs.Scope.{empty, lookup, match_at, matched}
 use Rattle.ast.specs.Operands.{operands_of, kind_at, operands_at, operands-at, operands-call, tree-call, tree-unary}
-use Rattle.ast.specs.Operands.{tree-binary, tree_is, tree-literal, tree-column, tree-qualified, no-operands, arguments-none, arguments-more, tree-at}
+use Rattle.ast.specs.Operands.{tree-binary, tree_is, tree-literal, tree-column, tree-qualified, arguments-none, arguments-more, tree-at}
 use Rattle.ast.specs.Table.{at, rows_at, arguments_at, tree_by, tree_at}
 use Rattle.numbers.specs.Values.{value_at}
 use Rattle.expression.specs.Answers.{map_answer, answered}
@@ -31,8 +32,10 @@ use Rattle.std.specs.Result.{result_and}
 use Rattle.numbers.specs.Reasons.{reason_of}
 use Rattle.numbers.specs.declared.refusals.Reason.{Reason}
 use Rattle.numbers.specs.declared.refusals.Refusal.{Refusal}
-use Rattle.numbers.specs.Codes.{Apart}
-use Rattle.expression.proofs.Rows.{tree-star}
+use Rattle.ast.specs.Row.{number_of, tree-star}
+use Rattle.ast.specs.declared.row.Kind.{Kind}
+use Rattle.ast.specs.declared.row.Kind.TheVariants as K
+use Rattle.expression.proofs.Rows.{kind_is}
 
 -- ANSWERS
 -- what follows, but for its value
@@ -111,11 +114,11 @@ module _ (f : ℕ → Expr) (c q : Bytes) (t : List ℕ) (r : ℕ) where
   operands_of_lem : (e : Expr) → tree_by f c q t r ≡ e → operands ≡ check_all (operands_of e)
   operands_of_lem e h = ap check_all (sym (operands-at f c q t r) ∙ ap operands_of h)
 
-  pub record-column : kind_at t r ≡ 2 → check (tree_by f c q t r) ≡ refuse constant_only (at t r 1)
+  record-column : kind_at t r ≡ 2 → check (tree_by f c q t r) ≡ refuse constant_only (at t r 1)
   unfolding check build or_matched pick_matched matched match_at empty lookup is_empty found refusal_only map_answer refuse ◌>>=◌
   record-column h = rw (tree-column f c q t r h)
 
-  pub record-qualified : kind_at t r ≡ 3 → check (tree_by f c q t r) ≡ refuse constant_only (at t r 1)
+  record-qualified : kind_at t r ≡ 3 → check (tree_by f c q t r) ≡ refuse constant_only (at t r 1)
   unfolding check build or_matched pick_matched matched match_at empty lookup is_empty found refusal_only map_answer refuse ◌>>=◌
   record-qualified h = rw (tree-qualified f c q t r h)
 
@@ -123,11 +126,11 @@ module _ (f : ℕ → Expr) (c q : Bytes) (t : List ℕ) (r : ℕ) where
   unfolding check build or_matched pick_matched matched match_at empty refusal_only map_answer
   record-literal h = rw (tree-literal f c q t r h)
 
-  pub record-unary : kind_at t r ≡ 5 → check (tree_by f c q t r) ≡ operands
+  record-unary : kind_at t r ≡ 5 → check (tree_by f c q t r) ≡ operands
   unfolding operands_of
   record-unary h = let g = tree-unary f c q t r h in ap check g ∙ root-unary _ _ _ ∙ sym (operands_of_lem _ g)
 
-  pub record-binary : kind_at t r ≡ 6 → check (tree_by f c q t r) ≡ operands
+  record-binary : kind_at t r ≡ 6 → check (tree_by f c q t r) ≡ operands
   unfolding operands_of
   record-binary h = let g = tree-binary f c q t r h in ap check g ∙ root-binary _ _ _ _ ∙ sym (operands_of_lem _ g)
 
@@ -143,11 +146,21 @@ module _ (f : ℕ → Expr) (c q : Bytes) (t : List ℕ) (r : ℕ) where
   unfolding is_root_call word_at
   record-call h = rw (tree-call f c q t r h, operands-call t r h) (root-call _ _ f t _ _)
 
-  pub record-star : (k : ℕ) → k ≡ kind_at t r → Apart k 2 7 → check (tree_by f c q t r) ≡ refuse unsupported_star (at t r 1)
+  pub record-star : kind_at t r ≡ 1 → check (tree_by f c q t r) ≡ refuse unsupported_star (at t r 1)
   unfolding check build or_matched pick_matched matched match_at empty refusal_only map_answer refuse
-  record-star k h ne = rw (tree-star f c q t r k h
-      (no-operands t r (λ e. ne.0.0.0.0.1 (h ∙ e)) (λ e. ne.0.0.0.1 (h ∙ e)) (λ e. ne.0.0.1 (h ∙ e)) (λ e. ne.0.1 (h ∙ e)))
-      ne.0.0.0.0.0.0.1 ne.0.0.0.0.0.1 ne.0.0.0.0.1 ne.1)
+  record-star h = rw (tree-star f c q t r h)
+
+  -- the kinds that are checked alike
+  module _ {k : Kind} (h : number_of k ≡ kind_at t r) where
+    pub record-name : (k ≡ K.Column) ⊎ (k ≡ K.Qualified) → check (tree_by f c q t r) ≡ refuse constant_only (at t r 1)
+    unfolding number_of
+    record-name (inl e) = record-column (kind_is h e)
+    record-name (inr e) = record-qualified (kind_is h e)
+
+    pub record-operator : (k ≡ K.Unary) ⊎ (k ≡ K.Binary) → check (tree_by f c q t r) ≡ operands
+    unfolding number_of
+    record-operator (inl e) = record-unary (kind_is h e)
+    record-operator (inr e) = record-binary (kind_is h e)
 
 -- the literal behind `is`, and the name and the arguments of a call, as the code reads them
 module _ (c q : Bytes) (t : List ℕ) (r : ℕ) where

@@ -1,28 +1,27 @@
 -- The tree at a row by its kind and its operands, and what evaluating it gives where these have values.
-use mathlib.Core.Bool.{Bool, true, false}
 use mathlib.Core.List.{List}
-use mathlib.Core.Option.{none, some}
+use mathlib.Core.Logic.{◌⊎◌, inl, inr}
 use mathlib.Core.Path.{◌≡◌, refl, sym, ap, ◌∙◌}
 use Prim.Native.Nat.{ℕ, suc, ◌+◌, ◌-◌, ◌<◌}
 use native.Mathlib.Numerals.{add-one}
 use native.Mathlib.Omega.{arith}
-use lib.Dec.{eqb}
-use borrow.Author.Tests.{eqb-true, eqb-false}
 use Rattle.rules.specs.Arithmetic.{Worked}
-use Rattle.rules.specs.Ast.{sqrt, Expr, star, column, literal, call, unary, binary, is, Exprs, nil, cons, line_of}
+use Rattle.rules.specs.Ast.{sqrt, Expr, star, call, binary, Exprs, nil, cons}
 use Rattle.rules.specs.Evaluate.{worked_at, evaluate}
 use Rattle.rules.specs.Lists.{Bytes}
 use Rattle.rules.specs.Operators.{unary_of, binary_of, is_of}
 use Rattle.rules.specs.Places.{word_at}
-use Rattle.rules.specs.Refusals.{Refusal, Answer, ok, refused, refuse, statement}
+use Rattle.rules.specs.Refusals.{Refusal, Answer, ok, refused, refuse, statement, constant_only}
 use Rattle.rules.specs.Schema.{Value}
-use Rattle.numbers.specs.Codes.{coded-beside, count_from}
 use Rattle.numbers.specs.Values.{value_at}
 use Rattle.value.specs.Values.{value_of, held}
 use Rattle.value.specs.declared.Value as code
-use Rattle.ast.specs.Operands.{operands_of, kind_of, kind_at, operands_at, kind-at, operands-at, tree-call, tree-unary}
+use Rattle.ast.specs.Operands.{operands_of, kind_of, kind_at, operands_at, kind-at, operands-at, tree-column, tree-qualified, tree-call, tree-unary}
 use Rattle.ast.specs.Operands.{tree-binary, tree_is, tree-literal, operands-call, operands-unary, operands-binary}
 use Rattle.ast.specs.Operands.{operands-is, no-operands, arguments-none, arguments-more, tree-at}
+use Rattle.ast.specs.Row.{number_of, tree-star}
+use Rattle.ast.specs.declared.row.Kind.{Kind}
+use Rattle.ast.specs.declared.row.Kind.TheVariants as K
 use Rattle.ast.specs.Table.{at, rows_at, unary_at, binary_at, arguments_at, tree_by, tree_at}
 use Rattle.expression.specs.Answers.{map_answer, answered, answer_of, Evaluates, constant_value, constant_of}
 use Rattle.std.specs.Prelude.{Result, Ok, Err, MatchResult}
@@ -39,37 +38,49 @@ one_none e g = omega arith
 two_none : {n : ℕ} → n ≡ 2 → n ≡ 0 → ⊥
 two_none e g = omega arith
 
-module _ (f : ℕ → Expr) (c q : Bytes) (t : List ℕ) (r : ℕ) where
-  tree-line : line_of (tree_by f c q t r) ≡ at t r 1
-  unfolding tree_by line_of count_from
-  tree-line = coded-beside (λ (e : Expr) (k : ℕ). line_of e ≡ at t r 1) _ 0 _ (count_from 1 8) 1 (at t r 0) refl (refl, (refl, (refl, (refl, (refl, (refl, (refl, (refl, tt))))))))
+-- the number at a row whose record has the kind k
+pub kind_is : {k m : Kind} {n : ℕ} → number_of k ≡ n → k ≡ m → n ≡ number_of m
+kind_is h e = sym h ∙ ap number_of e
 
+module _ (f : ℕ → Expr) (c q : Bytes) (t : List ℕ) (r : ℕ) where
   -- a record with no operand
   pub tree-none : kind_at t r ≡ 4 → operands_at t r ≡ 0 → tree_by f c q t r ≡ call (at t r 1) (word_at c q (at t r 4) (at t r 5)) nil
   tree-none h z = tree-call f c q t r h ∙ ap (call (at t r 1) (word_at c q (at t r 4) (at t r 5))) (arguments-none f t (at t r 3) (suc r) (omega (arith, operands-call t r h)))
 
-  pub tree-star : (k : ℕ) → k ≡ kind_at t r → operands_at t r ≡ 0 → (k ≡ 2 → ⊥) → (k ≡ 3 → ⊥) → (k ≡ 4 → ⊥) → (k ≡ 8 → ⊥) → tree_by f c q t r ≡ star (at t r 1)
-  unfolding line_of kind_of
-  tree-star k h z n2 n3 n4 n8 = by (tree_by f c q t r) (kind-at f c q t r) tree-line
-    where
-      by : (e : Expr) → kind_of e ≡ kind_at t r → line_of e ≡ at t r 1 → e ≡ star (at t r 1)
-      by (star l) g m = ap star m
-      by (column l none n) g m = absurd (n2 (h ∙ sym g))
-      by (column l (some s) n) g m = absurd (n3 (h ∙ sym g))
-      by (literal l v) g m = absurd (n8 (h ∙ sym g))
-      by (call l n as') g m = absurd (n4 (h ∙ sym g))
-      by (unary l o a) g m = absurd (one_none (operands-unary t r (sym g)) z)
-      by (binary l o a b) g m = absurd (two_none (operands-binary t r (sym g)) z)
-      by (is l a v) g m = absurd (one_none (operands-is t r (sym g)) z)
+  -- a column, qualified or not, has no value
+  pub leaf-name : (k : Kind) → number_of k ≡ kind_at t r → (k ≡ K.Column) ⊎ (k ≡ K.Qualified) → evaluate (tree_by f c q t r) ≡ refuse constant_only (at t r 1)
+  unfolding number_of evaluate
+  leaf-name k h (inl e) = rw (tree-column f c q t r (kind_is h e))
+  leaf-name k h (inr e) = rw (tree-qualified f c q t r (kind_is h e))
+
+  -- a record of another kind with no operand
+  pub leaf-star : (k : Kind) → number_of k ≡ kind_at t r → operands_at t r ≡ 0 → (k ≡ K.Column → ⊥) → (k ≡ K.Qualified → ⊥) → (k ≡ K.Call → ⊥) → (k ≡ K.Literal → ⊥) → tree_by f c q t r ≡ star (at t r 1)
+  unfolding number_of
+  leaf-star K.Star h z n2 n3 n4 n8 = tree-star f c q t r (sym h)
+  leaf-star K.Column h z n2 n3 n4 n8 = absurd (n2 refl)
+  leaf-star K.Qualified h z n2 n3 n4 n8 = absurd (n3 refl)
+  leaf-star K.Call h z n2 n3 n4 n8 = absurd (n4 refl)
+  leaf-star K.Unary h z n2 n3 n4 n8 = absurd (one_none (operands-unary t r (sym h)) z)
+  leaf-star K.Binary h z n2 n3 n4 n8 = absurd (two_none (operands-binary t r (sym h)) z)
+  leaf-star K.Is h z n2 n3 n4 n8 = absurd (one_none (operands-is t r (sym h)) z)
+  leaf-star K.Literal h z n2 n3 n4 n8 = absurd (n8 refl)
 
   -- a record with operands
   module _ (some' : operands_at t r ≡ 0 → ⊥) where
-    pub kind-call : (k : ℕ) → k ≡ kind_at t r → (kind_at t r ≡ 6 → ⊥) → (k ≡ 5 → ⊥) → (k ≡ 7 → ⊥) → kind_at t r ≡ 4
-    kind-call k h n6 n5 n7 = pick (eqb (kind_at t r) 4) refl
-      where
-        pick : (b : Bool) → eqb (kind_at t r) 4 ≡ b → kind_at t r ≡ 4
-        pick true e = eqb-true (kind_at t r) 4 e
-        pick false e = absurd (some' (no-operands t r (eqb-false (kind_at t r) 4 e) (λ g. n5 (h ∙ g)) n6 (λ g. n7 (h ∙ g))))
+    -- a record with operands is a call where it is no operator's and no `is`
+    none-else : {n : ℕ} → kind_at t r ≡ n → (n ≡ 4 → ⊥) → (n ≡ 5 → ⊥) → (n ≡ 6 → ⊥) → (n ≡ 7 → ⊥) → kind_at t r ≡ 4
+    none-else e n4 n5 n6 n7 = absurd (some' (no-operands t r (λ g. n4 (sym e ∙ g)) (λ g. n5 (sym e ∙ g)) (λ g. n6 (sym e ∙ g)) (λ g. n7 (sym e ∙ g))))
+
+    pub kind-call : (k : Kind) → number_of k ≡ kind_at t r → (kind_at t r ≡ 6 → ⊥) → (k ≡ K.Unary → ⊥) → (k ≡ K.Is → ⊥) → kind_at t r ≡ 4
+    unfolding number_of
+    kind-call K.Star h n6 n5 n7 = none-else (sym h) (λ e. omega (arith, e)) (λ e. omega (arith, e)) (λ e. omega (arith, e)) (λ e. omega (arith, e))
+    kind-call K.Column h n6 n5 n7 = none-else (sym h) (λ e. omega (arith, e)) (λ e. omega (arith, e)) (λ e. omega (arith, e)) (λ e. omega (arith, e))
+    kind-call K.Qualified h n6 n5 n7 = none-else (sym h) (λ e. omega (arith, e)) (λ e. omega (arith, e)) (λ e. omega (arith, e)) (λ e. omega (arith, e))
+    kind-call K.Call h n6 n5 n7 = sym h
+    kind-call K.Unary h n6 n5 n7 = absurd (n5 refl)
+    kind-call K.Binary h n6 n5 n7 = absurd (n6 (sym h))
+    kind-call K.Is h n6 n5 n7 = absurd (n7 refl)
+    kind-call K.Literal h n6 n5 n7 = none-else (sym h) (λ e. omega (arith, e)) (λ e. omega (arith, e)) (λ e. omega (arith, e)) (λ e. omega (arith, e))
 
     -- behind the first operand
     abbrev others : Exprs

@@ -1,14 +1,13 @@
 -- A constant's numbers: an integer of 0 or more or below, the two halves of 64 bits, and a part's length.
-use mathlib.Core.Bool.{Bool, true, false}
-use mathlib.Core.Path.{◌≡◌, refl, sym, ap}
+use mathlib.Core.Bool.{Bool}
+use mathlib.Core.Path.{◌≡◌}
 use Prim.Native.Nat.{ℕ}
 use native.Mathlib.Omega.{arith}
-use lib.IntN.{pos, negsuc}
 use mir.Val.{bool_byte}
 use Rattle.rules.specs.Area.{flag}
 use Rattle.rules.specs.BuildSelect.{natural}
 use Rattle.rules.specs.Refusals.{Reason}
-use Rattle.rules.specs.Schema.{Value, null, bool, int, float, text}
+use Rattle.rules.specs.Schema.{Value}
 use Rattle.value.specs.Values.{held}
 
 -- NUMBERS OF 0 OR MORE

@@ -12,6 +12,7 @@ ghost use Rattle.expression.specs.Answers.{constant_of};
 ghost use Rattle.expression.specs.Constants.{checked_of, check, check_all, is_root_call};
 
 use crate::{Constant, evaluate_constant};
+use ast::row::{Kind, kind_of};
 use ast::rows;
 use numbers::literals::is_null_or_nan;
 use numbers::refusals::{Reason, Refusal};
@@ -55,17 +56,14 @@ fn check_record(
 ) -> Result<(), Refusal>
     ensures { (f : ℕ → rule.Expr) → checked_of operands ≡ check_all (arguments_at f table.now (operands_at table.now r) (suc r)) → checked_of result ≡ check (tree_by f catalog.now statement.now table.now r) }
 {
-    let k = rows::kind(table, r);
     let line = rows::at(table, r, 1);
-    match k {
-        2 => Err(Reason::ConstantOnly.at(line)),
-        3 => Err(Reason::ConstantOnly.at(line)),
-        4 => check_call(catalog, statement, table, r).and(operands),
-        5 => operands,
-        6 => operands,
-        7 => operands.and(check_is(table, r)),
-        8 => Ok(()),
-        _ => Err(Reason::UnsupportedStar.at(line)),
+    match kind_of(table, r) {
+        Kind::Column | Kind::Qualified => Err(Reason::ConstantOnly.at(line)),
+        Kind::Call => check_call(catalog, statement, table, r).and(operands),
+        Kind::Unary | Kind::Binary => operands,
+        Kind::Is => operands.and(check_is(table, r)),
+        Kind::Literal => Ok(()),
+        Kind::Star => Err(Reason::UnsupportedStar.at(line)),
     }
 }
 

@@ -14,6 +14,7 @@ ghost use Rattle.ast.specs.Table.{rows_at, tree_by, tree_at};
 ghost use Rattle.ast.specs.Operands.{kind_at, operands_at};
 ghost use Rattle.expression.specs.Answers.{map_answer, answer_of, Evaluates, constant_of};
 
+use ast::row::{Kind, kind_of};
 use ast::rows;
 use numbers::refusals::{Reason, Refusal};
 use value::{Value, arithmetic, literals};
@@ -30,13 +31,11 @@ fn leaf(table: &[u32], r: usize) -> Result<Value, Refusal>
     requires { operands_at table.now r ≡ 0 }
     ensures { (f : ℕ → ast.Expr) (c q : Bytes) → Evaluates c q result (tree_by f c q table.now r) }
 {
-    let k = rows::kind(table, r);
     let line = rows::at(table, r, 1);
-    match k {
-        2 => Err(Reason::ConstantOnly.at(line)),
-        3 => Err(Reason::ConstantOnly.at(line)),
-        4 => Err(Reason::UnknownFunction.at(line)),
-        8 => {
+    match kind_of(table, r) {
+        Kind::Column | Kind::Qualified => Err(Reason::ConstantOnly.at(line)),
+        Kind::Call => Err(Reason::UnknownFunction.at(line)),
+        Kind::Literal => {
             let v = rows::at(table, r, 3);
             let a = rows::at(table, r, 4);
             let b = rows::at(table, r, 5);
@@ -52,11 +51,10 @@ fn first_operand(table: &[u32], r: usize, a: Value) -> Result<Value, Refusal>
     requires fact_2 { kind_at table.now r ≡ 6 → ⊥ }
     ensures { (f : ℕ → ast.Expr) (c q : Bytes) → Evaluates c q (Ok a) (f (suc r)) → Evaluates c q result (tree_by f c q table.now r) }
 {
-    let k = rows::kind(table, r);
     let line = rows::at(table, r, 1);
-    match k {
-        5 => operators::worked_at(operators::unary(rows::at(table, r, 3), a), line),
-        7 => operators::is(rows::at(table, r, 3), a, line),
+    match kind_of(table, r) {
+        Kind::Unary => operators::worked_at(operators::unary(rows::at(table, r, 3), a), line),
+        Kind::Is => operators::is(rows::at(table, r, 3), a, line),
         _ => operators::worked_at(arithmetic::sqrt(a), line),
     }
 }
@@ -88,7 +86,7 @@ pub fn evaluate(catalog: &[u8], statement: &[u8], table: &[u32], r: usize) -> Re
     let left = r + 1;
     let right = rows::next(table, left);
     let a = evaluate(catalog, statement, table, left)?;
-    if rows::kind(table, r) != 6 {
+    if kind_of(table, r) != Kind::Binary {
         return first_operand(table, r, a);
     }
     let b = evaluate(catalog, statement, table, right)?;
@@ -104,7 +102,7 @@ pub fn evaluate_constant(
 ) -> Result<Constant, Refusal>
     ensures { constant_of catalog.now statement.now result ≡ evaluate (tree_at catalog.now statement.now table.now r) }
 {
-    if rows::kind(table, r) == 8 {
+    if kind_of(table, r) == Kind::Literal {
         let k = rows::at(table, r, 3);
         let a = rows::at(table, r, 4);
         let b = rows::at(table, r, 5);

@@ -1,40 +1,35 @@
 -- `expression::leaf` meets its contract.
-use mathlib.Core.Path.{sym, ap, ◌∙◌}
+use mathlib.Core.Path.{ap, ◌∙◌}
 use Rattle.rules.specs.Evaluate.{evaluate, evaluate_root}
 use Rattle.rules.specs.Refusals.{ok, refuse, constant_only, unknown_function, unsupported_star}
 use Rattle.numbers.specs.Values.{value_at}
 use Rattle.value.specs.Values.{held}
-use Rattle.ast.specs.Operands.{tree-column, tree-qualified, tree-literal}
+use Rattle.ast.specs.Operands.{tree-literal}
+use Rattle.ast.specs.Row.{number_of}
 use Rattle.numbers.specs.Reasons.{reason_of}
 use Rattle.expression.specs.Answers.{map_answer, answered}
-use Rattle.expression.proofs.Rows.{tree-none, tree-star}
+use Rattle.expression.proofs.Rows.{kind_is, leaf-name, leaf-star, tree-none}
 use Rattle.expression.proofs.leaf.Goals as goal
 
-pub returns-in-2 : goal.returns-in-2
-unfolding answered reason_of evaluate map_answer refuse
-returns-in-2 c = λ f t q. rw (tree-column f t q _ _ (sym c.kind-k.ensures ∙ c.in-2.is), c.at.ensures)
+pub returns-in-Column : goal.returns-in-Column
+unfolding answered reason_of map_answer refuse
+returns-in-Column c = λ f t q. rw (leaf-name f t q _ _ _ c.kind_of.ensures c.in-Column.is, c.at.ensures)
     (ap (refuse constant_only) c.at-line.ensures)
 
-pub returns-in-3 : goal.returns-in-3
-unfolding answered reason_of evaluate map_answer refuse
-returns-in-3 c = λ f t q. rw (tree-qualified f t q _ _ (sym c.kind-k.ensures ∙ c.in-3.is), c.at-in-3.ensures)
-    (ap (refuse constant_only) c.at-line.ensures)
-
-pub returns-in-4 : goal.returns-in-4
-unfolding answered reason_of evaluate evaluate_root map_answer refuse
-returns-in-4 c = λ f t q. rw (tree-none f t q _ _ (sym c.kind-k.ensures ∙ c.in-4.is) c.requires, c.at-in-4.ensures)
+pub returns-in-Call : goal.returns-in-Call
+unfolding answered reason_of evaluate evaluate_root map_answer refuse number_of
+returns-in-Call c = λ f t q. rw (tree-none f t q _ _ (kind_is c.kind_of.ensures c.in-Call.is) c.requires, c.at-in-Call.ensures)
     (ap (refuse unknown_function) c.at-line.ensures)
 
-pub returns-in-8 : goal.returns-in-8
-unfolding answered evaluate map_answer
-returns-in-8 c = λ f t q. rw (tree-literal f t q _ _ (sym c.kind-k.ensures ∙ c.in-8.is))
+pub returns-in-Literal : goal.returns-in-Literal
+unfolding answered evaluate map_answer number_of
+returns-in-Literal c = λ f t q. rw (tree-literal f t q _ _ (kind_is c.kind_of.ensures c.in-Literal.is))
     (ap ok (c.literal.ensures t q ∙ (λ i. held (value_at t q (c.at-v.ensures i) (c.at-a.ensures i) (c.at-b.ensures i)))))
 
 pub returns-in_default : goal.returns-in_default
 unfolding answered reason_of evaluate map_answer refuse
 returns-in_default c = λ f t q. rw (
-  tree-star f t q _ _ _ c.kind-k.ensures c.requires
-      c.in_default.in_default-own.rest.0.0.0.1 c.in_default.in_default-own.rest.0.0.1 c.in_default.in_default-own.rest.0.1 c.in_default.in_default-own.rest.1,
+  leaf-star f t q _ _ c.kind_of.result c.kind_of.ensures c.requires (search) (search) (search) (search),
   c.at-in_default.ensures,
 )
     (ap (refuse unsupported_star) c.at-line.ensures)
