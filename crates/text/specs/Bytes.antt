@@ -1,7 +1,7 @@
 -- Positions in a byte string: what stands there, and where the first of two bytes stands.
 use Rattle.std.specs.Prelude.{◌⊎◌, ℕ, suc, ◌+◌, ◌-◌, ◌≤◌, ◌<◌, ◌≡◌, refl, Bool, [], ◌∷◌, length, get_or, take}
 use native.Mathlib.Omega.{arith}
-use Rattle.std.proofs.Common.{inl, inr, add-zero, add-one, drop_of_length-le, drop-cons, get_or-drop, take_all, length-take-le}
+use Rattle.std.proofs.Common.{inl, inr, add-zero, add-one, drop_of_length-le, drop-cons, get_or-drop, length-take-le}
 use Rattle.std.proofs.Math.Bool.{true, false}
 use Rattle.std.proofs.Math.Dec.{eqb}
 use Rattle.std.proofs.Math.ListN.{drop, length-drop}
@@ -72,9 +72,6 @@ unfolding stop_at
 stop-found x t p e h l = rw (h, ← get_or-drop p t (run x x (drop p t)) 0) (run-found x (drop p t) (rw (length-drop p t) (omega arith)))
 
 -- a part by its length
-pub part-all : (t : Bytes) (a n : ℕ) → length t - a ≤ n → take n (drop a t) ≡ drop a t
-part-all t a n h = take_all n (drop a t) (rw (length-drop a t) h)
-
 pub part_none : (t : Bytes) (a n : ℕ) → length t ≤ a → take n (drop a t) ≡ []
 part_none t a n h = rw (drop_of_length-le t h) (take-nil n)
 
