@@ -8,6 +8,7 @@ ghost use Rattle.value.specs.Values.{value_of, worked_of};
 ghost use Rattle.ast.specs.Table.{unary_at, binary_at};
 ghost use Rattle.expression.specs.Answers.{answer_of};
 
+use ast::row::{LiteralKind, literal_kind};
 use numbers::refusals::{Reason, Refusal};
 use value::{Value, arithmetic, comparison, logic};
 
@@ -63,15 +64,14 @@ pub fn binary(
 }
 
 // `is` with a literal of kind k, in a record at a line: a null, or a NaN; any other is invalid.
-#[tactic(auto, unfolding(crate::specs::Answers::answered, numbers::specs::Codes::coded, numbers::specs::Reasons::reason_of, numbers::specs::Values::value_at, rules::specs::Evaluate::worked_at, rules::specs::Operators::is_of))]
 pub fn is(k: u32, a: Value, line: u32) -> Result<Value, Refusal>
     ensures { (x y : ℕ) (c q : Bytes) → answer_of c q result ≡ worked_at line (is_of (value_at c q k x y) (value_of c q a)) }
 {
-    match k {
-        2 => Err(Reason::InvalidIs.at(line)),
-        3 => Err(Reason::InvalidIs.at(line)),
-        4 => worked_at(comparison::is_nan(a), line),
-        5 => Err(Reason::InvalidIs.at(line)),
-        _ => worked_at(comparison::is_null(a), line),
+    match literal_kind(k) {
+        LiteralKind::Bool | LiteralKind::Int | LiteralKind::Text => {
+            Err(Reason::InvalidIs.at(line))
+        }
+        LiteralKind::Float => worked_at(comparison::is_nan(a), line),
+        LiteralKind::Null => worked_at(comparison::is_null(a), line),
     }
 }
