@@ -11,6 +11,7 @@ ghost use Rattle.ast.specs.Table.{tree_at};
 ghost use Rattle.plan.specs.Cells.{Room};
 ghost use Rattle.build_expression.specs.Builds.{Builds};
 
+use ast::row::{Kind, kind_of};
 use ast::rows;
 use numbers::refusals::Refusal;
 use scope::lookup::used_matches;
@@ -120,7 +121,7 @@ pub fn build_item<'t, 'a>(
         r n area.old area.new result }
 {
     if matches.len() == 0 {
-        if rows::kind(table, r) == rows::QUALIFIED {
+        if kind_of(table, r) == Kind::Qualified {
             return leaves::qualified(
                 catalog, statement, table, r, labels, matches, width, tables, count, area, n,
             );

@@ -7,12 +7,9 @@ ghost use Rattle.build_expression.specs.Positions.{position_of};
 use numbers::refusals::{Reason, Refusal};
 
 // For a record at a line.
+#[tactic(auto, unfolding(crate::specs::Positions::position_of, rules::specs::BuildExpression::found, rules::specs::Refusals::refuse, scope::specs::Lookup::found_of))]
 pub fn position_of(f: Result<u32, Reason>, line: u32) -> Result<u32, Refusal>
     ensures { result ≡ position_of (rules.found line (found_of f)) }
 {
-    // map_err's closure would want a contract, longer than the match
-    match f {
-        Ok(i) => Ok(i),
-        Err(reason) => Err(Refusal { reason, line }),
-    }
+    f.map_err(|reason| reason.at(line))
 }
