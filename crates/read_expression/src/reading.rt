@@ -17,12 +17,13 @@ use text::MOST_BYTES;
 // Most levels of an expression, a leaf 1.
 const DEPTH: u32 = 32;
 
-// Where reading stands: the position in the text, its line, and how many expression rows there are so far.
+// Where reading stands: the line, how many expression rows there are so far, and the position in the text. In this order a
+// refusal's line lies where the line does, so that a Result of either is read back as it was written.
 #[derive(Clone, Copy)]
 pub struct Cursor {
-    pub position: usize,
     pub line: u32,
     pub rows: u32,
+    pub position: usize,
 }
 
 // The row c of a record: what it says, its line, and how many rows its tree has.
