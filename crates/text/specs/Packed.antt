@@ -1,5 +1,11 @@
 -- Short words as numbers, and keywords found by them.
-use Rattle.std.specs.Prelude.{ℕ, zero, suc, ◌+◌, ◌*◌, ◌-◌, ◌≤◌, ◌<◌, ◌≡◌, Bool, true, false, List, [], ◌∷◌, eqb, ltb}
+use Rattle.std.specs.Prelude.{ℕ, zero, suc, ◌+◌, ◌*◌, ◌-◌, ◌≤◌, ◌<◌, ◌≡◌, Bool, true, false, List, [], ◌∷◌, eqb, ltb, nat_eq, cond, Some, None}
+use Rattle.std.specs.Prelude as std
+use Rattle.std.specs.Option.{unwrap_or}
+use Rattle.std.specs.List.{position_or_len}
+use Rattle.std.proofs.lemmas.List.Recursion.{is_position_or_len}
+use Rattle.std.proofs.lemmas.List.Sums.{prefix_len-le-length}
+use Rattle.std.proofs.lemmas.Bool.{ltb-false}
 use native.Mathlib.Omega.{arith}
 use Rattle.std.proofs.Math.Path.{refl, sym}
 use Rattle.std.proofs.Common.{ap, ◌∙◌, drop_of_length-le}
@@ -181,19 +187,20 @@ unfolding find_number Apart
 find_none [] r a = refl
 find_none (n ∷ ns) r a = rw (find_number, ne_eqb r n a.0) (ap suc (find_none ns r a.1))
 
--- the search from a place on
-module _ (ns : List ℕ) (r i : ℕ) where
-  pub number-here : i < length ns → get_or ns i 0 ≡ r → find_number (drop i ns) r ≡ 0
-  unfolding find_number
-  number-here h e = rw (step ns i h, find_number, eq-eqb _ _ (sym e))
+-- as `position` tells it
+pub number-position : (ns : List ℕ) (r : ℕ) {o : std.Option ℕ} → o ≡ cond (ltb (position_or_len (λ x. nat_eq x r) ns) (length ns)) (Some (position_or_len (λ x. nat_eq x r) ns)) None
+    → find_number ns r ≡ unwrap_or o (length ns)
+unfolding find_number
+number-position ns r e = is_position_or_len (λ xs. find_number xs r) (λ x. nat_eq x r) refl (λ x xs. at x xs (nat_eq x r) refl) ns
+    ∙ rw e (cut (position_or_len (λ x. nat_eq x r) ns) (ltb (position_or_len (λ x. nat_eq x r) ns) (length ns)) refl (prefix_len-le-length _ ns))
+  where
+    at : (x : ℕ) (xs : List ℕ) (b : Bool) → nat_eq x r ≡ b → find_number (x ∷ xs) r ≡ cond b 0 (1 + find_number xs r)
+    at x xs true z = rw (find_number, eq-eqb r x (sym (eqb-true x r z))) refl
+    at x xs false z = rw (find_number, ne_eqb r x (λ y. eqb-false x r z (sym y))) (omega arith)
 
-  pub number-on : i < length ns → (get_or ns i 0 ≡ r → ⊥) → find_number (drop i ns) r ≡ suc (find_number (drop (i + 1) ns) r)
-  unfolding find_number
-  number-on h e = rw (step ns i h, find_number, ne_eqb r _ (λ z. e (sym z)))
-
-  pub number-end : length ns ≤ i → find_number (drop i ns) r ≡ 0
-  unfolding find_number
-  number-end h = rw (drop_of_length-le ns h)
+    cut : (n : ℕ) (b : Bool) → ltb n (length ns) ≡ b → n ≤ length ns → n ≡ unwrap_or (cond b (Some n) None) (length ns)
+    cut n true z l = refl
+    cut n false z l = omega (arith, ltb-false n (length ns) z)
 
 -- words that their numbers stand for
 pub record Keywords (words : Bytes) (ns : List ℕ) : Type 0 where

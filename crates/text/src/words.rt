@@ -98,12 +98,7 @@ fn place_in(table: &[u64], t: &[u8], a: usize, n: usize) -> usize
     ensures { (words : List ℕ) → Keywords words table.now → result ≡ find (words_of words) (take n (drop a t.now)) }
 {
     let w = crate::packed(t, a, n);
-    for i in 0..table.len() {
-        if table[i] == w {
-            return i;
-        }
-    }
-    table.len()
+    table.iter().position(|x| *x == w).unwrap_or(table.len())
 }
 
 // Which keyword of an expression that is no literal the n bytes at a are: its number in the table, or how many there are.

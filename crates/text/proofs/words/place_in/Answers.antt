@@ -1,13 +1,15 @@
--- `words::place_in`: the numbers from here on, counted from those passed, give what all give.
-use native.Mathlib.Omega.{arith}
-use Rattle.text.specs.Packed.{packed-word, number-here, number-on, number-end}
+-- `words::place_in`: the position of the word's number among those of the table.
+use Rattle.std.proofs.Common.{rules, tests, ◌∙◌}
+use Rattle.std.specs.Prelude.{nat_eq}
+use Rattle.std.proofs.Math.Path.{sym}
+use Rattle.std.proofs.lemmas.Iterator.{YieldsList-from_slice}
+use Rattle.std.proofs.lemmas.Iterator.Search.{position_from_yields_List}
+use Rattle.text.specs.Packed.{packed-word, number-position}
 use Rattle.text.proofs.words.place_in.Goals as goal
 
-pub returns-then-table-i : goal.returns-then-table-i
-returns-then-table-i c = λ words k. packed-word _ _ _ _ _ k c.packed-w.ensures (omega (arith, number-here c.args.table.now c.packed-w.result c.loop-i.i c.loop-i-test.true c.if-table-i.true, c.loop-i.invariant))
-
-pub loop-i-preserved : goal.loop-i-preserved
-loop-i-preserved c = omega (arith, number-on c.args.table.now c.packed-w.result c.loop-i.i c.loop-i-test.true c.if-table-i.false, c.loop-i.invariant)
-
 pub returns : goal.returns
-returns c = λ words k. packed-word _ _ _ _ _ k c.packed-w.ensures (omega (arith, number-end c.args.table.now c.packed-w.result c.loop-i.i c.loop-i-test.false, c.loop-i.invariant, c.loop-i.auto.i-end))
+returns c = λ words k.
+    let e = number-position c.args.table.now c.packed-w.result
+    (position_from_yields_List (λ x. nat_eq x c.packed-w.result) _ _ _ c.position.ensures.ran
+    (YieldsList-from_slice _ c.iter.ensures.rest) (λ x b q k. search (rules, tests))) in
+    packed-word _ _ _ _ _ k c.packed-w.ensures (e ∙ sym c.unwrap_or.ensures)
