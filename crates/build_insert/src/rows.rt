@@ -67,15 +67,13 @@ fn build_values<'t>(
         (emit_all empty n (values_at catalog.now statement.now cells.now values r))
         n area.old area.new k nodes.old nodes.new result }
 {
-    let mut left = values;
     let mut p = r;
     let mut built = Part { cell: n, used: k };
-    while 0 < left {
+    for _ in 0..values {
         built = build_value(
             catalog, statement, cells, p, area, built.cell, nodes, built.used,
         )?;
         p = next(cells, p);
-        left -= 1;
     }
     Ok(built)
 }
