@@ -3,8 +3,8 @@
 
 use std::ffi::OsStr;
 use std::fs;
+use std::io::Write;
 use std::os::unix::ffi::OsStrExt;
-use std::os::unix::fs::PermissionsExt;
 use std::path::{Path, PathBuf};
 use std::process::{Command, Output, Stdio};
 use std::time::{Duration, Instant};
@@ -110,8 +110,16 @@ impl Script {
         let folder = std::env::temp_dir().join(format!("judge-script-{}-{name}", std::process::id()));
         fs::create_dir_all(&folder).expect("a folder is made");
         let path = folder.join("program");
-        fs::write(&path, format!("#!/bin/sh\n{body}\n")).expect("a script is written");
-        fs::set_permissions(&path, fs::Permissions::from_mode(0o755)).expect("a script may be run");
+        // A process of its own writes it: while a file is open for writing here, a program that another test starts holds it
+        // open too, and it could not be run.
+        let mut writer = Command::new("/bin/sh")
+            .args(["-c", "cat >\"$0\" && chmod 755 \"$0\""])
+            .arg(&path)
+            .stdin(Stdio::piped())
+            .spawn()
+            .expect("a shell starts");
+        write!(writer.stdin.take().expect("a pipe"), "#!/bin/sh\n{body}\n").expect("a script is written");
+        assert!(writer.wait().expect("the shell ends").success(), "a script may be run");
         Script(folder)
     }
 
