@@ -5,6 +5,7 @@ mod Literals
 mod Roots
 mod EqualWalk
 mod Same
+mod Operators
 mod Walks
 mod Collects
 pub mod KindNumbers

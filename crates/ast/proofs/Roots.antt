@@ -9,21 +9,13 @@ use Rattle.rules.specs.Lists.{Bytes, same, is_some}
 use Rattle.rules.specs.Places.{bytes_at, word_at}
 use Rattle.rules.specs.Ast.{Expr, star, column, literal, call, unary, binary, is, line_of}
 use Rattle.rules.specs.Views.{as_star, as_column, as_literal, as_call, as_unary, as_binary, as_is}
-use Rattle.rules.specs.Codes.{unary_code, plain_code, binary_code}
 use Rattle.rules.specs.Equality.{same_name, same_optional_name, same_value, equal, equal_all}
 use Rattle.numbers.specs.Values.{value_at}
-use Rattle.numbers.specs.Codes.{or_least, count_from, coded-map, coded-least}
-use Rattle.ast.specs.Table.{at, rows_at, unary_at, binary_at, arguments_at, star_at, root_at}
+use Rattle.numbers.specs.Codes.{or_least}
+use Rattle.ast.specs.Table.{at, rows_at, arguments_at, star_at, root_at}
 use Rattle.ast.specs.Operands.{kind_of, kind_at, kind-at, tree-column, tree-qualified, tree-call, tree-unary, tree-binary, tree_is, tree-literal}
+use Rattle.ast.specs.Row.{unary-code, binary-code}
 use Rattle.ast.proofs.Equal.{stars, kinds-apart}
-
-unary-code : (k : ℕ) → unary_code (unary_at k) ≡ or_least 8 12 k
-unfolding unary_at unary_code count_from
-unary-code k = coded-map unary_code _ _ 8 k ∙ coded-least 4 8 k
-
-binary-code : (k : ℕ) → binary_code (binary_at k) ≡ or_least 16 30 k
-unfolding binary_at binary_code plain_code count_from
-binary-code k = coded-map binary_code _ _ 16 k ∙ coded-least 14 16 k
 
 -- an expression of no other kind is a star
 only-star : (e : Expr) (k : ℕ) → kind_of e ≡ k → (k ≡ 2 → ⊥) → (k ≡ 3 → ⊥) → (k ≡ 4 → ⊥) → (k ≡ 5 → ⊥)

@@ -7,6 +7,7 @@ use Rattle.rules.specs.Lines.{Word}
 use Rattle.rules.specs.Places.{word_at}
 use Rattle.rules.specs.Codes.{unary_code, plain_code, binary_code}
 use Rattle.rules.specs.Schema.{Value, null, bool, int, float, text}
+use Rattle.rules.specs.Ast.{Unary, not, fact, ident, neg, sqrt, Plain, and, or, eq, gt, lt, add, div, pow, mul, rem, sub, like, Binary, plain, ge, le, ne}
 use Rattle.rules.specs.Ast.{Expr, star, column, literal, call, unary, binary, is, line_of}
 use Rattle.numbers.specs.Bits.{joined, signed}
 use Rattle.numbers.specs.Codes.{or_least, count_from, coded, coded-map, coded-least, least-below, least_above, least-between}
@@ -214,6 +215,37 @@ pub binary-code : (k : ℕ) → binary_code (binary_at k) ≡ or_least 16 30 k
 unfolding binary_at binary_code plain_code count_from
 binary-code k = coded-map binary_code _ _ 16 k ∙ coded-least 14 16 k
 
+-- each operator is that of its code
+pub unary-back : (o : Unary) → unary_at (unary_code o) ≡ o
+unfolding unary_at unary_code coded
+unary-back not = refl
+unary-back fact = refl
+unary-back ident = refl
+unary-back neg = refl
+unary-back sqrt = refl
+
+plain_back : (o : Plain) → binary_at (plain_code o) ≡ plain o
+unfolding binary_at plain_code coded
+plain_back and = refl
+plain_back or = refl
+plain_back eq = refl
+plain_back gt = refl
+plain_back lt = refl
+plain_back add = refl
+plain_back div = refl
+plain_back pow = refl
+plain_back mul = refl
+plain_back rem = refl
+plain_back sub = refl
+plain_back like = refl
+
+pub binary-back : (o : Binary) → binary_at (binary_code o) ≡ o
+unfolding binary_code binary_at coded
+binary-back (plain o) = plain_back o
+binary-back ge = refl
+binary-back le = refl
+binary-back ne = refl
+
 -- LITERALS
 unfoldable pub literal_kind_of : ℕ → LiteralKind
 literal_kind_of k = coded L.Null (L.Null ∷ L.Bool ∷ L.Int ∷ L.Float ∷ L.Text ∷ []) 1 k
@@ -225,7 +257,7 @@ coded-end d n k = refl
 -- a number that is not the first code, and the default as the first code
 coded-next : {A : Type 0} (d x : A) (xs : List A) (n k : ℕ) → (k ≡ n → ⊥) → coded d (x ∷ xs) n k ≡ coded d xs (suc n) k
 unfolding coded
-coded-next d x xs n k ne = rw (coded, ne_eqb n k (λ e. ne (sym e)))
+coded-next d x xs n k h = rw (coded, ne_eqb n k (λ e. h (sym e)))
 
 coded-first : {A : Type 0} (d : A) (xs : List A) (n k : ℕ) → coded d xs (suc n) k ≡ d → coded d (d ∷ xs) n k ≡ d
 unfolding coded

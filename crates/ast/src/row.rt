@@ -1,12 +1,13 @@
 // The record at a row by name: its kind, its line, its places, its operator, its literal. With the kind the laws of
 // specs/Row.antt give the tree at the row.
 ghost use Rattle.std.specs.Prelude.{◌≡◌};
-ghost use Rattle.rules.specs.Codes.{unary_code, binary_code};
+ghost use Rattle.numbers.specs.Operators.{unary_operator, binary_operator};
 ghost use Rattle.ast.specs.Table.{unary_at, binary_at};
 ghost use Rattle.ast.specs.Operands.{kind_at};
 ghost use Rattle.ast.specs.Row as row;
 
-use crate::rows::{at, or_least};
+use crate::rows::at;
+use numbers::operators::{Binary, Unary};
 use text::places::Place;
 
 #[derive(Clone, Copy, Debug, PartialEq, Eq)]
@@ -83,18 +84,18 @@ pub fn arguments(table: &[u32], r: usize) -> u32
     at(table, r, 3)
 }
 
-// The code of a unary operator.
-pub fn unary_code(table: &[u32], r: usize) -> u32
-    ensures { result ≡ unary_code (unary_at (row.operator_at table.now r)) }
+// A unary operator; the least where its number is none.
+pub fn unary_operator(table: &[u32], r: usize) -> Unary
+    ensures { unary_operator result ≡ unary_at (row.operator_at table.now r) }
 {
-    or_least(8, 12, at(table, r, 3))
+    Unary::of_code(at(table, r, 3)).unwrap_or(Unary::Not)
 }
 
-// That of a binary operator.
-pub fn binary_code(table: &[u32], r: usize) -> u32
-    ensures { result ≡ binary_code (binary_at (row.operator_at table.now r)) }
+// A binary one.
+pub fn binary_operator(table: &[u32], r: usize) -> Binary
+    ensures { binary_operator result ≡ binary_at (row.operator_at table.now r) }
 {
-    or_least(16, 30, at(table, r, 3))
+    Binary::of_code(at(table, r, 3)).unwrap_or(Binary::And)
 }
 
 // A literal's number for its kind, and its two numbers.

@@ -4,10 +4,10 @@ use Rattle.std.specs.Prelude.{ℕ, suc, ◌+◌, ◌*◌, ◌<◌, ◌≡◌, Li
 use Rattle.std.proofs.Common.{arith, ◌∙◌, take_all}
 use Rattle.std.proofs.Math.Option.{none}
 use Rattle.rules.specs.Lists.{Bytes}
-use Rattle.rules.specs.Codes.{unary_code}
-use Rattle.rules.specs.Ast.{Unary, size}
+use Rattle.rules.specs.Ast.{size}
 use Rattle.rules.specs.Scope.{Scope, match_at, matched}
 use Rattle.appends.specs.Expressions.Emit.{emit}
+use Rattle.numbers.specs.Operators.{unary_operator}
 use Rattle.ast.specs.Table.{row_size, binary_at, tree_at}
 use Rattle.ast.specs.Row.{line_at, operator_at, row_literal, first_operand, second_operand}
 use Rattle.scope.specs.Scopes.{matches_of, scope_from}
@@ -65,11 +65,6 @@ module _ (c q : Bytes) (t xs ms ts : List ℕ) (r : ℕ) where
     pub is : (h n : ℕ) → emit (scope_at c q t xs ms ts h) n (tree_at c q t r)
         ≡ joined (emit (scope_at c q t xs ms ts h) n (tree_at c q t (first_operand r))) e
 
-  pub record UnaryRow (k : ℕ) : Type 0 where
-    pub operator : Unary
-    pub code : k ≡ unary_code operator
-    pub one : One (unary_step operator)
-
   pub record Two : Type 0 where
     pub inside : row_size * r < length t
     pub size_is : size (tree_at c q t r)
@@ -81,7 +76,7 @@ module _ (c q : Bytes) (t xs ms ts : List ℕ) (r : ℕ) where
 
   -- what is known of the record by its operator
   unfoldable pub Operates : Operator → Type 0
-  Operates (O.Unary k) = UnaryRow k
+  Operates (O.Unary o) = One (unary_step (unary_operator o))
   Operates O.Is = One (is_step (line_at t r) (row_literal c q t r))
   Operates O.Binary = Two
 

@@ -7,8 +7,7 @@ use Rattle.std.proofs.Math.Option.{Option, none, some}
 use Rattle.rules.specs.Refusals.{unsupported_star, unknown_function}
 use Rattle.rules.specs.Lists.{Bytes}
 use Rattle.rules.specs.Lines.{Word}
-use Rattle.rules.specs.Codes.{unary_code}
-use Rattle.rules.specs.Ast.{sqrt, Expr, call, size, size_all}
+use Rattle.rules.specs.Ast.{Expr, call, size, size_all}
 use Rattle.rules.specs.Cells as C
 use Rattle.rules.specs.Scope.{lookup, match_at, matched}
 use Rattle.appends.specs.Expressions.Emit.{emit}
@@ -23,7 +22,10 @@ use Rattle.scope.specs.Scopes.{matches_of}
 use Rattle.numbers.specs.Options.{option_of}
 use Rattle.scope.specs.Matches.{matched-from}
 use Rattle.plan.specs.Cells.{Puts}
+use Rattle.numbers.specs.Operators.{unary_operator}
 use Rattle.numbers.specs.Reasons.{named}
+use Rattle.numbers.specs.declared.operators.Unary.{Unary}
+use Rattle.numbers.specs.declared.operators.Unary.TheVariants as U
 use Rattle.numbers.specs.declared.refusals.Reason.TheVariants as Re
 use Rattle.plan.specs.Emits.{Written, Emits, accepts, refuses, emits-same}
 use Rattle.build_expression.specs.Rows.{column_step, literal_step, column-is, unary-is, root_is, is-is, binary-is}
@@ -125,23 +127,19 @@ module _ (c q : Bytes) (t xs ms ts : List ℕ) (r n : ℕ) (area area' : List �
           whole _ x tree (λ h. emits-same (literal-step _ n (line_at t r) (row_literal c q t r) (none_of _ h tree)) g)
 
       -- OPERANDS FIRST
-      pub begins-unary : (x : ℕ) → k ≡ K.Unary → x ≡ unary_code (unary_at (operator_at t r)) → area' ≡ area
-          → Begins c q t xs ms ts r n area area' (Ok (B.Operands (O.Unary x)))
+      pub begins-unary : (o : Unary) → k ≡ K.Unary → unary_operator o ≡ unary_at (operator_at t r) → area' ≡ area
+          → Begins c q t xs ms ts r n area area' (Ok (B.Operands (O.Unary o)))
       unfolding BeginsAs Operates size number_of
-      begins-unary x e f g =
+      begins-unary o e f g =
           let tree = unary-row c q t r k kind e in
           record {
             is = (
               g,
-              record {
-                operator = unary_at (operator_at t r);
-                code = f;
-                one = record {
-                  inside = has-operands t r 0 (operands-unary t r (sym kind ∙ ap number_of e));
-                  size_is = ap size tree;
-                  is = λ h m. ap (emit _ m) tree ∙ unary-is _ m (line_at t r) _ _ (none_of _ h tree);
-                };
-              },
+              rw f (record {
+                inside = has-operands t r 0 (operands-unary t r (sym kind ∙ ap number_of e));
+                size_is = ap size tree;
+                is = λ h m. ap (emit _ m) tree ∙ unary-is _ m (line_at t r) _ _ (none_of _ h tree);
+              }),
             );
           }
 
@@ -182,24 +180,20 @@ module _ (c q : Bytes) (t xs ms ts : List ℕ) (r n : ℕ) (area area' : List �
       unfolding number_of
       call-tree = call-row c q t r K.Call (sym kind) refl
 
-      pub begins-root : (x : ℕ) → root_of c q t r ≡ true → x ≡ unary_code sqrt → area' ≡ area
-          → Begins c q t xs ms ts r n area area' (Ok (B.Operands (O.Unary x)))
-      unfolding BeginsAs Operates size size_all
-      begins-root x e f g =
+      pub begins-root : root_of c q t r ≡ true → area' ≡ area
+          → Begins c q t xs ms ts r n area area' (Ok (B.Operands (O.Unary U.SquareRoot)))
+      unfolding BeginsAs Operates unary_operator size size_all
+      begins-root e g =
           let one = is-root c q t r e in
           let tree = call-tree ∙ ap (call (line_at t r) (row_name c q t r)) (one_argument (tree_at c q t) t _ _ one.0) in
           record {
             is = (
               g,
               record {
-                operator = sqrt;
-                code = f;
-                one = record {
-                  inside = has-operands t r 0 (operands-call t r kind ∙ one.0);
-                  size_is = ap size tree ∙ omega arith;
-                  is = λ h m. ap (emit _ m) tree
-                      ∙ root_is _ m (line_at t r) (row_name c q t r) _ one.1 (none_of _ h tree);
-                };
+                inside = has-operands t r 0 (operands-call t r kind ∙ one.0);
+                size_is = ap size tree ∙ omega arith;
+                is = λ h m. ap (emit _ m) tree
+                    ∙ root_is _ m (line_at t r) (row_name c q t r) _ one.1 (none_of _ h tree);
               },
             );
           }

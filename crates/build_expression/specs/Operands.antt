@@ -4,17 +4,18 @@ use Rattle.std.specs.Prelude.{ℕ, suc, ◌+◌, ◌*◌, ◌<◌, ◌≡◌, Li
 use Rattle.std.proofs.Common.{arith, add-one, ap, ◌∙◌}
 use Rattle.std.proofs.Math.ListN.{length}
 use Rattle.rules.specs.Lists.{Bytes}
-use Rattle.rules.specs.Codes.{unary_code}
-use Rattle.rules.specs.Ast.{Unary, Expr, size}
+use Rattle.rules.specs.Ast.{Expr, size}
 use Rattle.ast.specs.Table.{row_size, rows_at, binary_at, tree_at}
 use Rattle.ast.specs.Row.{line_at, operator_at, row_literal, second_operand}
 use Rattle.claims.specs.Count.Arguments.{arguments-most}
 use Rattle.rules.specs.Scope.{empty}
 use Rattle.plan.specs.Cells.{Room, room-less}
+use Rattle.numbers.specs.Operators.{unary_operator}
+use Rattle.numbers.specs.declared.operators.Unary.{Unary}
 use Rattle.numbers.specs.declared.refusals.Refusal.{Refusal}
 use Rattle.plan.specs.Emits.{Written, Emits, emits-same, accepted, stop, next}
 use Rattle.build_expression.specs.Rows.{unary_step, is_step, binary_step, Within, emit-within}
-use Rattle.build_expression.specs.Builds.{scope_at, Builds, One, Two, UnaryRow, Operates, BeginsAs, Begins}
+use Rattle.build_expression.specs.Builds.{scope_at, Builds, One, Two, Operates, BeginsAs, Begins}
 use Rattle.build_expression.specs.declared.Begun.{Begun}
 use Rattle.build_expression.specs.declared.Begun.TheVariants as B
 use Rattle.build_expression.specs.declared.Operator.{Operator}
@@ -55,7 +56,7 @@ module _ {c q : Bytes} {t xs ms ts : List ℕ} {r n : ℕ} {area area₁ : List 
     operands-inside = go o opened.1
       where
         go : (o : Operator) → Operates c q t xs ms ts r o → row_size * r < length t
-        go (O.Unary k) h = h.one.inside
+        go (O.Unary u) h = h.inside
         go O.Is h = h.inside
         go O.Binary h = h.inside
 
@@ -65,7 +66,7 @@ module _ {c q : Bytes} {t xs ms ts : List ℕ} {r n : ℕ} {area area₁ : List 
     first-size = go o opened.1
       where
         go : (o : Operator) → Operates c q t xs ms ts r o → size (tree_at c q t (suc r)) < size (tree_at c q t r)
-        go (O.Unary k) h = omega (arith, h.one.size_is)
+        go (O.Unary u) h = omega (arith, h.size_is)
         go O.Is h = omega (arith, h.size_is)
         go O.Binary h = omega (arith, h.size_is)
 
@@ -84,7 +85,7 @@ module _ {c q : Bytes} {t xs ms ts : List ℕ} {r n : ℕ} {area area₁ : List 
       first-refused w d = go o opened.1
         where
           go : (o : Operator) → Operates c q t xs ms ts r o → Builds c q t xs ms ts r n area area₂ (Err w)
-          go (O.Unary j) h = record { is = λ i. emits-same (h.one.is i n) (stop _ w (first.is i) d) }
+          go (O.Unary u) h = record { is = λ i. emits-same (h.is i n) (stop _ w (first.is i) d) }
           go O.Is h = record { is = λ i. emits-same (h.is i n) (stop _ w (first.is i) d) }
           go O.Binary h = record { is = λ i. emits-same (h.is i n) (stop _ w (first.is i) d) }
 
@@ -98,16 +99,13 @@ module _ {c q : Bytes} {t xs ms ts : List ℕ} {r n : ℕ} {area area₁ : List 
             let l = built-kept first in
             record { counted = omega (arith, first-size); held = omega (arith, first-size) }
 
-        pub unary-built : (k : ℕ) {area₃ : List ℕ} {y : Written} → o ≡ O.Unary k
-            → ((u : Unary) → k ≡ unary_code u → Emits (unary_step u m) m area₂ area₃ y)
+        pub unary-built : (k : Unary) {area₃ : List ℕ} {y : Written} → o ≡ O.Unary k
+            → Emits (unary_step (unary_operator k) m) m area₂ area₃ y
             → Builds c q t xs ms ts r n area area₃ y
         unfolding Operates
         unary-built k u y =
-            let h : UnaryRow c q t xs ms ts r k = rw u at opened.1 in
-            record {
-              is = λ i. emits-same (h.one.is i n)
-                  (next _ m (first.is i) d (y h.operator h.code));
-            }
+            let h : One c q t xs ms ts r (unary_step (unary_operator k)) = rw u at opened.1 in
+            record { is = λ i. emits-same (h.is i n) (next _ m (first.is i) d y) }
 
         pub is-built : {area₃ : List ℕ} {y : Written} → o ≡ O.Is
             → Emits (is_step (line_at t r) (row_literal c q t r) m) m area₂ area₃ y

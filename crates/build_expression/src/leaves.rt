@@ -16,14 +16,12 @@ use crate::position::position_of;
 use crate::{Begun, Operator};
 use ast::row;
 use ast::row::Kind;
+use numbers::operators::Unary;
 use numbers::refusals::{Reason, Refusal};
 use plan::cells;
 use scope::lookup::lookup;
 use scope::matches::lookup_aggregate;
 use text::places::{Place, holds_at};
-
-// The code of `sqrt`.
-const SQRT: u32 = 12;
 
 // A column that was looked up, in a record at a line.
 fn found(f: Result<u32, Reason>, line: u32, area: &mut [u32], n: u32) -> Result<u32, Refusal>
@@ -146,7 +144,7 @@ fn call(catalog: &[u8], statement: &[u8], table: &[u32], r: usize) -> Result<Beg
         → Begins catalog.now statement.now table.now xs ms ts r n area area result }
 {
     if is_root(catalog, statement, table, r) {
-        return Ok(Begun::Operands(Operator::Unary(SQRT)));
+        return Ok(Begun::Operands(Operator::Unary(Unary::SquareRoot)));
     }
     let refusal = Refusal {
         reason: Reason::UnknownFunction,
@@ -188,7 +186,10 @@ fn unmatched<'t, 'a>(
             catalog, statement, table, r, labels, matches, width, tables, count, area, n,
         )?)),
         Kind::Call => call(catalog, statement, table, r),
-        Kind::Unary => Ok(Begun::Operands(Operator::Unary(row::unary_code(table, r)))),
+        Kind::Unary => {
+            let operator = row::unary_operator(table, r);
+            Ok(Begun::Operands(Operator::Unary(operator)))
+        }
         Kind::Binary => Ok(Begun::Operands(Operator::Binary)),
         Kind::Is => Ok(Begun::Operands(Operator::Is)),
         Kind::Literal => Ok(Begun::Whole(literal(catalog, statement, table, r, area, n))),

@@ -13,19 +13,20 @@ ghost use Rattle.build_expression.specs.Builds.{Builds};
 
 use ast::row::{Kind, kind_of};
 use ast::rows;
+use numbers::operators::Unary;
 use numbers::refusals::Refusal;
 use scope::lookup::used_matches;
 
-// A record whose operands are to be built: a unary operator by its code, `is`, or a binary operator.
-#[derive(Clone, Copy)]
+// A record whose operands are to be built: a unary operator, `is`, or a binary operator.
+#[derive(Clone, Copy, Debug, PartialEq, Eq)]
 pub enum Operator {
-    Unary(u32),
+    Unary(Unary),
     Is,
     Binary,
 }
 
 // What is built of a record before its operands: the whole, up to the next cell, or nothing yet.
-#[derive(Clone, Copy)]
+#[derive(Clone, Copy, Debug, PartialEq, Eq)]
 pub enum Begun {
     Whole(u32),
     Operands(Operator),
@@ -62,7 +63,7 @@ fn build_tree<'t, 'a>(
                 catalog, statement, table, left, labels, matches, width, tables, count, area, n,
             )?;
             match operator {
-                Operator::Unary(code) => Ok(operators::unary(area, m, code)),
+                Operator::Unary(unary) => Ok(operators::unary(area, m, unary)),
                 Operator::Is => operators::is(table, r, area, m),
                 Operator::Binary => {
                     let k = build_tree(

@@ -1,8 +1,7 @@
 // The cells of operators behind those of their operands. The last cell of an operand is its root.
 ghost use Rattle.std.specs.Prelude.{◌≡◌, ◌<◌, Ok};
 ghost use Rattle.rules.specs.Lists.{Bytes};
-ghost use Rattle.rules.specs.Codes.{unary_code};
-ghost use Rattle.rules.specs.Ast as ast;
+ghost use Rattle.numbers.specs.Operators.{unary_operator};
 ghost use Rattle.ast.specs.Table.{binary_at};
 ghost use Rattle.ast.specs.Row.{line_at, operator_at, row_literal};
 ghost use Rattle.plan.specs.Cells.{Room};
@@ -11,17 +10,17 @@ ghost use Rattle.build_expression.specs.Rows.{unary_step, is_step, binary_step};
 
 use ast::row;
 use numbers::literals::is_null_or_nan;
+use numbers::operators::Unary;
 use numbers::refusals::{Reason, Refusal};
 use plan::cells;
 
-// A unary operator by its code, where m is the next cell.
-pub fn unary(area: &mut [u32], m: u32, code: u32) -> u32
+// A unary operator, where m is the next cell.
+pub fn unary(area: &mut [u32], m: u32, operator: Unary) -> u32
     requires room { Room m 1 area.old }
     requires m_nonzero { 0 < m }
-    ensures { (o : ast.Unary) → code ≡ unary_code o
-        → Emits (unary_step o m) m area.old area.new (Ok result) }
+    ensures { Emits (unary_step (unary_operator operator) m) m area.old area.new (Ok result) }
 {
-    cells::unary(area, m, code, m - 1);
+    cells::unary(area, m, operator, m - 1);
     m + 1
 }
 
@@ -54,6 +53,6 @@ pub fn binary(table: &[u32], r: usize, area: &mut [u32], m: u32, k: u32) -> u32
     ensures { Emits (binary_step (binary_at (operator_at table.now r)) m k)
         k area.old area.new (Ok result) }
 {
-    let code = row::binary_code(table, r);
-    cells::operator(area, k, code, m - 1, k - 1)
+    let operator = row::binary_operator(table, r);
+    cells::operator(area, k, operator, m - 1, k - 1)
 }

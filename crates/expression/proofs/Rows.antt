@@ -6,7 +6,7 @@ use Prim.Native.Nat.{ℕ, suc, ◌+◌, ◌-◌, ◌<◌}
 use native.Mathlib.Numerals.{add-one}
 use native.Mathlib.Omega.{arith}
 use Rattle.rules.specs.Arithmetic.{Worked}
-use Rattle.rules.specs.Ast.{sqrt, Expr, star, call, binary, Exprs, nil, cons}
+use Rattle.rules.specs.Ast.{Unary, sqrt, Binary, Expr, star, call, binary, Exprs, nil, cons}
 use Rattle.rules.specs.Evaluate.{worked_at, evaluate}
 use Rattle.rules.specs.Lists.{Bytes}
 use Rattle.rules.specs.Operators.{unary_of, binary_of, is_of}
@@ -98,9 +98,9 @@ module _ (f : ℕ → Expr) (c q : Bytes) (t : List ℕ) (r : ℕ) where
 
 -- WITH VALUES: the answer x at the line l is the record's, u the value of its first operand as the code holds it
 module _ (f : ℕ → Expr) (c q : Bytes) (t : List ℕ) (r : ℕ) (x : Answer Value) (l : ℕ) (u : Value) (hl : l ≡ at t r 1) (hu : ok u ≡ map_answer held (evaluate (f (suc r)))) where
-  pub unary-row : (k : ℕ) (w : Worked) → kind_at t r ≡ 5 → k ≡ at t r 3 → w ≡ unary_of (unary_at k) u → x ≡ worked_at l w → x ≡ map_answer held (evaluate (tree_by f c q t r))
-  unary-row k w h hk hw hx = rw (tree-unary f c q t r h)
-      (hx ∙ (λ i. worked_at (hl i) ((hw ∙ ap (λ (n : ℕ). unary_of (unary_at n) u) hk) i)) ∙ unary-step (at t r 1) (f (suc r)) u hu (unary_at (at t r 3)))
+  pub unary-row : (o : Unary) (w : Worked) → kind_at t r ≡ 5 → o ≡ unary_at (at t r 3) → w ≡ unary_of o u → x ≡ worked_at l w → x ≡ map_answer held (evaluate (tree_by f c q t r))
+  unary-row o w h ho hw hx = rw (tree-unary f c q t r h)
+      (hx ∙ (λ i. worked_at (hl i) ((hw ∙ ap (λ (p : Unary). unary_of p u) ho) i)) ∙ unary-step (at t r 1) (f (suc r)) u hu (unary_at (at t r 3)))
 
   pub is_row : (k : ℕ) → kind_at t r ≡ 7 → k ≡ at t r 3 → x ≡ worked_at l (is_of (value_at c q k (at t r 4) (at t r 5)) u) → x ≡ map_answer held (evaluate (tree_by f c q t r))
   is_row k h hk hx = rw (tree_is f c q t r h)
@@ -110,9 +110,9 @@ module _ (f : ℕ → Expr) (c q : Bytes) (t : List ℕ) (r : ℕ) (x : Answer V
   root-row w ne h hw hx = rw (tree-first f c q t r ne h) (hx ∙ (λ i. worked_at (hl i) (hw i)) ∙ root-step (at t r 1) (f (suc r)) u hu _ _)
 
   module _ (z : Value) (hz : ok z ≡ map_answer held (evaluate (f (suc r + rows_at t (suc r))))) where
-    pub binary-row : (k : ℕ) (w : Worked) → kind_at t r ≡ 6 → k ≡ at t r 3 → w ≡ binary_of (binary_at k) u z → x ≡ worked_at l w → x ≡ map_answer held (evaluate (tree_by f c q t r))
-    binary-row k w h hk hw hx = rw (tree-binary f c q t r h)
-        (hx ∙ (λ i. worked_at (hl i) ((hw ∙ ap (λ (n : ℕ). binary_of (binary_at n) u z) hk) i)) ∙ binary-step (at t r 1) (f (suc r)) u hu (binary_at (at t r 3)) _ z hz)
+    pub binary-row : (o : Binary) (w : Worked) → kind_at t r ≡ 6 → o ≡ binary_at (at t r 3) → w ≡ binary_of o u z → x ≡ worked_at l w → x ≡ map_answer held (evaluate (tree_by f c q t r))
+    binary-row o w h ho hw hx = rw (tree-binary f c q t r h)
+        (hx ∙ (λ i. worked_at (hl i) ((hw ∙ ap (λ (p : Binary). binary_of p u z) ho) i)) ∙ binary-step (at t r 1) (f (suc r)) u hu (binary_at (at t r 3)) _ z hz)
 
 -- what a `?` told of an answer
 pub taken : (c q : Bytes) (y z : Result code.Value code_refusal.Refusal) (e : Expr) → y ≡ z → Evaluates c q y e → Evaluates c q z e

@@ -15,7 +15,7 @@ ghost use Rattle.ast.specs.Operands.{kind_at, operands_at};
 ghost use Rattle.expression.specs.Answers.{map_answer, answer_of, Evaluates, constant_of};
 
 use ast::row::{Kind, kind_of};
-use ast::rows;
+use ast::{row, rows};
 use numbers::refusals::{Reason, Refusal};
 use value::{Value, arithmetic, literals};
 
@@ -53,7 +53,10 @@ fn first_operand(table: &[u32], r: usize, a: Value) -> Result<Value, Refusal>
 {
     let line = rows::at(table, r, 1);
     match kind_of(table, r) {
-        Kind::Unary => operators::worked_at(operators::unary(rows::at(table, r, 3), a), line),
+        Kind::Unary => {
+            let operator = row::unary_operator(table, r);
+            operators::worked_at(value::operators::unary(operator, a), line)
+        }
         Kind::Is => operators::is(rows::at(table, r, 3), a, line),
         _ => operators::worked_at(arithmetic::sqrt(a), line),
     }
@@ -71,8 +74,8 @@ fn both_operands(
     requires { kind_at table.now r ≡ 6 }
     ensures { (f : ℕ → ast.Expr) → Evaluates catalog.now statement.now (Ok a) (f (suc r)) → Evaluates catalog.now statement.now (Ok b) (f (suc r + rows_at table.now (suc r))) → Evaluates catalog.now statement.now result (tree_by f catalog.now statement.now table.now r) }
 {
-    let code = rows::at(table, r, 3);
-    let w = operators::binary(catalog, statement, code, a, b);
+    let operator = row::binary_operator(table, r);
+    let w = value::operators::binary(catalog, statement, operator, a, b);
     operators::worked_at(w, rows::at(table, r, 1))
 }
 

@@ -3,6 +3,7 @@
 
 pub mod halves;
 pub mod literals; // literals.rt: literals by their kinds and two numbers
+pub mod operators; // operators.rt: the operators of expressions
 pub mod refusals; // refusals.rt: why a statement is refused, and where
 
 ghost use Rattle.std.specs.Prelude.{◌≡◌, [], ◌∷◌, ◌+◌, ◌≤◌, length, get_or};

@@ -2,14 +2,15 @@
 ghost use Rattle.std.specs.Prelude.{◌≡◌, [], ◌∷◌, ◌+◌};
 ghost use Rattle.rules.specs.Lists.{Bytes};
 ghost use Rattle.rules.specs.Ast as ast;
-ghost use Rattle.rules.specs.Codes.{unary_code, plain_code, binary_code};
 ghost use Rattle.rules.specs.Area.{cell_numbers};
 ghost use Rattle.rules.specs.Cells as rules;
+ghost use Rattle.numbers.specs.Operators.{unary_operator, binary_operator};
 ghost use Rattle.numbers.specs.Values.{value_at};
 ghost use Rattle.plan.specs.Cells.{Room, Puts, Operated};
 
 use super::{CELL_SIZE, HEADER_SIZE};
 use ast::row::{LiteralKind, literal_kind};
+use numbers::operators::{Binary, Unary};
 use numbers::put_four;
 use text::lengths::length_at;
 
@@ -26,19 +27,9 @@ const TEXT: u32 = 5;
 
 const COLUMN: u32 = 6;
 
-const NOT: u32 = 8;
-
 const IS_NULL: u32 = 14;
 
 const IS_NAN: u32 = 15;
-
-const OR: u32 = 17;
-
-const EQUAL: u32 = 18;
-
-const GREATER: u32 = 19;
-
-const LESS: u32 = 20;
 
 // A cell of a kind and three numbers.
 fn put_cell(area: &mut [u32], n: u32, kind: u32, a: u32, b: u32, c: u32)
@@ -106,62 +97,59 @@ pub fn is(area: &mut [u32], n: u32, x: u32, kind: u32, a: u32, b: u32)
     }
 }
 
-// A unary operator by its code.
-pub fn unary(area: &mut [u32], n: u32, code: u32, x: u32)
+pub fn unary(area: &mut [u32], n: u32, operator: Unary, x: u32)
     requires { Room n 1 area.old }
-    ensures { (o : ast.Unary) → code ≡ unary_code o
-        → Puts n (rules.unary o x ∷ []) area.old area.new }
+    ensures { Puts n (rules.unary (unary_operator operator) x ∷ []) area.old area.new }
 {
-    put_cell(area, n, code, x, 0, 0);
+    put_cell(area, n, operator.code(), x, 0, 0);
 }
 
-// A plain binary operator by its code.
-fn plain(area: &mut [u32], n: u32, code: u32, x: u32, y: u32)
+// A binary operator that a plan has.
+fn plain(area: &mut [u32], n: u32, operator: Binary, x: u32, y: u32)
     requires { Room n 1 area.old }
-    ensures { (o : ast.Plain) → code ≡ plain_code o
+    ensures { (o : ast.Plain) → binary_operator operator ≡ ast.plain o
         → Puts n (rules.binary o x y ∷ []) area.old area.new }
 {
-    put_cell(area, n, code, x, y, 0);
+    put_cell(area, n, operator.code(), x, y, 0);
 }
 
-// `ge` and `le`: a comparison, equality, and one or the other, over the same operands. Gives the next cell.
-fn or_equal(area: &mut [u32], n: u32, comparison: u32, x: u32, y: u32) -> u32
+// `>=` and `<=`: a comparison, equality, and one or the other, over the same operands. Gives the next cell.
+fn or_equal(area: &mut [u32], n: u32, comparison: Binary, x: u32, y: u32) -> u32
     requires { Room n 3 area.old }
     ensures value { result ≡ n + 3 }
-    ensures puts { (o : ast.Plain) → comparison ≡ plain_code o
+    ensures puts { (o : ast.Plain) → binary_operator comparison ≡ ast.plain o
         → Puts n (rules.binary o x y ∷ rules.binary ast.eq x y ∷ rules.binary ast.or n (n + 1) ∷ [])
         area.old area.new }
 {
     plain(area, n, comparison, x, y);
-    plain(area, n + 1, EQUAL, x, y);
-    plain(area, n + 2, OR, n, n + 1);
+    plain(area, n + 1, Binary::Equal, x, y);
+    plain(area, n + 2, Binary::Or, n, n + 1);
     n + 3
 }
 
-// `ne`: equality, and not that.
+// `!=`: equality, and not that.
 fn not_equal(area: &mut [u32], n: u32, x: u32, y: u32) -> u32
     requires { Room n 2 area.old }
     ensures value { result ≡ n + 2 }
     ensures puts { Puts n (rules.binary ast.eq x y ∷ rules.unary ast.not n ∷ [])
         area.old area.new }
 {
-    plain(area, n, EQUAL, x, y);
-    unary(area, n + 1, NOT, n);
+    plain(area, n, Binary::Equal, x, y);
+    unary(area, n + 1, Unary::Not, n);
     n + 2
 }
 
-// The cells of a binary operator by its code. Gives the next cell.
-pub fn operator(area: &mut [u32], n: u32, code: u32, x: u32, y: u32) -> u32
+// The cells of a binary operator. Gives the next cell.
+pub fn operator(area: &mut [u32], n: u32, operator: Binary, x: u32, y: u32) -> u32
     requires { Room n 3 area.old }
-    ensures { (o : ast.Binary) → code ≡ binary_code o
-        → Operated o n x y area.old area.new result }
+    ensures { Operated (binary_operator operator) n x y area.old area.new result }
 {
-    match code {
-        28 => or_equal(area, n, GREATER, x, y),
-        29 => or_equal(area, n, LESS, x, y),
-        30 => not_equal(area, n, x, y),
+    match operator {
+        Binary::GreaterThanOrEqual => or_equal(area, n, Binary::GreaterThan, x, y),
+        Binary::LessThanOrEqual => or_equal(area, n, Binary::LessThan, x, y),
+        Binary::NotEqual => not_equal(area, n, x, y),
         _ => {
-            plain(area, n, code, x, y);
+            plain(area, n, operator, x, y);
             n + 1
         }
     }

@@ -15,7 +15,8 @@ use Rattle.ast.specs.Operands.{tree-at}
 use Rattle.read_expression.specs.Encode.{head_numbers, is_numbers, row_of, count_of, encode, encode_all}
 use Rattle.read_expression.proofs.Encoded.{encode-length}
 use Rattle.read_expression.specs.Fits.{ColumnFits, Fits, FitsAll}
-use Rattle.read_expression.specs.ReadBack.{row-stands, unary-back, binary-back}
+use Rattle.ast.specs.Row.{unary-back, binary-back}
+use Rattle.read_expression.specs.ReadBack.{row-stands}
 
 module _ (t : List ℕ) where
   -- how many rows a tree has

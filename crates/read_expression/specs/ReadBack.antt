@@ -1,11 +1,8 @@
 -- What is read back from the rows of an expression is the expression.
-use Rattle.std.specs.Prelude.{ℕ, suc, ◌+◌, ◌*◌, ◌≡◌, refl, List, [], ◌∷◌}
+use Rattle.std.specs.Prelude.{ℕ, suc, ◌+◌, ◌*◌, ◌≡◌, List, [], ◌∷◌}
 use Rattle.std.proofs.Common.{arith}
-use Rattle.rules.specs.Codes.{unary_code, plain_code, binary_code}
-use Rattle.rules.specs.Ast.{Unary, not, fact, ident, neg, sqrt, Plain, and, or, eq, gt, lt, add, div, pow, mul, rem, sub, like, Binary, plain, ge, le, ne}
 use Rattle.numbers.specs.Stores.{Stored, stored-append}
-use Rattle.numbers.specs.Codes.{coded}
-use Rattle.ast.specs.Table.{row_size, at, unary_at, binary_at}
+use Rattle.ast.specs.Table.{row_size, at}
 
 -- A ROW
 -- the eight numbers of a row, and what stands behind it
@@ -37,34 +34,3 @@ row-stands t rest r k l n o a b x y h =
       },
       rw e (stored-append t (row_size * r) (k ∷ l ∷ n ∷ o ∷ a ∷ b ∷ x ∷ y ∷ []) rest h).1,
     )
-
--- CODES
-pub unary-back : (o : Unary) → unary_at (unary_code o) ≡ o
-unfolding unary_at unary_code coded
-unary-back not = refl
-unary-back fact = refl
-unary-back ident = refl
-unary-back neg = refl
-unary-back sqrt = refl
-
-plain_back : (o : Plain) → binary_at (plain_code o) ≡ plain o
-unfolding binary_at plain_code coded
-plain_back and = refl
-plain_back or = refl
-plain_back eq = refl
-plain_back gt = refl
-plain_back lt = refl
-plain_back add = refl
-plain_back div = refl
-plain_back pow = refl
-plain_back mul = refl
-plain_back rem = refl
-plain_back sub = refl
-plain_back like = refl
-
-pub binary-back : (o : Binary) → binary_at (binary_code o) ≡ o
-unfolding binary_code binary_at coded
-binary-back (plain o) = plain_back o
-binary-back ge = refl
-binary-back le = refl
-binary-back ne = refl

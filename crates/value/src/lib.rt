@@ -7,6 +7,7 @@ pub mod comparison;
 pub mod literals;
 pub mod logic;
 mod operands;
+pub mod operators;
 
 // A text is an address and a length (text::places).
 #[derive(Clone, Copy)]

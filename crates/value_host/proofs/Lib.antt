@@ -1,1 +1,2 @@
+mod Coded
 mod Held

@@ -10,8 +10,9 @@ ghost use Rattle.value_host.specs.Numbers.{value_by, kind_of, bits_of, answer_of
 ghost use Rattle.value_host.specs.Codes.{unary_worked, binary_worked};
 
 use numbers::halves::{high, low};
+use numbers::operators::{Binary, Unary};
 use numbers::refusals::Reason;
-use value::{Value, arithmetic, comparison, literals, logic};
+use value::{Value, comparison, literals, operators};
 
 // Document 01's number of a refusal, or 0 and the value's kind and bits.
 #[repr(C)]
@@ -78,43 +79,23 @@ fn answered(w: Result<Value, Reason>) -> Answer
     }
 }
 
-// By code, as C gives it; 28 where no operator has it, unlike the statement's table (crate expression).
-#[tactic(auto, unfolding(crate::specs::Codes::unary_worked, crate::specs::Codes::unary_at, crate::specs::Codes::applied, numbers::specs::Codes::coded, numbers::specs::Reasons::reason_of, value::specs::Values::worked_of))]
+// By code, as C gives it; 28 where no operator has it, unlike the statement's table (crate ast).
 fn unary(op: u32, a: Value) -> Result<Value, Reason>
     ensures { (c q : Bytes) → worked_of c q result ≡ unary_worked op (value_of c q a) }
 {
-    match op {
-        8 => logic::not(a),
-        9 => arithmetic::fact(a),
-        10 => arithmetic::ident(a),
-        11 => arithmetic::neg(a),
-        12 => arithmetic::sqrt(a),
-        _ => Err(Reason::NotWorkedOut),
-    }
+    let Some(operator) = Unary::of_code(op) else {
+        return Err(Reason::NotWorkedOut);
+    };
+    operators::unary(operator, a)
 }
 
-#[tactic(auto, unfolding(crate::specs::Codes::binary_worked, crate::specs::Codes::binary_at, crate::specs::Codes::applied, numbers::specs::Codes::coded, numbers::specs::Reasons::reason_of, rules::specs::Operators::binary_of, value::specs::Values::worked_of))]
 fn binary(catalog: &[u8], statement: &[u8], op: u32, a: Value, b: Value) -> Result<Value, Reason>
     ensures { worked_of catalog.now statement.now result ≡ binary_worked op (value_of catalog.now statement.now a) (value_of catalog.now statement.now b) }
 {
-    match op {
-        16 => logic::and(a, b),
-        17 => logic::or(a, b),
-        18 => comparison::eq(catalog, statement, a, b),
-        19 => comparison::gt(catalog, statement, a, b),
-        20 => comparison::lt(catalog, statement, a, b),
-        21 => arithmetic::add(a, b),
-        22 => arithmetic::div(a, b),
-        23 => arithmetic::pow(a, b),
-        24 => arithmetic::mul(a, b),
-        25 => arithmetic::rem(a, b),
-        26 => arithmetic::sub(a, b),
-        27 => logic::like(a, b),
-        28 => comparison::ge(catalog, statement, a, b),
-        29 => comparison::le(catalog, statement, a, b),
-        30 => comparison::ne(catalog, statement, a, b),
-        _ => Err(Reason::NotWorkedOut),
-    }
+    let Some(operator) = Binary::of_code(op) else {
+        return Err(Reason::NotWorkedOut);
+    };
+    operators::binary(catalog, statement, operator, a, b)
 }
 
 #[unsafe(no_mangle)]

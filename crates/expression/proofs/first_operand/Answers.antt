@@ -7,12 +7,12 @@ use Rattle.expression.proofs.first_operand.Goals as goal
 pub returns-in-Unary : goal.returns-in-Unary
 unfolding answered number_of
 returns-in-Unary c = let here = c in λ f t q h. unary-row f t q _ _ _ _ _ here.at-line.ensures h _ _
-    (kind_is here.kind_of.ensures here.in-Unary.is) c.at.ensures (c.unary.ensures t q) (c.worked_at.ensures t q)
+    (kind_is here.kind_of.ensures here.in-Unary.is) c.unary_operator-operator.ensures (c.unary.ensures t q) (c.worked_at.ensures t q)
 
 pub returns-in-Is : goal.returns-in-Is
 unfolding answered number_of
 returns-in-Is c = let here = c in λ f t q h. is_row f t q _ _ _ _ _ here.at-line.ensures h _
-    (kind_is here.kind_of.ensures here.in-Is.is) c.at-in-Is.ensures (c.is.ensures _ _ t q)
+    (kind_is here.kind_of.ensures here.in-Is.is) c.at.ensures (c.is.ensures _ _ t q)
 
 pub returns-in_default : goal.returns-in_default
 unfolding answered

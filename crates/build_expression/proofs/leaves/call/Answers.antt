@@ -1,13 +1,11 @@
 -- `leaves::call`: `sqrt` of one argument, or refused.
 use mathlib.Core.Path.{refl, sym, ◌∙◌}
-use Rattle.rules.specs.Codes.{unary_code}
 use Rattle.build_expression.specs.Leaves.{begins-root, begins-unknown}
 use Rattle.build_expression.proofs.leaves.call.Goals as goal
 
 pub returns-then-is_root : goal.returns-then-is_root
-unfolding unary_code
-returns-then-is_root c = λ xs ms ts a n u. begins-root _ _ _ xs ms ts _ n a a u c.requires _ (sym
-    c.is_root.ensures ∙ c.if-is_root.true) refl refl
+returns-then-is_root c = λ xs ms ts a n u. begins-root _ _ _ xs ms ts _ n a a u c.requires (sym
+    c.is_root.ensures ∙ c.if-is_root.true) refl
 
 pub returns : goal.returns
 returns c = λ xs ms ts a n u. begins-unknown _ _ _ xs ms ts _ n a a u c.requires _ (sym

@@ -46,7 +46,7 @@ returns-in-Call c = c.call.ensures _ _ _ _ _ c.requires.unmatched
 
 pub returns-in-Unary : goal.returns-in-Unary
 returns-in-Unary c = begins-unary _ _ _ _ _ _ _ _ _ _ c.requires.unmatched _ c.kind_of-kind.ensures _
-    c.in-Unary.is c.unary_code.ensures refl
+    c.in-Unary.is c.unary_operator-operator.ensures refl
 
 pub returns-in-Binary : goal.returns-in-Binary
 returns-in-Binary c = begins-binary _ _ _ _ _ _ _ _ _ _ c.requires.unmatched _ c.kind_of-kind.ensures

@@ -3,4 +3,4 @@ use Rattle.build_expression.specs.Steps.{binary-emits}
 use Rattle.build_expression.proofs.operators.binary.Goals as goal
 
 pub returns : goal.returns
-returns c = binary-emits _ _ _ _ _ _ (c.operator.ensures _ c.binary_code-code.ensures)
+returns c = rw (← c.binary_operator-operator.ensures) (binary-emits _ _ _ _ _ _ c.operator.ensures)
