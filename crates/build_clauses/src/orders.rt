@@ -12,7 +12,8 @@ ghost use Rattle.build_clauses.specs.Orders.{OrderBuilt};
 
 use build_expression::build_expression;
 use numbers::refusals::Refusal;
-use plan::parts::{KEY_SIZE, begin_order, end, key};
+use plan::nodes::Kind;
+use plan::parts::{KEY_SIZE, begin, end, key};
 use plan::steps::Step;
 use sections::entry;
 use sections::entry::{Entry, ORDER, entry_at, first_row};
@@ -129,7 +130,7 @@ pub fn build_order<'t, 'a>(
             used: k,
         });
     }
-    let start = begin_order(nodes, k, m - 1);
+    let start = begin(nodes, k, Kind::Order, m - 1);
     let cell = put_keys(
         catalog, statement, cells, parts, labels, matches, width, tables, count, area, n, nodes,
         start,

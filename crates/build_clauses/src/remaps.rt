@@ -6,7 +6,8 @@ ghost use Rattle.plan.specs.Appended.{Appended};
 ghost use Rattle.build_clauses.specs.Follows.{Follows};
 ghost use Rattle.build_clauses.specs.Remaps.{RemapBuilt};
 
-use plan::parts::{begin_remap, end};
+use plan::nodes::Kind;
+use plan::parts::{begin, end};
 use plan::pushes::push;
 use plan::steps::Step;
 use scope::hidden::hidden_target;
@@ -37,7 +38,7 @@ pub fn build_remap(width: u32, hidden: u32, nodes: &mut [u32], n: u32, m: u32, k
             used: k,
         };
     }
-    let start = begin_remap(nodes, k, m - 1);
+    let start = begin(nodes, k, Kind::Remap, m - 1);
     let used = push_targets(width, hidden, nodes, start);
     end(nodes, k, used);
     Step {

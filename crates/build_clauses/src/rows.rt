@@ -7,7 +7,7 @@ ghost use Rattle.build_clauses.specs.Rows.{Counted, OffsetBuilt, LimitBuilt};
 use expression::constants::build_constant_value;
 use expression::planned::to_natural;
 use numbers::refusals::{Reason, Refusal};
-use plan::nodes::{limit, offset};
+use plan::nodes::{Kind, rows};
 use plan::steps::Step;
 use statement::access::Clause;
 
@@ -50,7 +50,7 @@ pub fn build_offset(
     };
     let invalid = Reason::InvalidOffset.at(clause.line);
     let z = row_count(catalog, statement, cells, clause.row, invalid)?;
-    let used = offset(nodes, k, m - 1, z);
+    let used = rows(nodes, k, Kind::Offset, m - 1, z);
     Ok(Step {
         cell: n,
         node: m + 1,
@@ -82,7 +82,7 @@ pub fn build_limit(
     };
     let invalid = Reason::InvalidLimit.at(clause.line);
     let z = row_count(catalog, statement, cells, clause.row, invalid)?;
-    let used = limit(nodes, k, m - 1, z);
+    let used = rows(nodes, k, Kind::Limit, m - 1, z);
     Ok(Step {
         cell: n,
         node: m + 1,

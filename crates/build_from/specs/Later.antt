@@ -1,6 +1,6 @@
 -- A later item of the FROM clause behind the clause so far: its scope merged into the clause's, and the join of both.
 use Rattle.std.specs.Prelude.{ℕ, ◌+◌, ◌-◌, ◌*◌, ◌≤◌, ◌<◌, pred, ◌≡◌, refl, false, List, [], ◌∷◌, ◌++◌, length, Result, MatchResult, Ok, Err}
-use Rattle.std.proofs.Common.{arith, sym, ap, ◌∙◌}
+use Rattle.std.proofs.Common.{arith, ap, ◌∙◌}
 use Rattle.std.proofs.Math.Numerals.{sub-one}
 use Rattle.std.proofs.Math.Option.{Option, none}
 use Rattle.rules.specs.Refusals.{Refusal, Answer, ok, refused, ◌>>=◌}

@@ -1,8 +1,7 @@
 -- A join's predicate: none, or the tree at its row, built over a scope.
-use Prim.Native.Nat.{ℕ, ◌+◌, ◌*◌, pred}
-use Rattle.std.proofs.Common.{arith, ◌∙◌, append-nil}
+use Prim.Native.Nat.{ℕ, ◌*◌, pred}
+use Rattle.std.proofs.Common.{arith, append-nil}
 use Rattle.std.specs.Prelude.{◌≡◌, refl, List, [], ◌++◌, length, take, Result, MatchResult, Ok, Err}
-use Rattle.std.proofs.Math.Path.{sym}
 use Rattle.std.proofs.Math.Option.{Option, none, some}
 use Rattle.rules.specs.Refusals.{ok}
 use Rattle.rules.specs.Lists.{Bytes, concat}

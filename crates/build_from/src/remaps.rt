@@ -6,6 +6,7 @@ ghost use Rattle.rules.specs.BuildFrom.{rising, swapped};
 ghost use Rattle.plan.specs.Layout.{source_head, nodes_size};
 ghost use Rattle.plan.specs.Appended.{Appended};
 
+use plan::nodes::Kind;
 use plan::parts;
 use plan::pushes::push;
 
@@ -26,7 +27,7 @@ pub fn push_remap(nodes: &mut [u32], k: usize, source: u32, a: u32, b: u32) -> u
     requires { (k + source_head + (a + b) ≤ length nodes.old) × (length nodes.old ≤ nodes_size) }
     ensures { Appended (record_numbers (remap source (swapped a b))) k nodes.old result nodes.new }
 {
-    let i = parts::begin_remap(nodes, k, source);
+    let i = parts::begin(nodes, k, Kind::Remap, source);
     let j = push_rising(nodes, i, b, a);
     let end = push_rising(nodes, j, 0, b);
     parts::end(nodes, k, end);

@@ -12,6 +12,7 @@ use plan::nodes;
 use schema::get_table;
 use scope::Scope;
 use text::lengths::length_at;
+use text::places::Place;
 
 // The scope of the catalog's i-th table under the alias of row r, or its name.
 fn named_scope(tables: &[u32], froms: &[u32], r: u32, i: u32) -> Scope
@@ -42,14 +43,20 @@ fn scan_row(
 {
     let a = row::name_address(froms, r);
     let len = row::name_length(froms, r);
-    let size = length_at(catalog, statement, a, len);
+    let name = Place {
+        address: a,
+        length: length_at(catalog, statement, a, len),
+    };
     let n = row::alias_length(froms, r);
     if n == 0 {
-        return nodes::scan(nodes, k, a, size, 0, 0, 0);
+        return nodes::scan(nodes, k, name, None, 0);
     }
     let b = row::alias_address(froms, r);
-    let alias = length_at(catalog, statement, b, n);
-    nodes::scan(nodes, k, a, size, b, alias, 0)
+    let alias = Place {
+        address: b,
+        length: length_at(catalog, statement, b, n),
+    };
+    nodes::scan(nodes, k, name, Some(alias), 0)
 }
 
 // The item in row r, which is a table.

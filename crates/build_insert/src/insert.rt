@@ -15,10 +15,11 @@ use crate::map::column_map;
 use crate::own::put_own;
 use crate::rows::build_node;
 use numbers::refusals::{Reason, Refusal};
-use plan::finish::{INSERT, finish};
+use plan::finish::{Kind, finish};
 use schema::get_table;
 use statement::access;
 use text::lengths::length_at;
+use text::places::Place;
 
 // How many names INSERT has at most.
 const MOST_NAMES: usize = 64;
@@ -42,9 +43,12 @@ fn end_insert(
     ensures { InsertEnds catalog.now statement.now a n (map_of columns.now map) m k
         nodes.old area.old area.new }
 {
-    let length = length_at(catalog, statement, a, n);
-    let e = put_own(columns, map, nodes, k, a, length);
-    finish(area, nodes, INSERT, m, 1, k, e);
+    let name = Place {
+        address: a,
+        length: length_at(catalog, statement, a, n),
+    };
+    let e = put_own(columns, map, nodes, k, name);
+    finish(area, nodes, Kind::Insert, m, 1, k, e);
 }
 
 // The rows and the end, of a table that is named by the n bytes at a, by its column map.

@@ -1,16 +1,18 @@
 // The own numbers of INSERT: its table's name and its column map.
-ghost use Rattle.std.specs.Prelude.{◌≡◌, [], ◌∷◌, ℕ, ◌+◌, ◌*◌, ◌≤◌, length};
+ghost use Rattle.std.specs.Prelude.{◌≡◌, ℕ, ◌+◌, ◌*◌, ◌≤◌, length};
 ghost use Rattle.rules.specs.Schema.{Table};
 ghost use Rattle.rules.specs.Plan.{Node};
 ghost use Rattle.rules.specs.Plan as plan;
 ghost use Rattle.rules.specs.Area.{span, own_numbers};
 ghost use Rattle.plan.specs.Layout.{mapping_size};
 ghost use Rattle.plan.specs.Appended.{Appended};
+ghost use Rattle.plan.specs.Places.{place_numbers};
 ghost use Rattle.build_insert.specs.Map.{mappings, map_of};
 ghost use Rattle.build_insert.specs.Own.{map_numbers_of, MapFits};
 
 use crate::map::{ValuePosition, column_of};
 use plan::own::{insert, mapping};
+use text::places::Place;
 
 // The column and the position of each of the first n values, behind k numbers.
 fn put_mappings(columns: &[u32], n: u32, nodes: &mut [u32], k: usize) -> usize
@@ -27,24 +29,17 @@ fn put_mappings(columns: &[u32], n: u32, nodes: &mut [u32], k: usize) -> usize
     j
 }
 
-// The own numbers behind k others, of a table whose name is the n bytes at a.
-pub fn put_own(
-    columns: &[u32],
-    map: Option<u32>,
-    nodes: &mut [u32],
-    k: usize,
-    a: u32,
-    n: u32,
-) -> usize
+// The own numbers behind k others, of a table by its name.
+pub fn put_own(columns: &[u32], map: Option<u32>, nodes: &mut [u32], k: usize, name: Place) -> usize
     requires { MapFits columns.now map k nodes.old }
-    ensures { (t : Table) (p : Node ℕ) → span t.name ≡ a ∷ n ∷ []
+    ensures { (t : Table) (p : Node ℕ) → span t.name ≡ place_numbers name
         → Appended (own_numbers (plan.insert t (map_of columns.now map) p))
         k nodes.old result nodes.new }
 {
     match map {
-        None => insert(nodes, k, a, n, 0),
+        None => insert(nodes, k, name, 0),
         Some(count) => {
-            let j = insert(nodes, k, a, n, count + 1);
+            let j = insert(nodes, k, name, count + 1);
             put_mappings(columns, count, nodes, j)
         }
     }

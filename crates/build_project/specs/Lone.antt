@@ -1,7 +1,7 @@
 -- A star that stands alone among the items.
 use Rattle.std.specs.Prelude as std
 use Rattle.std.specs.Prelude.{ℕ, ◌≡◌, false, length, get_or}
-use Rattle.std.proofs.Common.{arith, sym, ◌∙◌}
+use Rattle.std.proofs.Common.{arith, ◌∙◌}
 use Rattle.std.proofs.Math.Path.{refl, ap}
 use mathlib.Core.List.{List, [], ◌∷◌, map}
 use Rattle.rules.specs.Lists.{Bytes, is_some}

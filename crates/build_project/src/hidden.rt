@@ -26,7 +26,7 @@ fn put_columns(positions: &[u32], area: &mut [u32], n: u32, nodes: &mut [u32], k
     for (i, &x) in positions.iter().enumerate() {
         let at = n + i as u32;
         column(area, at, x);
-        j = item(nodes, j, at, 0, 0);
+        j = item(nodes, j, at, None);
     }
     j
 }

@@ -21,7 +21,8 @@ use build_projection::projection::put_items;
 use hidden::end_projection;
 use lone::is_lone;
 use numbers::refusals::Refusal;
-use plan::parts::begin_project;
+use plan::nodes::Kind;
+use plan::parts::begin;
 use scope::{COLUMNS, Scope};
 use stage::Stage;
 
@@ -59,7 +60,7 @@ pub fn build_projection<'t>(
             used: k,
         });
     }
-    let j = begin_project(nodes, k, m - 1);
+    let j = begin(nodes, k, Kind::Project, m - 1);
     let mut labels = [0u32; COLUMNS];
     let part = put_items(
         catalog,

@@ -19,6 +19,7 @@ use scope::lookup::used_matches;
 use sections::entry::{ITEM, entry_at, first_row};
 use statement::access::name_start;
 use text::lengths::length_at;
+use text::places::Place;
 
 // The row of item x.
 pub fn item_row(parts: &[u32], x: u32) -> usize
@@ -80,9 +81,11 @@ fn put_item<'t, 'a>(
     let built = build_item(
         catalog, statement, cells, row, labels, matches, width, tables, count, area, n,
     )?;
-    let a = alias_address(parts, x);
-    let b = alias_length(catalog, statement, parts, x);
-    let used = item(nodes, k, built - 1, a, b);
+    let alias = Place {
+        address: alias_address(parts, x),
+        length: alias_length(catalog, statement, parts, x),
+    };
+    let used = item(nodes, k, built - 1, Some(alias));
     Ok(Part { cell: built, used })
 }
 

@@ -7,7 +7,7 @@ ghost use Rattle.build_select.specs.States.{OrderState, OffsetState, LimitState}
 use build_clauses::remaps::build_remap;
 use build_clauses::rows::{build_limit, build_offset};
 use numbers::refusals::Refusal;
-use plan::finish::{SELECT, finish};
+use plan::finish::{Kind, finish};
 use sections::entry::{LIMIT, OFFSET};
 use statement::access::clause_at;
 
@@ -29,7 +29,7 @@ fn select_remap(
     finish(
         area,
         nodes,
-        SELECT,
+        Kind::Select,
         remapped.cell,
         remapped.node,
         remapped.used,

@@ -2,7 +2,7 @@
 -- and flags.
 use Rattle.std.specs.Prelude.{ℕ, suc, ◌≤◌, ◌<◌, ◌≡◌, Bool, ◌&&◌, ◌||◌, List, [], ◌∷◌, map, length, drop, Result, Ok, Err, Some, None}
 use Rattle.std.specs.Prelude as std
-use Rattle.std.proofs.Common.{arith, sym, ◌∙◌, drop_of_length-le}
+use Rattle.std.proofs.Common.{arith, sym, drop_of_length-le}
 use Rattle.std.proofs.Math.Path.{refl, ap}
 use Rattle.std.proofs.Math.Bool.{true, false, not}
 use Rattle.std.proofs.Math.Option.{Option, some}
@@ -24,6 +24,8 @@ use Rattle.numbers.specs.Reasons.{told}
 use Rattle.numbers.specs.declared.refusals.Refusal.{Refusal}
 use Rattle.ast.specs.Table.{tree_at}
 use Rattle.numbers.specs.Values.{is_one, value_at}
+use Rattle.text.specs.declared.places.Place.{Place}
+use Rattle.plan.specs.Places.{option_place}
 use Rattle.ast.specs.Names.{name_at}
 use Rattle.sections.specs.Layout.{section_at}
 use Rattle.sections.specs.Access.{column_kind, numbers_at, after-drop}
@@ -157,31 +159,33 @@ missing_at e = absurd (let z : ◌≡◌ {A = ℕ} 0 1 = cc in omega arith)
 
 -- REFERENCES
 -- the address of the table that a column refers to, 0 where it refers to none
-unfoldable pub reference_start : Entry → ℕ
-reference_start e = elim (eqb e.extent 0) [ true ↦ 0 | false ↦ e.reference ]
+unfoldable pub reference_of : Bytes → Bytes → Entry → std.Option Place
+reference_of c q e = elim (eqb e.extent 0) [
+  | true ↦ std.None
+  | false ↦ std.Some (record { address = e.reference; length = length (bytes_at c q e.reference e.extent) })
+]
 
-pub reference-none : (e : Entry) → e.extent ≡ 0 → 0 ≡ reference_start e
-unfolding reference_start
-reference-none e h = rw (reference_start, eq-eqb e.extent 0 h)
+module _ (c q : Bytes) (e : Entry) where
+  pub reference-none : e.extent ≡ 0 → std.None ≡ reference_of c q e
+  unfolding reference_of
+  reference-none h = rw (reference_of, eq-eqb e.extent 0 h)
 
-pub reference-some : (e : Entry) → (e.extent ≡ 0 → ⊥) → e.reference ≡ reference_start e
-unfolding reference_start
-reference-some e h = rw (reference_start, ne_eqb e.extent 0 h)
+  pub reference-some : {n : ℕ} → (e.extent ≡ 0 → ⊥) → n ≡ length (bytes_at c q e.reference e.extent)
+      → std.Some (record { address = e.reference; length = n }) ≡ reference_of c q e
+  unfolding reference_of
+  reference-some h l = rw (reference_of, ne_eqb e.extent 0 h, l)
 
-pub reference-span : (c q : Bytes) (e : Entry) (b m : ℕ) → b ≡ reference_start e → m ≡ length (bytes_at c q b e.extent)
-    → option_span (name_at c q e.reference e.extent) ≡ b ∷ m ∷ []
-unfolding option_span span word_at bytes_at
-reference-span c q e b m f g = go (eqb e.extent 0) refl
-  where
-    go : (t : Bool) → eqb e.extent 0 ≡ t → option_span (name_at c q e.reference e.extent) ≡ b ∷ m ∷ []
-    go true h =
-        let z = eqb-true e.extent 0 h in
-        let y : b ≡ 0 = f ∙ sym (reference-none e z) in
-        rw (name-none c q e.reference e.extent z, g, y, z)
-    go false h =
-        let z = eqb-false e.extent 0 h in
-        let y : b ≡ e.reference = f ∙ sym (reference-some e z) in
-        rw (name-some c q e.reference e.extent z, g, y)
+  pub reference-span : {p : std.Option Place} → p ≡ reference_of c q e
+      → option_span (name_at c q e.reference e.extent) ≡ option_place p
+  unfolding option_span span word_at
+  reference-span f = rw f (go (eqb e.extent 0) refl)
+    where
+      go : (t : Bool) → eqb e.extent 0 ≡ t
+          → option_span (name_at c q e.reference e.extent) ≡ option_place (reference_of c q e)
+      go true h = let z = eqb-true e.extent 0 h in rw (name-none c q e.reference e.extent z, ← reference-none z)
+      go false h =
+          let z = eqb-false e.extent 0 h in
+          rw (name-some c q e.reference e.extent z, ← reference-some z refl)
 
 -- INDEX
 module _ (c q : Bytes) (e : Entry) where

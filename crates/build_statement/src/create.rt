@@ -28,6 +28,7 @@ use sections::entry;
 use sections::entry::Entry;
 use statement::access;
 use text::lengths::length_at;
+use text::places::Place;
 use value;
 
 // The position of the first column from position k on that is given as primary key.
@@ -78,14 +79,17 @@ fn is_indexed(e: Entry) -> bool
     e.extent != 0
 }
 
-// The address of the table that a column refers to; 0 where it refers to none.
-fn reference_start(e: Entry) -> u32
-    ensures { result ≡ create.reference_start e }
+// The name of the table that a column refers to.
+fn reference(catalog: &[u8], statement: &[u8], e: Entry) -> Option<Place>
+    ensures { result ≡ create.reference_of catalog.now statement.now e }
 {
     if e.extent == 0 {
-        return 0;
+        return None;
     }
-    e.reference
+    Some(Place {
+        address: e.reference,
+        length: length_at(catalog, statement, e.reference, e.extent),
+    })
 }
 
 // A column's default by its numbers: the value of its expression; where there is none, a null if it may be null.
@@ -131,13 +135,15 @@ fn put_column(
         k nodes.old result nodes.new }
 {
     let a = access::name_start(e);
-    let n = length_at(catalog, statement, a, e.length);
-    let b = reference_start(e);
-    let m = length_at(catalog, statement, b, e.extent);
+    let name = Place {
+        address: a,
+        length: length_at(catalog, statement, a, e.length),
+    };
+    let reference = reference(catalog, statement, e);
     let code = access::type_code(e);
     let unique = is_unique(e);
     let index = is_indexed(e);
-    own::column(nodes, k, a, n, code, nullable, unique, index, b, m)
+    own::column(nodes, k, name, code, nullable, unique, index, reference)
 }
 
 // A column and its default.
@@ -200,9 +206,12 @@ fn table(
         0 nodes.old nodes.new result }
 {
     let a = access::name_address(parts);
-    let n = length_at(catalog, statement, a, access::name_length(parts));
+    let name = Place {
+        address: a,
+        length: length_at(catalog, statement, a, access::name_length(parts)),
+    };
     let count = entry::count(parts, entry::COLUMN);
-    let k = own::create(nodes, 0, a, n, key, count);
+    let k = own::create(nodes, 0, name, key, count);
     columns(catalog, statement, cells, parts, nodes, k)
 }
 
@@ -222,7 +231,7 @@ fn create_table(
         area.old area.new result }
 {
     let end = table(catalog, statement, cells, parts, key, nodes)?;
-    finish::finish(area, nodes, finish::CREATE, 0, 0, 0, end);
+    finish::finish(area, nodes, finish::Kind::Create, 0, 0, 0, end);
     Ok(0)
 }
 

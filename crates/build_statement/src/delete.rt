@@ -10,7 +10,7 @@ ghost use Rattle.build_statement.specs.Deletes.{DeleteEnds};
 
 use crate::clause::build_where;
 use numbers::refusals::{Reason, Refusal};
-use plan::finish::{DELETE, finish};
+use plan::finish::{Kind, finish};
 use plan::nodes::scan;
 use plan::own;
 use schema::{get_table, key};
@@ -18,6 +18,7 @@ use scope::Scope;
 use sections::entry::WHERE;
 use statement::access;
 use text::lengths::length_at;
+use text::places::Place;
 
 // The plan behind its m cells, of the i-th table, which is named by the n bytes at a.
 fn end_delete(
@@ -36,11 +37,14 @@ fn end_delete(
     ensures { DeleteEnds catalog.now statement.now tables.now i a n m
         area.old area.new }
 {
-    let length = length_at(catalog, statement, a, n);
-    let k = scan(nodes, 0, a, length, 0, 0, m);
+    let name = Place {
+        address: a,
+        length: length_at(catalog, statement, a, n),
+    };
+    let k = scan(nodes, 0, name, None, m);
     let key = key(tables, i);
-    let e = own::delete(nodes, k, a, length, key);
-    finish(area, nodes, DELETE, m, 1, k, e);
+    let e = own::delete(nodes, k, name, key);
+    finish(area, nodes, Kind::Delete, m, 1, k, e);
 }
 
 pub fn build_delete<'t>(

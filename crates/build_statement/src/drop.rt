@@ -7,10 +7,11 @@ ghost use Rattle.statement.specs.Access.{drop_flag};
 ghost use Rattle.build_statement.specs.Plans.{Plans};
 ghost use Rattle.build_statement.specs.Kinds.{Free, name_of};
 
-use plan::finish::{DROP, finish};
+use plan::finish::{Kind, finish};
 use plan::own;
 use statement::access;
 use text::lengths::length_at;
+use text::places::Place;
 
 pub fn build_drop_table(
     catalog: &[u8],
@@ -27,8 +28,11 @@ pub fn build_drop_table(
 {
     let a = access::name_address(parts);
     let n = access::name_length(parts);
-    let length = length_at(catalog, statement, a, n);
+    let name = Place {
+        address: a,
+        length: length_at(catalog, statement, a, n),
+    };
     let exists = access::if_exists(parts);
-    let e = own::drop(nodes, 0, a, length, exists);
-    finish(area, nodes, DROP, 0, 0, 0, e);
+    let e = own::drop(nodes, 0, name, exists);
+    finish(area, nodes, Kind::Drop, 0, 0, 0, e);
 }

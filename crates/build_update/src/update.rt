@@ -14,7 +14,7 @@ ghost use Rattle.build_update.specs.Updates.{FewSets, UpdateEnds};
 use crate::sets::write_sets;
 use build_statement::clause::build_where;
 use numbers::refusals::{Reason, Refusal};
-use plan::finish::{UPDATE, finish};
+use plan::finish::{Kind, finish};
 use plan::nodes::scan;
 use plan::own;
 use schema::{get_table, key};
@@ -22,6 +22,7 @@ use scope::Scope;
 use sections::entry;
 use statement::access;
 use text::lengths::length_at;
+use text::places::Place;
 
 // The plan behind the m cells of its filter, of the i-th table, which is named by the n bytes at a: the scan, the sets and
 // the end.
@@ -54,16 +55,19 @@ fn end_update<'t, 'a>(
         (table_named catalog.now statement.now tables.now i a n)
         m area.old area.new result }
 {
-    let length = length_at(catalog, statement, a, n);
-    let k = scan(nodes, 0, a, length, 0, 0, m);
+    let name = Place {
+        address: a,
+        length: length_at(catalog, statement, a, n),
+    };
+    let k = scan(nodes, 0, name, None, m);
     let key = key(tables, i);
     let sets = entry::count(parts, entry::SET);
-    let j = own::update(nodes, k, a, length, key, sets);
+    let j = own::update(nodes, k, name, key, sets);
     let written = write_sets(
         catalog, statement, tables, cells, parts, i, labels, matches, width, names, count, area, m,
         nodes, j,
     )?;
-    finish(area, nodes, UPDATE, written.cell, 1, k, written.used);
+    finish(area, nodes, Kind::Update, written.cell, 1, k, written.used);
     Ok(written.cell)
 }
 

@@ -1,1 +1,2 @@
 pub mod Operators
+pub mod Flags

@@ -1,5 +1,7 @@
 -- The plan in the area: how its numbers are appended, and the area at exit.
 pub mod Layout
+pub mod Kinds
+pub mod Places
 pub mod Appended
 pub mod Records
 pub mod Parts

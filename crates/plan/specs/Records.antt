@@ -3,9 +3,11 @@ use Rattle.std.specs.Prelude.{ℕ, ◌+◌, ◌-◌, ◌≤◌, ◌≡◌, refl,
 use Rattle.std.proofs.Common.{arith, sym, append-nil}
 use Rattle.rules.specs.Lists.{concat}
 use Rattle.rules.specs.Nodes.{NodeRecord, scan, values, join, filter, aggregate, project, order, offset, limit, remap}
-use Rattle.rules.specs.Area.{halves, sized, record_numbers}
+use Rattle.rules.specs.Area.{halves, sized, item_numbers, key_numbers, record_numbers}
 use Rattle.appends.specs.Area.{records_numbers, records-numbers-append, records-numbers-one}
 use Rattle.plan.specs.Layout.{record_head, length_place}
+use Rattle.plan.specs.Kinds.{node_number}
+use Rattle.plan.specs.declared.nodes.Kind.TheVariants as N
 use Rattle.plan.specs.Appended.{Appended, appended-on, appended-as, appended-count}
 
 -- RECORDS
@@ -29,6 +31,15 @@ records-first r a = appended-as (sym (append-nil (record_numbers r))) a
 unfoldable pub rows_numbers : ℕ → ℕ → ℕ → List ℕ
 rows_numbers kind source n = sized kind (source ∷ halves n)
 
+module _ (n y : ℕ) {i k : ℕ} {s t : List ℕ} where
+  pub rows-offset : Appended (rows_numbers (node_number N.Offset) n y) i s k t → Appended (record_numbers (offset n y)) i s k t
+  unfolding rows_numbers record_numbers
+  rows-offset a = a
+
+  pub rows-limit : Appended (rows_numbers (node_number N.Limit) n y) i s k t → Appended (record_numbers (limit n y)) i s k t
+  unfolding rows_numbers record_numbers
+  rows-limit a = a
+
 -- OPEN RECORDS
 -- numbers of a record with its length not known
 unfoldable pub unsized : List ℕ → List ℕ
@@ -42,6 +53,20 @@ opened r = unsized (record_numbers r)
 -- a record of a kind over a source, with no part
 abbrev pub over_numbers : ℕ → ℕ → List ℕ
 over_numbers c n = c ∷ 0 ∷ n ∷ []
+
+-- by the kind, what is begun is a projection, an order or a remap with no part
+module _ {n i k : ℕ} {s t : List ℕ} where
+  pub opened-project : Appended (over_numbers (node_number N.Project) n) i s k t → Appended (opened (project n [])) i s k t
+  unfolding opened unsized record_numbers sized item_numbers
+  opened-project a = a
+
+  pub opened-order : Appended (over_numbers (node_number N.Order) n) i s k t → Appended (opened (order n [])) i s k t
+  unfolding opened unsized record_numbers sized key_numbers
+  opened-order a = a
+
+  pub opened-remap : Appended (over_numbers (node_number N.Remap) n) i s k t → Appended (opened (remap n [])) i s k t
+  unfolding opened unsized record_numbers sized
+  opened-remap a = a
 
 -- the length stored, the record is whole
 sized-ended : (c i k : ℕ) (r s t t' : List ℕ) → Appended (c ∷ 0 ∷ r) i s k t

@@ -1,26 +1,49 @@
 // The end of a plan: the header, the nodes and the statement's own numbers behind the cells, and zeros behind all.
-ghost use Rattle.std.specs.Prelude.{◌≡◌, [], ◌∷◌, ◌+◌, ◌≤◌, length, replicate};
+ghost use Rattle.std.specs.Prelude.{◌≡◌, [], ◌∷◌, ◌+◌, ◌≤◌, length, replicate, Some, None};
 ghost use Rattle.std.proofs.lemmas.List.Edits.{sets};
 ghost use Rattle.std.proofs.Math.Seq.{paste};
 ghost use Rattle.rules.specs.Area.{layout, header_size};
 ghost use Rattle.plan.specs.Layout.{plan_size, nodes_size, most_plan_cells};
+ghost use Rattle.plan.specs.Kinds.{statement_number};
 ghost use Rattle.plan.specs.Finished.{cleared, finished};
 
 use crate::{CELL_SIZE, HEADER_SIZE};
 use numbers::put_four;
 
-// The kinds of statement.
-pub const SELECT: u32 = 1;
+// The kinds of statement, by their numbers in the plan.
+#[derive(Clone, Copy, Debug, PartialEq, Eq)]
+pub enum Kind {
+    Select = 1,
+    Create,
+    Drop,
+    Delete,
+    Insert,
+    Update,
+}
 
-pub const CREATE: u32 = 2;
+impl Kind {
+    pub fn number(self) -> u32
+        ensures { result ≡ statement_number self }
+    {
+        self as u32
+    }
 
-pub const DROP: u32 = 3;
-
-pub const DELETE: u32 = 4;
-
-pub const INSERT: u32 = 5;
-
-pub const UPDATE: u32 = 6;
+    // The kind that a number stands for.
+    pub fn from_number(number: u32) -> Option<Kind>
+        ensures kind { (kind : Kind) → result ≡ Some kind → number ≡ statement_number kind }
+        ensures none { result ≡ None → (kind : Kind) → number ≡ statement_number kind → ⊥ }
+    {
+        match number {
+            1 => Some(Kind::Select),
+            2 => Some(Kind::Create),
+            3 => Some(Kind::Drop),
+            4 => Some(Kind::Delete),
+            5 => Some(Kind::Insert),
+            6 => Some(Kind::Update),
+            _ => None,
+        }
+    }
+}
 
 // The number of this layout.
 pub const LAYOUT: u32 = 1;
@@ -31,11 +54,11 @@ const OWN_PLACE: usize = 4;
 const ALL_PLACE: usize = 5;
 
 // The statement's kind, how many cells and nodes there are, where the own numbers start, and where all end.
-fn put_header(area: &mut [u32], code: u32, cells: u32, nodes: u32, own: u32, all: u32)
+fn put_header(area: &mut [u32], kind: Kind, cells: u32, nodes: u32, own: u32, all: u32)
     requires { header_size ≤ length area.old }
-    ensures { area.new ≡ sets area.old 0 (layout ∷ code ∷ cells ∷ nodes ∷ own ∷ all ∷ []) }
+    ensures { area.new ≡ sets area.old 0 (layout ∷ statement_number kind ∷ cells ∷ nodes ∷ own ∷ all ∷ []) }
 {
-    put_four(area, 0, LAYOUT, code, cells, nodes);
+    put_four(area, 0, LAYOUT, kind.number(), cells, nodes);
     area[OWN_PLACE] = own;
     area[ALL_PLACE] = all;
 }
@@ -65,12 +88,12 @@ pub fn clear(area: &mut [u32])
 
 // The plan of a statement of a kind: n cells that stand in the area, m nodes whose numbers are the first k of `nodes`, and
 // behind those the own numbers up to place e.
-pub fn finish(area: &mut [u32], nodes: &[u32], code: u32, n: u32, m: u32, k: usize, e: usize)
+pub fn finish(area: &mut [u32], nodes: &[u32], kind: Kind, n: u32, m: u32, k: usize, e: usize)
     requires { (plan_size ≤ length area.old) × (n ≤ most_plan_cells) × (k ≤ e) × (e ≤ nodes_size) × (e ≤ length nodes.now) }
-    ensures { area.new ≡ finished code n m k e nodes.now area.old }
+    ensures { area.new ≡ finished (statement_number kind) n m k e nodes.now area.old }
 {
     let i = HEADER_SIZE + CELL_SIZE * (n as usize);
-    put_header(area, code, n, m, (i + k) as u32, (i + e) as u32);
+    put_header(area, kind, n, m, (i + k) as u32, (i + e) as u32);
     copy(area, i, nodes, e);
     clear_from(area, i + e);
 }

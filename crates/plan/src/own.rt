@@ -1,5 +1,5 @@
 // The statement's own numbers (docs/PLAN.md), behind those of its nodes. Each function answers how many numbers are in use
-// then. A name is the n bytes at a.
+// then.
 ghost use Rattle.std.specs.Prelude.{◌≡◌, [], ◌∷◌, ℕ, ◌+◌, ◌≤◌, length};
 ghost use Rattle.std.proofs.Math.Option.{Option};
 ghost use Rattle.rules.specs.Lines.{Word};
@@ -9,41 +9,41 @@ ghost use Rattle.rules.specs.Plan as plan;
 ghost use Rattle.rules.specs.Area.{span, option_span, type_code, mapping_numbers, set_numbers, default_numbers, own_numbers};
 ghost use Rattle.plan.specs.Layout.{cell_size, own_size, own_head, set_size, mapping_size, column_size};
 ghost use Rattle.plan.specs.Appended.{Appended};
+ghost use Rattle.plan.specs.Places.{place_numbers, option_place};
 ghost use Rattle.plan.specs.Own.{inserting, updating, creating, column_numbers};
 
-use crate::nodes::flag;
-use crate::pushes::{four, pair, push};
+use crate::pushes::{four, pair, place, push};
+use text::places::Place;
 
 // A name and a number.
-fn named(nodes: &mut [u32], k: usize, a: u32, n: u32, x: u32) -> usize
+fn named(nodes: &mut [u32], k: usize, name: Place, x: u32) -> usize
     requires { k + own_size ≤ length nodes.old }
-    ensures { Appended (a ∷ n ∷ x ∷ []) k nodes.old result nodes.new }
+    ensures { Appended (name.address ∷ name.length ∷ x ∷ []) k nodes.old result nodes.new }
 {
-    let i = pair(nodes, k, a, n);
+    let i = pair(nodes, k, name.address, name.length);
     push(nodes, i, x)
 }
 
-pub fn drop(nodes: &mut [u32], k: usize, a: u32, n: u32, exists: bool) -> usize
+pub fn drop(nodes: &mut [u32], k: usize, name: Place, exists: bool) -> usize
     requires { k + own_size ≤ length nodes.old }
-    ensures { (w : Word) → span w ≡ a ∷ n ∷ [] → Appended (own_numbers (plan.drop w exists)) k nodes.old result nodes.new }
+    ensures { (w : Word) → span w ≡ place_numbers name → Appended (own_numbers (plan.drop w exists)) k nodes.old result nodes.new }
 {
-    let x = flag(exists);
-    named(nodes, k, a, n, x)
+    named(nodes, k, name, u32::from(exists))
 }
 
-pub fn delete(nodes: &mut [u32], k: usize, a: u32, n: u32, key: u32) -> usize
+pub fn delete(nodes: &mut [u32], k: usize, name: Place, key: u32) -> usize
     requires { k + own_size ≤ length nodes.old }
-    ensures { (t : Table) (p : Node ℕ) → span t.name ≡ a ∷ n ∷ [] → t.key ≡ key → Appended (own_numbers (delete t p)) k nodes.old result nodes.new }
+    ensures { (t : Table) (p : Node ℕ) → span t.name ≡ place_numbers name → t.key ≡ key → Appended (own_numbers (delete t p)) k nodes.old result nodes.new }
 {
-    named(nodes, k, a, n, key)
+    named(nodes, k, name, key)
 }
 
 // INSERT: 0 for no column map, or one more than its length; then the map.
-pub fn insert(nodes: &mut [u32], k: usize, a: u32, n: u32, columns: u32) -> usize
+pub fn insert(nodes: &mut [u32], k: usize, name: Place, columns: u32) -> usize
     requires { k + own_size ≤ length nodes.old }
-    ensures { (t : Table) → span t.name ≡ a ∷ n ∷ [] → Appended (inserting t columns []) k nodes.old result nodes.new }
+    ensures { (t : Table) → span t.name ≡ place_numbers name → Appended (inserting t columns []) k nodes.old result nodes.new }
 {
-    named(nodes, k, a, n, columns)
+    named(nodes, k, name, columns)
 }
 
 pub fn mapping(nodes: &mut [u32], k: usize, column: u32, value: u32) -> usize
@@ -54,11 +54,11 @@ pub fn mapping(nodes: &mut [u32], k: usize, column: u32, value: u32) -> usize
 }
 
 // UPDATE: the table, and how many sets there are; then each set's column and root.
-pub fn update(nodes: &mut [u32], k: usize, a: u32, n: u32, key: u32, sets: u32) -> usize
+pub fn update(nodes: &mut [u32], k: usize, name: Place, key: u32, sets: u32) -> usize
     requires { k + own_head ≤ length nodes.old }
-    ensures { (t : Table) → span t.name ≡ a ∷ n ∷ [] → t.key ≡ key → Appended (updating t sets []) k nodes.old result nodes.new }
+    ensures { (t : Table) → span t.name ≡ place_numbers name → t.key ≡ key → Appended (updating t sets []) k nodes.old result nodes.new }
 {
-    four(nodes, k, a, n, key, sets)
+    four(nodes, k, name.address, name.length, key, sets)
 }
 
 pub fn set(nodes: &mut [u32], k: usize, column: u32, root: u32) -> usize
@@ -69,34 +69,37 @@ pub fn set(nodes: &mut [u32], k: usize, column: u32, root: u32) -> usize
 }
 
 // CREATE: the table, and how many columns it has; then each column and its default.
-pub fn create(nodes: &mut [u32], k: usize, a: u32, n: u32, key: u32, columns: u32) -> usize
+pub fn create(nodes: &mut [u32], k: usize, name: Place, key: u32, columns: u32) -> usize
     requires { k + own_head ≤ length nodes.old }
-    ensures { (w : Word) → span w ≡ a ∷ n ∷ [] → Appended (creating w key columns []) k nodes.old result nodes.new }
+    ensures { (w : Word) → span w ≡ place_numbers name → Appended (creating w key columns []) k nodes.old result nodes.new }
 {
-    four(nodes, k, a, n, key, columns)
+    four(nodes, k, name.address, name.length, key, columns)
 }
 
-// A column by its name, its type's code, and the table that it refers to, the m bytes at b (0 0 for none).
+// A column by its name, its type's code, and the name of the table that it refers to.
 pub fn column(
     nodes: &mut [u32],
     k: usize,
-    a: u32,
-    n: u32,
+    name: Place,
     code: u32,
     nullable: bool,
     unique: bool,
     index: bool,
-    b: u32,
-    m: u32,
+    reference: Option<Place>,
 ) -> usize
     requires { k + column_size ≤ length nodes.old }
-    ensures { (c : Made) → span c.name ≡ a ∷ n ∷ [] → type_code c.type ≡ code → c.nullable ≡ nullable → c.unique ≡ unique → c.index ≡ index → option_span c.reference ≡ b ∷ m ∷ [] → Appended (column_numbers c) k nodes.old result nodes.new }
+    ensures { (c : Made) → span c.name ≡ place_numbers name → type_code c.type ≡ code → c.nullable ≡ nullable → c.unique ≡ unique → c.index ≡ index → option_span c.reference ≡ option_place reference → Appended (column_numbers c) k nodes.old result nodes.new }
 {
-    let x = flag(nullable);
-    let y = flag(unique);
-    let z = flag(index);
-    let i = four(nodes, k, a, n, code, x);
-    four(nodes, i, y, z, b, m)
+    let i = four(
+        nodes,
+        k,
+        name.address,
+        name.length,
+        code,
+        u32::from(nullable),
+    );
+    let j = pair(nodes, i, u32::from(unique), u32::from(index));
+    place(nodes, j, reference)
 }
 
 // A column's default: its kind and two numbers, all 0 for none.

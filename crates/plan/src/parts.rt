@@ -4,14 +4,17 @@ ghost use Rattle.std.specs.Prelude.{◌≡◌, [], ◌∷◌, ◌+◌, ◌-◌, 
 ghost use Rattle.std.proofs.Math.Option.{Option};
 ghost use Rattle.rules.specs.Lines.{Word};
 ghost use Rattle.rules.specs.Plan.{Aggregate};
-ghost use Rattle.rules.specs.Nodes.{values, aggregate, project, order, remap};
+ghost use Rattle.rules.specs.Nodes.{values, aggregate};
 ghost use Rattle.rules.specs.Area.{option_span, aggregate_code, function_numbers, item_numbers, key_numbers};
 ghost use Rattle.plan.specs.Layout.{nodes_size, record_head, source_head, aggregate_head, length_place, groups_place, function_size, item_size, key_size};
 ghost use Rattle.plan.specs.Appended.{Appended};
+ghost use Rattle.plan.specs.Kinds.{node_number};
+ghost use Rattle.plan.specs.Places.{option_place};
 ghost use Rattle.plan.specs.Records.{opened, over_numbers};
 
-use crate::nodes::{AGGREGATE, ORDER, PROJECT, REMAP, VALUES, flag};
-use crate::pushes::{four, pair, push};
+use crate::nodes::{Kind, head};
+use crate::pushes::{pair, place, push};
+use text::places::Place;
 
 // Where in a record its length stands, and in an aggregate's the number of its groups.
 const LENGTH: usize = 1;
@@ -26,44 +29,24 @@ pub fn begin_values(nodes: &mut [u32], k: usize) -> usize
     requires { k + record_head ≤ length nodes.old }
     ensures { Appended (opened (values [])) k nodes.old result nodes.new }
 {
-    pair(nodes, k, VALUES, 0)
+    head(nodes, k, Kind::Values, 0)
 }
 
 pub fn begin_aggregate(nodes: &mut [u32], k: usize, source: u32) -> usize
     requires { k + aggregate_head ≤ length nodes.old }
     ensures { Appended (opened (aggregate source [] [])) k nodes.old result nodes.new }
 {
-    four(nodes, k, AGGREGATE, 0, source, 0)
+    let i = head(nodes, k, Kind::Aggregate, 0);
+    pair(nodes, i, source, 0)
 }
 
-// A record of a kind over a source.
-fn begin(nodes: &mut [u32], k: usize, kind: u32, source: u32) -> usize
+// A projection, an order or a remap of a source, by the kind.
+pub fn begin(nodes: &mut [u32], k: usize, kind: Kind, source: u32) -> usize
     requires { k + source_head ≤ length nodes.old }
-    ensures { Appended (over_numbers kind source) k nodes.old result nodes.new }
+    ensures { Appended (over_numbers (node_number kind) source) k nodes.old result nodes.new }
 {
-    let i = pair(nodes, k, kind, 0);
+    let i = head(nodes, k, kind, 0);
     push(nodes, i, source)
-}
-
-pub fn begin_project(nodes: &mut [u32], k: usize, source: u32) -> usize
-    requires { k + source_head ≤ length nodes.old }
-    ensures { Appended (opened (project source [])) k nodes.old result nodes.new }
-{
-    begin(nodes, k, PROJECT, source)
-}
-
-pub fn begin_order(nodes: &mut [u32], k: usize, source: u32) -> usize
-    requires { k + source_head ≤ length nodes.old }
-    ensures { Appended (opened (order source [])) k nodes.old result nodes.new }
-{
-    begin(nodes, k, ORDER, source)
-}
-
-pub fn begin_remap(nodes: &mut [u32], k: usize, source: u32) -> usize
-    requires { k + source_head ≤ length nodes.old }
-    ensures { Appended (opened (remap source [])) k nodes.old result nodes.new }
-{
-    begin(nodes, k, REMAP, source)
 }
 
 // PARTS
@@ -75,13 +58,13 @@ pub fn function(nodes: &mut [u32], k: usize, code: u32, root: u32) -> usize
     pair(nodes, k, code, root)
 }
 
-// An item of a projection and its alias, the n bytes at a (0 0 for none).
-pub fn item(nodes: &mut [u32], k: usize, root: u32, a: u32, n: u32) -> usize
+// An item of a projection and its alias.
+pub fn item(nodes: &mut [u32], k: usize, root: u32, alias: Option<Place>) -> usize
     requires { k + item_size ≤ length nodes.old }
-    ensures { (w : Option Word) → option_span w ≡ a ∷ n ∷ [] → Appended (item_numbers ((root, w) ∷ [])) k nodes.old result nodes.new }
+    ensures { (w : Option Word) → option_span w ≡ option_place alias → Appended (item_numbers ((root, w) ∷ [])) k nodes.old result nodes.new }
 {
     let i = push(nodes, k, root);
-    pair(nodes, i, a, n)
+    place(nodes, i, alias)
 }
 
 // A key of an order.
@@ -89,8 +72,7 @@ pub fn key(nodes: &mut [u32], k: usize, root: u32, descending: bool) -> usize
     requires { k + key_size ≤ length nodes.old }
     ensures { Appended (key_numbers ((root, descending) ∷ [])) k nodes.old result nodes.new }
 {
-    let d = flag(descending);
-    pair(nodes, k, root, d)
+    pair(nodes, k, root, u32::from(descending))
 }
 
 // ENDS

@@ -4,6 +4,7 @@ use Rattle.std.proofs.lemmas.Result.{err_from_is_err_and}
 use Rattle.build_clauses.specs.Rows.{rows-missing, rows-refused, offset-number, counted-by}
 use Rattle.rules.specs.Plan as P
 use Rattle.rules.specs.Refusals.{invalid_offset}
+use Rattle.plan.specs.Records.{rows-offset}
 use Rattle.numbers.specs.Reasons.{reason_of}
 use Rattle.build_clauses.proofs.rows.build_offset.Goals as goal
 
@@ -17,4 +18,4 @@ returns-in_err-z c = let p = err_from_is_err_and c.from_residual.result c.from_r
 
 pub returns : goal.returns
 unfolding reason_of
-returns c = offset-number _ c.in-Some.is (counted-by _ _ c.at-invalid.ensures c.row_count.ensures) _ c.in_ok-z.was c.offset-used.ensures
+returns c = offset-number _ c.in-Some.is (counted-by _ _ c.at-invalid.ensures c.row_count.ensures) _ c.in_ok-z.was (rows-offset _ _ c.rows-used.ensures)

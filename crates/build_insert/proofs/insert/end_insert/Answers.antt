@@ -10,4 +10,4 @@ pub finish-requires : goal.finish-requires
 finish-requires c = insert-room c.args.catalog.now c.args.statement.now c.args.a c.args.n _ c.args.m (map_of c.args.columns.now c.args.map) _ c.requires.free c.requires.m_le_most_plan_cells c.put_own-e.ensures
 
 pub returns : goal.returns
-returns c = insert-ends c.args.catalog.now c.args.statement.now c.args.a c.args.n _ c.args.m (map_of c.args.columns.now c.args.map) _ c.requires.free c.requires.m_le_most_plan_cells c.put_own-e.ensures c.length_at-length.ensures c.finish.ensures
+returns c = insert-ends c.args.catalog.now c.args.statement.now c.args.a c.args.n _ c.args.m (map_of c.args.columns.now c.args.map) _ c.requires.free c.requires.m_le_most_plan_cells c.put_own-e.ensures c.length_at.ensures c.finish.ensures

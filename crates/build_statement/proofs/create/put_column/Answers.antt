@@ -6,8 +6,7 @@ use Rattle.build_statement.proofs.create.put_column.Goals as goal
 pub returns : goal.returns
 unfolding made_of
 returns c = λ d. c.column.ensures (made_of c.args.catalog.now c.args.statement.now c.args.e c.args.nullable d)
-    (name-span c.args.catalog.now c.args.statement.now c.args.e _ _ c.name_start-a.ensures c.length_at-n.ensures)
+    (name-span c.args.catalog.now c.args.statement.now c.args.e _ _ c.name_start-a.ensures c.length_at.ensures)
     (sym c.type_code-code.ensures) refl (sym c.is_unique-unique.ensures) (sym (c.is_indexed-index.ensures c.args.catalog.now
     c.args.statement.now))
-    (reference-span c.args.catalog.now c.args.statement.now c.args.e _ _ c.reference_start-b.ensures
-    c.length_at-m.ensures)
+    (reference-span c.args.catalog.now c.args.statement.now c.args.e c.reference-reference.ensures)

@@ -11,7 +11,7 @@ columns-requires c = omega (
   head-in-use c.args.catalog.now c.args.statement.now c.args.cells.now c.args.parts.now _ _ (c.count-count.ensures c.args.catalog.now c.args.statement.now c.args.cells.now)
       (c.create-k.ensures (word c.args.catalog.now c.args.statement.now c.args.cells.now c.args.parts.now)
       (word-span c.args.catalog.now c.args.statement.now c.args.parts.now _ _ _ c.name_address-a.ensures
-      c.name_length.ensures c.length_at-n.ensures)),
+      c.name_length.ensures c.length_at.ensures)),
   c.create-k.auto.nodes,
 )
 
@@ -19,5 +19,5 @@ pub returns : goal.returns
 returns c = table-pushes c.args.catalog.now c.args.statement.now c.args.cells.now c.args.parts.now _ _ (c.count-count.ensures c.args.catalog.now c.args.statement.now c.args.cells.now)
     (c.create-k.ensures (word c.args.catalog.now c.args.statement.now c.args.cells.now c.args.parts.now)
     (word-span c.args.catalog.now c.args.statement.now c.args.parts.now _ _ _ c.name_address-a.ensures
-    c.name_length.ensures c.length_at-n.ensures))
+    c.name_length.ensures c.length_at.ensures))
     c.columns.ensures

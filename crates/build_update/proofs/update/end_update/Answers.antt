@@ -9,18 +9,18 @@ use Rattle.build_update.specs.Updates.{update-head-room, sets-cells-room, sets-n
 use Rattle.build_update.proofs.update.end_update.Goals as goal
 
 pub update-j-requires : goal.update-j-requires
-update-j-requires c = update-head-room c.args.catalog.now c.args.statement.now c.args.tables.now c.args.i c.args.a c.args.n _ _ c.requires.free c.length_at-length.ensures c.scan-k.ensures
+update-j-requires c = update-head-room c.args.catalog.now c.args.statement.now c.args.tables.now c.args.i c.args.a c.args.n _ _ c.requires.free c.length_at.ensures c.scan-k.ensures
 
 pub write_sets-requires : goal.write_sets-requires
 write_sets-requires c = record {
-  room = sets-cells-room c.args.catalog.now c.args.statement.now c.args.tables.now c.args.i c.args.a c.args.n _ _ c.requires.free c.length_at-length.ensures c.scan-k.ensures
+  room = sets-cells-room c.args.catalog.now c.args.statement.now c.args.tables.now c.args.i c.args.a c.args.n _ _ c.requires.free c.length_at.ensures c.scan-k.ensures
       c.count-sets.result c.key-key.ensures c.update-j.ensures c.requires.few_sets;
-  parts_in_bounds = sets-numbers-room c.args.catalog.now c.args.statement.now c.args.tables.now c.args.i c.args.a c.args.n _ _ c.requires.free c.length_at-length.ensures c.scan-k.ensures
+  parts_in_bounds = sets-numbers-room c.args.catalog.now c.args.statement.now c.args.tables.now c.args.i c.args.a c.args.n _ _ c.requires.free c.length_at.ensures c.scan-k.ensures
       c.count-sets.result c.key-key.ensures c.update-j.ensures c.requires.few_sets;
 }
 
 pub finish-requires : goal.finish-requires
-finish-requires c = update-room c.args.catalog.now c.args.statement.now c.args.tables.now c.args.i c.args.a c.args.n _ _ c.requires.free c.length_at-length.ensures c.scan-k.ensures
+finish-requires c = update-room c.args.catalog.now c.args.statement.now c.args.tables.now c.args.i c.args.a c.args.n _ _ c.requires.free c.length_at.ensures c.scan-k.ensures
     c.count-sets.result c.key-key.ensures c.update-j.ensures c.requires.few_sets
     (scope_at c.args.catalog.now c.args.statement.now c.args.cells.now
     (take c.args.width c.args.labels.now) (take c.args.width c.args.matches.now) (take c.args.count c.args.names.now) 0)
@@ -28,7 +28,7 @@ finish-requires c = update-room c.args.catalog.now c.args.statement.now c.args.t
     (c.write_sets.ensures 0) _ c.in_ok-written.was
 
 pub returns : goal.returns
-returns c = λ h. update-ends c.args.catalog.now c.args.statement.now c.args.tables.now c.args.i c.args.a c.args.n _ _ c.requires.free c.length_at-length.ensures c.scan-k.ensures
+returns c = λ h. update-ends c.args.catalog.now c.args.statement.now c.args.tables.now c.args.i c.args.a c.args.n _ _ c.requires.free c.length_at.ensures c.scan-k.ensures
     c.count-sets.result c.key-key.ensures c.update-j.ensures c.requires.few_sets
     (scope_at c.args.catalog.now c.args.statement.now c.args.cells.now
     (take c.args.width c.args.labels.now) (take c.args.width c.args.matches.now) (take c.args.count c.args.names.now) h)
@@ -36,7 +36,7 @@ returns c = λ h. update-ends c.args.catalog.now c.args.statement.now c.args.tab
     (c.write_sets.ensures h) _ c.in_ok-written.was c.finish.auto.area c.finish.ensures
 
 pub returns-in_err-written : goal.returns-in_err-written
-returns-in_err-written c = λ h. rw (exit c.from_residual.result c.from_residual.ensures.1) (update-stops c.args.catalog.now c.args.statement.now c.args.tables.now c.args.i c.args.a c.args.n _ _ c.requires.free c.length_at-length.ensures c.scan-k.ensures
+returns-in_err-written c = λ h. rw (exit c.from_residual.result c.from_residual.ensures.1) (update-stops c.args.catalog.now c.args.statement.now c.args.tables.now c.args.i c.args.a c.args.n _ _ c.requires.free c.length_at.ensures c.scan-k.ensures
     c.count-sets.result c.key-key.ensures c.update-j.ensures c.requires.few_sets
     (scope_at c.args.catalog.now c.args.statement.now c.args.cells.now
     (take c.args.width c.args.labels.now) (take c.args.width c.args.matches.now) (take c.args.count c.args.names.now) h)

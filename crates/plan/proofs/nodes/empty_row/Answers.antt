@@ -5,4 +5,4 @@ use Rattle.plan.proofs.nodes.empty_row.Goals as goal
 
 pub returns : goal.returns
 unfolding record_numbers sized row_numbers
-returns c = appended-on c.pair-i.ensures c.push.ensures
+returns c = appended-on c.head-i.ensures c.push.ensures

@@ -1,4 +1,5 @@
 -- `column`: the numbers of a column but for its default.
+use Rattle.plan.proofs.Flags.{byte-flag}
 use Rattle.plan.specs.Appended.{appended-on, appended-as}
 use Rattle.plan.specs.Own.{column_numbers}
 use Rattle.plan.proofs.own.column.Goals as goal
@@ -12,8 +13,11 @@ returns c = λ d e f g h i j. appended-as (rw (
   h,
   i,
   j,
-  c.flag-x.ensures,
-  c.flag-y.ensures,
-  c.flag-z.ensures,
+  c.from.ensures,
+  byte-flag c.args.nullable,
+  c.from-2.ensures,
+  byte-flag c.args.unique,
+  c.from-3.ensures,
+  byte-flag c.args.index,
 ))
-    (appended-on c.four-i.ensures c.four.ensures)
+    (appended-on (appended-on c.four-i.ensures c.pair-j.ensures) c.place.ensures)

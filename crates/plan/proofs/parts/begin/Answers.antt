@@ -3,4 +3,4 @@ use Rattle.plan.specs.Appended.{appended-on}
 use Rattle.plan.proofs.parts.begin.Goals as goal
 
 pub returns : goal.returns
-returns c = appended-on c.pair-i.ensures c.push.ensures
+returns c = appended-on c.head-i.ensures c.push.ensures

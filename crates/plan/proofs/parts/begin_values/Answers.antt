@@ -5,4 +5,4 @@ use Rattle.plan.proofs.parts.begin_values.Goals as goal
 
 pub returns : goal.returns
 unfolding opened unsized record_numbers sized row_numbers
-returns c = c.pair.ensures
+returns c = c.head.ensures

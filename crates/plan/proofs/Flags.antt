@@ -1,0 +1,10 @@
+-- A flag as a number.
+use mathlib.Core.Bool.{Bool}
+use mathlib.Core.Path.{◌≡◌}
+use native.Mathlib.Omega.{arith}
+use mir.Val.{bool_byte}
+use Rattle.rules.specs.Area.{flag}
+
+pub byte-flag : (b : Bool) → bool_byte b ≡ flag b
+unfolding flag
+byte-flag b = grind arith
