@@ -4,6 +4,7 @@ pub mod Words
 pub mod Decimals
 pub mod Lines
 pub mod Choices
+pub mod Places
 pub mod Cells
 pub mod Nodes
 pub mod Rows

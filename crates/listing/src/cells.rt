@@ -2,11 +2,13 @@
 ghost use Rattle.std.specs.Prelude.{◌≡◌, drop};
 ghost use Rattle.listing.specs.Fields.{FieldsIn};
 ghost use Rattle.listing.specs.Lines.{LinesIn};
+ghost use Rattle.listing.specs.Places.{place_at};
 ghost use Rattle.listing.specs.Cells.{value_rest, cell_fields, cell_line, cell_lines};
 
 use crate::put::Writer;
 use numbers::halves::joined;
 use numbers::number;
+use text::places::Place;
 
 // Kinds of cells: the constants that have something behind the kind, the first that is no constant, the tests for null and
 // NaN, and the first with two operands.
@@ -37,6 +39,17 @@ pub fn tail(s: &[u32], p: usize) -> &[u32]
     &s[p.min(s.len())..]
 }
 
+// The place whose address is the number at p, and its length the one behind that.
+pub fn place_at(s: &[u32], p: usize) -> Place
+    ensures { result ≡ place_at s.now p }
+{
+    let from = tail(s, p);
+    Place {
+        address: number(from, 0),
+        length: number(from, 1),
+    }
+}
+
 impl<'a> Writer<'a> {
     // What stands behind a constant's kind k.
     pub fn constant(&mut self, k: u32, s: &[u32])
@@ -48,7 +61,10 @@ impl<'a> Writer<'a> {
             BOOL => self.word(b"f t ", a),
             INTEGER => self.integer(joined(a, b)),
             FLOAT => self.bits(joined(a, b)),
-            TEXT => self.place(a, b),
+            TEXT => self.place(Place {
+                address: a,
+                length: b,
+            }),
             _ => {}
         }
     }

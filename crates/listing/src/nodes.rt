@@ -5,31 +5,11 @@ ghost use Rattle.listing.specs.Lines.{LinesIn};
 ghost use Rattle.listing.specs.Nodes.{scan_fields, join_fields, filter_fields, aggregate_fields, project_fields};
 ghost use Rattle.listing.specs.Nodes.{order_fields, limit_fields, remap_fields, node_rest, node_line, node_lines};
 
-use crate::cells::{CELL, HEADER, tail};
+use crate::cells::{CELL, HEADER, place_at, tail};
 use crate::put::Writer;
 use numbers::halves::joined;
 use numbers::number;
-
-// Kinds of nodes.
-const SCAN: u32 = 1;
-
-const VALUES: u32 = 2;
-
-const JOIN: u32 = 3;
-
-const FILTER: u32 = 4;
-
-const AGGREGATE: u32 = 5;
-
-const PROJECT: u32 = 6;
-
-const ORDER: u32 = 7;
-
-const OFFSET: u32 = 8;
-
-const LIMIT: u32 = 9;
-
-const REMAP: u32 = 10;
+use plan::nodes::Kind;
 
 // The first n numbers, or as many as there are.
 fn front(s: &[u32], n: usize) -> &[u32]
@@ -49,8 +29,8 @@ impl<'a> Writer<'a> {
     fn scan(&mut self, s: &[u32])
         ensures { FieldsIn self.old self.new (λ c q. scan_fields c q s.now) }
     {
-        self.place(number(s, 0), number(s, 1));
-        self.alias(number(s, 3), number(s, 4));
+        self.place(place_at(s, 0));
+        self.alias(place_at(s, 3));
         self.given(number(s, 2));
     }
 
@@ -108,22 +88,24 @@ impl<'a> Writer<'a> {
         self.targets(tail(s, 1));
     }
 
-    // What stands behind a node's kind k.
+    // What stands behind the number k of a node's kind.
     fn node_rest(&mut self, k: u32, s: &[u32])
         ensures { FieldsIn self.old self.new (λ c q. node_rest c q k s.now) }
     {
-        match k {
-            SCAN => self.scan(s),
-            VALUES => self.rows(s),
-            JOIN => self.join(s),
-            FILTER => self.filter(s),
-            AGGREGATE => self.aggregate(s),
-            PROJECT => self.project(s),
-            ORDER => self.order(s),
-            OFFSET => self.limit(s),
-            LIMIT => self.limit(s),
-            REMAP => self.remap(s),
-            _ => {}
+        let Some(kind) = Kind::from_number(k) else {
+            return;
+        };
+        match kind {
+            Kind::Scan => self.scan(s),
+            Kind::Values => self.rows(s),
+            Kind::Join => self.join(s),
+            Kind::Filter => self.filter(s),
+            Kind::Aggregate => self.aggregate(s),
+            Kind::Project => self.project(s),
+            Kind::Order => self.order(s),
+            Kind::Offset => self.limit(s),
+            Kind::Limit => self.limit(s),
+            Kind::Remap => self.remap(s),
         }
     }
 

@@ -5,20 +5,11 @@ ghost use Rattle.listing.specs.Own.{name_line, table_line, pair_line, pair_lines
 ghost use Rattle.listing.specs.Own.{default_line, column_lines, columns_lines, drop_line, create_lines, insert_lines};
 ghost use Rattle.listing.specs.Own.{update_lines, own_lines};
 
-use crate::cells::tail;
+use crate::cells::{place_at, tail};
 use crate::put::{Writer, nth_word};
 use numbers::number;
-
-// Kinds of statements with lines of their own.
-const CREATE: u32 = 2;
-
-const DROP: u32 = 3;
-
-const DELETE: u32 = 4;
-
-const INSERT: u32 = 5;
-
-const UPDATE: u32 = 6;
+use plan::finish::Kind;
+use text::places::Place;
 
 // How many numbers a created column has, and where its default stands among them.
 const COLUMN: usize = 12;
@@ -31,7 +22,7 @@ impl<'a> Writer<'a> {
         ensures { LinesIn self.old self.new (λ c q. name_line c q first.now n s.now) }
     {
         self.bytes(first);
-        self.place(number(s, 0), number(s, 1));
+        self.place(place_at(s, 0));
         self.number(n);
         self.byte(b'\n');
     }
@@ -41,7 +32,7 @@ impl<'a> Writer<'a> {
         ensures { LinesIn self.old self.new (λ c q. table_line c q first.now n s.now) }
     {
         self.bytes(first);
-        self.place(number(s, 0), number(s, 1));
+        self.place(place_at(s, 0));
         self.number(number(s, 2));
         self.number(n);
         self.byte(b'\n');
@@ -79,13 +70,13 @@ impl<'a> Writer<'a> {
     }
 
     // A reference, where there is one.
-    fn reference(&mut self, a: u32, n: u32)
-        ensures { FieldsIn self.old self.new (λ c q. reference_fields c q a n) }
+    fn reference(&mut self, reference: Place)
+        ensures { FieldsIn self.old self.new (λ c q. reference_fields c q reference.address reference.length) }
     {
-        if n == 0 {
+        if reference.length == 0 {
             return;
         }
-        self.place(a, n);
+        self.place(reference);
     }
 
     // The line of a created column.
@@ -93,12 +84,12 @@ impl<'a> Writer<'a> {
         ensures { LinesIn self.old self.new (λ c q. column_line c q s.now) }
     {
         self.bytes(b"column");
-        self.place(number(s, 0), number(s, 1));
+        self.place(place_at(s, 0));
         self.word(b" bool int float text ", number(s, 2));
         self.word(b"notnull null ", number(s, 3));
         self.word(b"- unique ", number(s, 4));
         self.word(b"- index ", number(s, 5));
-        self.reference(number(s, 6), number(s, 7));
+        self.reference(place_at(s, 6));
         self.byte(b'\n');
     }
 
@@ -132,7 +123,7 @@ impl<'a> Writer<'a> {
         ensures { LinesIn self.old self.new (λ c q. drop_line c q s.now) }
     {
         self.bytes(b"drop");
-        self.place(number(s, 0), number(s, 1));
+        self.place(place_at(s, 0));
         self.word(b"no yes ", number(s, 2));
         self.byte(b'\n');
     }
@@ -158,17 +149,20 @@ impl<'a> Writer<'a> {
         self.pairs(b"set", number(s, 3), tail(s, 4));
     }
 
-    // By the statement's kind k, its source n and its own numbers.
+    // By the number k of the statement's kind, its source n and its own numbers.
     pub fn own(&mut self, k: u32, n: u32, s: &[u32])
         ensures { LinesIn self.old self.new (λ c q. own_lines c q k n s.now) }
     {
-        match k {
-            CREATE => self.create(s),
-            DROP => self.dropped(s),
-            DELETE => self.table_line(b"delete", n, s),
-            INSERT => self.insert(n, s),
-            UPDATE => self.update(n, s),
-            _ => {}
+        let Some(kind) = Kind::from_number(k) else {
+            return;
+        };
+        match kind {
+            Kind::Select => {}
+            Kind::Create => self.create(s),
+            Kind::Drop => self.dropped(s),
+            Kind::Delete => self.table_line(b"delete", n, s),
+            Kind::Insert => self.insert(n, s),
+            Kind::Update => self.update(n, s),
         }
     }
 }

@@ -7,21 +7,22 @@ ghost use Rattle.listing.specs.Nodes.{item_fields, items_fields, key_fields, key
 ghost use Rattle.listing.specs.Nodes.{row_fields};
 ghost use Rattle.listing.specs.Rows.{row_field};
 
-use crate::cells::tail;
+use crate::cells::{place_at, tail};
 use crate::put::Writer;
 use numbers::number;
+use text::places::Place;
 
 // The loops below differ in one call: a function that takes it as a closure is no plainer.
 impl<'a> Writer<'a> {
     // An alias, where there is one.
-    pub fn alias(&mut self, a: u32, n: u32)
-        ensures { FieldsIn self.old self.new (λ c q. alias_fields c q a n) }
+    pub fn alias(&mut self, alias: Place)
+        ensures { FieldsIn self.old self.new (λ c q. alias_fields c q alias.address alias.length) }
     {
-        if n == 0 {
+        if alias.length == 0 {
             return;
         }
         self.field(b"as");
-        self.place(a, n);
+        self.place(alias);
     }
 
     // A number that stands as one more than it is, where there is one.
@@ -64,7 +65,7 @@ impl<'a> Writer<'a> {
         ensures { FieldsIn self.old self.new (λ c q. item_fields c q 0 s.now) }
     {
         self.number(number(s, 0));
-        self.alias(number(s, 1), number(s, 2));
+        self.alias(place_at(s, 1));
     }
 
     pub fn items(&mut self, s: &[u32])

@@ -7,7 +7,7 @@ ghost use Rattle.numbers.specs.Bits.{signed};
 ghost use Rattle.listing.specs.Put.{Puts};
 ghost use Rattle.listing.specs.Fields.{Fields, FieldsIn};
 
-use text::MOST_BYTES;
+use text::places::{Place, bytes_at};
 
 // A window, how many bytes there are from the next one to the window's end, and the two texts that addresses point into. Bytes
 // before the window, and those behind it, are passed over.
@@ -100,15 +100,11 @@ impl<'a> Writer<'a> {
         self.field(nth_word(words, k));
     }
 
-    // The field of the n bytes at an address of the texts, or as many of them as there are.
-    pub fn place(&mut self, a: u32, n: u32)
-        ensures { FieldsIn self.old self.new (λ c q. bytes_at c q a n ∷ []) }
+    // The field of the bytes at a place of the texts, or as many of them as there are.
+    pub fn place(&mut self, place: Place)
+        ensures { FieldsIn self.old self.new (λ c q. bytes_at c q place.address place.length ∷ []) }
     {
-        if a < MOST_BYTES {
-            return self.field(text::part(self.catalog, a as usize, n as usize));
-        }
-        let b = a - MOST_BYTES;
-        self.field(text::part(self.statement, b as usize, n as usize));
+        self.field(bytes_at(self.catalog, self.statement, place.address, place.length));
     }
 }
 

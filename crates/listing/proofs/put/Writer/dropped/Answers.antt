@@ -7,4 +7,4 @@ use Rattle.listing.proofs.put.Writer.dropped.Goals as goal
 
 pub returns : goal.returns
 unfolding drop_line bytes
-returns c = lines_same (line c.bytes.ensures (fields-then c.place.ensures c.word.ensures) c.byte.ensures) (λ d q. cc)
+returns c = lines_same (line c.bytes.ensures (fields-then c.place.ensures c.word.ensures) c.byte.ensures) (λ d q. rw (c.place_at.ensures, c.number.ensures))

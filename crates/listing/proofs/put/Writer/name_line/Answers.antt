@@ -6,4 +6,4 @@ use Rattle.listing.proofs.put.Writer.name_line.Goals as goal
 
 pub returns : goal.returns
 unfolding name_line
-returns c = lines_same (line c.bytes.ensures (fields-then c.place.ensures c.number-3.ensures) c.byte.ensures) (λ d q. cc)
+returns c = lines_same (line c.bytes.ensures (fields-then c.place.ensures c.number.ensures) c.byte.ensures) (λ d q. rw c.place_at.ensures)

@@ -1,50 +1,51 @@
 -- `node_rest`: by the kind.
-use Rattle.std.proofs.Common.{rules}
+use Rattle.plan.specs.declared.nodes.Kind.TheVariants as K
 use Rattle.listing.specs.Fields.{fields-same, fields-none}
 use Rattle.listing.specs.Choices.{choose, choose-none, Misses}
 use Rattle.listing.specs.Nodes.{node_rest}
 use Rattle.listing.proofs.put.Writer.node_rest.Goals as goal
 
-pub returns-in-1 : goal.returns-in-1
+pub returns-in-Scan : goal.returns-in-Scan
 unfolding node_rest choose
-returns-in-1 c = rw c.in-1.is c.scan.ensures
+returns-in-Scan c = rw (c.from_number.ensures.kind _ c.in-Some.is, c.in-Scan.is) c.scan.ensures
 
-pub returns-in-2 : goal.returns-in-2
+pub returns-in-Values : goal.returns-in-Values
 unfolding node_rest choose
-returns-in-2 c = rw c.in-2.is c.rows.ensures
+returns-in-Values c = rw (c.from_number.ensures.kind _ c.in-Some.is, c.in-Values.is) c.rows.ensures
 
-pub returns-in-3 : goal.returns-in-3
+pub returns-in-Join : goal.returns-in-Join
 unfolding node_rest choose
-returns-in-3 c = rw c.in-3.is c.join.ensures
+returns-in-Join c = rw (c.from_number.ensures.kind _ c.in-Some.is, c.in-Join.is) c.join.ensures
 
-pub returns-in-4 : goal.returns-in-4
+pub returns-in-Filter : goal.returns-in-Filter
 unfolding node_rest choose
-returns-in-4 c = rw c.in-4.is c.filter.ensures
+returns-in-Filter c = rw (c.from_number.ensures.kind _ c.in-Some.is, c.in-Filter.is) c.filter.ensures
 
-pub returns-in-5 : goal.returns-in-5
+pub returns-in-Aggregate : goal.returns-in-Aggregate
 unfolding node_rest choose
-returns-in-5 c = rw c.in-5.is c.aggregate.ensures
+returns-in-Aggregate c = rw (c.from_number.ensures.kind _ c.in-Some.is, c.in-Aggregate.is) c.aggregate.ensures
 
-pub returns-in-6 : goal.returns-in-6
+pub returns-in-Project : goal.returns-in-Project
 unfolding node_rest choose
-returns-in-6 c = rw c.in-6.is c.project.ensures
+returns-in-Project c = rw (c.from_number.ensures.kind _ c.in-Some.is, c.in-Project.is) c.project.ensures
 
-pub returns-in-7 : goal.returns-in-7
+pub returns-in-Order : goal.returns-in-Order
 unfolding node_rest choose
-returns-in-7 c = rw c.in-7.is c.order.ensures
+returns-in-Order c = rw (c.from_number.ensures.kind _ c.in-Some.is, c.in-Order.is) c.order.ensures
 
-pub returns-in-8 : goal.returns-in-8
+pub returns-in-Offset : goal.returns-in-Offset
 unfolding node_rest choose
-returns-in-8 c = rw c.in-8.is c.limit.ensures
+returns-in-Offset c = rw (c.from_number.ensures.kind _ c.in-Some.is, c.in-Offset.is) c.limit.ensures
 
-pub returns-in-9 : goal.returns-in-9
+pub returns-in-Limit : goal.returns-in-Limit
 unfolding node_rest choose
-returns-in-9 c = rw c.in-9.is c.limit-in-9.ensures
+returns-in-Limit c = rw (c.from_number.ensures.kind _ c.in-Some.is, c.in-Limit.is) c.limit-in-Limit.ensures
 
-pub returns-in-10 : goal.returns-in-10
+pub returns-in-Remap : goal.returns-in-Remap
 unfolding node_rest choose
-returns-in-10 c = rw c.in-10.is c.remap.ensures
+returns-in-Remap c = rw (c.from_number.ensures.kind _ c.in-Some.is, c.in-Remap.is) c.remap.ensures
 
 pub returns-in_default : goal.returns-in_default
 unfolding node_rest Misses
-returns-in_default c = fields-same fields-none (λ d q. choose-none _ _ _ (search rules))
+returns-in_default c = let n = c.from_number.ensures.none c.in_default.is in
+    fields-same fields-none (λ d q. choose-none _ _ _ (n K.Scan, (n K.Values, (n K.Join, (n K.Filter, (n K.Aggregate, (n K.Project, (n K.Order, (n K.Offset, (n K.Limit, (n K.Remap, tt)))))))))))

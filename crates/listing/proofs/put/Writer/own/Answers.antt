@@ -1,31 +1,36 @@
 -- `own`: by the statement's kind.
-use Rattle.std.proofs.Common.{rules}
+use Rattle.plan.specs.declared.finish.Kind.TheVariants as K
 use Rattle.rules.specs.Lines.{bytes}
 use Rattle.listing.specs.Lines.{lines_same, lines_none}
 use Rattle.listing.specs.Choices.{choose, choose-none, Misses}
 use Rattle.listing.specs.Own.{own_lines}
 use Rattle.listing.proofs.put.Writer.own.Goals as goal
 
-pub returns-in-2 : goal.returns-in-2
+pub returns-in-Select : goal.returns-in-Select
 unfolding own_lines choose
-returns-in-2 c = rw c.in-2.is c.create.ensures
+returns-in-Select c = rw (c.from_number.ensures.kind _ c.in-Some.is, c.in-Select.is) lines_none
 
-pub returns-in-3 : goal.returns-in-3
-unfolding own_lines choose
-returns-in-3 c = rw c.in-3.is c.dropped.ensures
-
-pub returns-in-4 : goal.returns-in-4
+pub returns-in-Create : goal.returns-in-Create
 unfolding own_lines choose bytes
-returns-in-4 c = rw c.in-4.is c.table_line.ensures
+returns-in-Create c = rw (c.from_number.ensures.kind _ c.in-Some.is, c.in-Create.is) c.create.ensures
 
-pub returns-in-5 : goal.returns-in-5
-unfolding own_lines choose
-returns-in-5 c = rw c.in-5.is c.insert.ensures
+pub returns-in-Drop : goal.returns-in-Drop
+unfolding own_lines choose bytes
+returns-in-Drop c = rw (c.from_number.ensures.kind _ c.in-Some.is, c.in-Drop.is) c.dropped.ensures
 
-pub returns-in-6 : goal.returns-in-6
-unfolding own_lines choose
-returns-in-6 c = rw c.in-6.is c.update.ensures
+pub returns-in-Delete : goal.returns-in-Delete
+unfolding own_lines choose bytes
+returns-in-Delete c = rw (c.from_number.ensures.kind _ c.in-Some.is, c.in-Delete.is) c.table_line.ensures
+
+pub returns-in-Insert : goal.returns-in-Insert
+unfolding own_lines choose bytes
+returns-in-Insert c = rw (c.from_number.ensures.kind _ c.in-Some.is, c.in-Insert.is) c.insert.ensures
+
+pub returns-in-Update : goal.returns-in-Update
+unfolding own_lines choose bytes
+returns-in-Update c = rw (c.from_number.ensures.kind _ c.in-Some.is, c.in-Update.is) c.update.ensures
 
 pub returns-in_default : goal.returns-in_default
 unfolding own_lines Misses
-returns-in_default c = lines_same lines_none (λ d q. choose-none _ _ _ (search rules))
+returns-in_default c = let n = c.from_number.ensures.none c.in_default.is in
+    lines_same lines_none (λ d q. choose-none _ _ _ (n K.Create, (n K.Drop, (n K.Delete, (n K.Insert, (n K.Update, tt))))))

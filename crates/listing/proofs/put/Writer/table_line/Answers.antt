@@ -6,4 +6,4 @@ use Rattle.listing.proofs.put.Writer.table_line.Goals as goal
 
 pub returns : goal.returns
 unfolding table_line
-returns c = lines_same (line c.bytes.ensures (fields-then c.place.ensures (fields-then c.number-4.ensures c.number-5.ensures)) c.byte.ensures) (λ d q. cc)
+returns c = lines_same (line c.bytes.ensures (fields-then c.place.ensures (fields-then c.number-2.ensures c.number-3.ensures)) c.byte.ensures) (λ d q. rw (c.place_at.ensures, c.number.ensures))
