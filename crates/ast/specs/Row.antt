@@ -1,24 +1,23 @@
 -- The numbers of a row by name, and the tree at a row by the kind of its record: in every table and at every row.
 use Rattle.std.specs.Prelude.{ℕ, suc, ◌+◌, ◌≤◌, ◌<◌, ◌≡◌, refl, Bool, true, false, List, [], ◌∷◌, eqb, ltb}
-use Rattle.std.proofs.Common.{arith, sym, ap, ◌∙◌, ltb-true, ltb-false, ne_eqb}
+use Rattle.std.proofs.Common.{arith, sym, ap, ◌∙◌, ltb-true, ltb-false}
 use Rattle.std.proofs.Math.Option.{none, some}
 use Rattle.rules.specs.Lists.{Bytes}
 use Rattle.rules.specs.Lines.{Word}
 use Rattle.rules.specs.Places.{word_at}
 use Rattle.rules.specs.Codes.{unary_code, plain_code, binary_code}
-use Rattle.rules.specs.Schema.{Value, null, bool, int, float, text}
+use Rattle.rules.specs.Schema.{Value}
 use Rattle.rules.specs.Ast.{Unary, not, fact, ident, neg, sqrt, Plain, and, or, eq, gt, lt, add, div, pow, mul, rem, sub, like, Binary, plain, ge, le, ne}
 use Rattle.rules.specs.Ast.{Expr, star, column, literal, call, unary, binary, is, line_of}
-use Rattle.numbers.specs.Bits.{joined, signed}
 use Rattle.numbers.specs.Codes.{or_least, count_from, coded, coded-map, coded-least, least-below, least_above, least-between}
-use Rattle.numbers.specs.Values.{is_one, value_at}
+use Rattle.numbers.specs.Literals.{literal_value, numbered, numbered-value}
+use Rattle.numbers.specs.Values.{value_at}
+use Rattle.numbers.specs.declared.literals.Literal.{Literal}
 use Rattle.ast.specs.Table.{at, rows_at, unary_at, binary_at, arguments_at, tree_by, tree_at}
 use Rattle.ast.specs.Operands.{kind_of, kind_at, kind-at, tree-column, tree-qualified, tree-call, tree-unary}
 use Rattle.ast.specs.Operands.{tree-binary, tree_is, tree-literal, tree-at}
 use Rattle.ast.specs.declared.row.Kind.{Kind}
 use Rattle.ast.specs.declared.row.Kind.TheVariants as K
-use Rattle.ast.specs.declared.row.LiteralKind.{LiteralKind}
-use Rattle.ast.specs.declared.row.LiteralKind.TheVariants as L
 
 -- THE NUMBERS
 abbrev pub line_at : List ℕ → ℕ → ℕ
@@ -247,40 +246,9 @@ binary-back le = refl
 binary-back ne = refl
 
 -- LITERALS
-unfoldable pub literal_kind_of : ℕ → LiteralKind
-literal_kind_of k = coded L.Null (L.Null ∷ L.Bool ∷ L.Int ∷ L.Float ∷ L.Text ∷ []) 1 k
+abbrev pub literal_at : List ℕ → ℕ → Literal
+literal_at t r = numbered (literal_number t r) (literal_first t r) (literal_second t r)
 
-coded-end : {A : Type 0} (d : A) (n k : ℕ) → coded d [] n k ≡ d
-unfolding coded
-coded-end d n k = refl
-
--- a number that is not the first code, and the default as the first code
-coded-next : {A : Type 0} (d x : A) (xs : List A) (n k : ℕ) → (k ≡ n → ⊥) → coded d (x ∷ xs) n k ≡ coded d xs (suc n) k
-unfolding coded
-coded-next d x xs n k h = rw (coded, ne_eqb n k (λ e. h (sym e)))
-
-coded-first : {A : Type 0} (d : A) (xs : List A) (n k : ℕ) → coded d xs (suc n) k ≡ d → coded d (d ∷ xs) n k ≡ d
-unfolding coded
-coded-first d xs n k h = pick (eqb n k)
-  where
-    pick : (b : Bool) → elim b [ true ↦ d | false ↦ coded d xs (suc n) k ] ≡ d
-    pick true = refl
-    pick false = h
-
-pub literal-rest : (k : ℕ) → (k ≡ 2 → ⊥) → (k ≡ 3 → ⊥) → (k ≡ 4 → ⊥) → (k ≡ 5 → ⊥) → L.Null ≡ literal_kind_of k
-unfolding literal_kind_of
-literal-rest k a b c d = sym (coded-first L.Null (L.Bool ∷ L.Int ∷ L.Float ∷ L.Text ∷ []) 1 k
-    (coded-next _ _ _ 2 k a ∙ coded-next _ _ _ 3 k b ∙ coded-next _ _ _ 4 k c ∙ coded-next _ _ _ 5 k d
-    ∙ coded-end L.Null 6 k))
-
--- what a kind and two numbers stand for
-unfoldable pub literal_of : LiteralKind → Bytes → Bytes → ℕ → ℕ → Value
-literal_of L.Null c q a b = null
-literal_of L.Bool c q a b = bool (is_one a)
-literal_of L.Int c q a b = int (signed (joined a b))
-literal_of L.Float c q a b = float (joined a b)
-literal_of L.Text c q a b = text (word_at c q a b)
-
-pub value-kind : (c q : Bytes) (k a b : ℕ) → value_at c q k a b ≡ literal_of (literal_kind_of k) c q a b
-unfolding value_at literal_kind_of literal_of
-value-kind c q k a b = sym (coded-map (λ (l : LiteralKind). literal_of l c q a b) _ _ 1 k)
+-- what was read from a row is its literal
+pub row-literal : (c q : Bytes) (t : List ℕ) (r : ℕ) {l : Literal} → l ≡ literal_at t r → literal_value c q l ≡ row_literal c q t r
+row-literal c q t r e = rw e (sym (numbered-value c q _ _ _))

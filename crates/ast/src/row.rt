@@ -7,6 +7,7 @@ ghost use Rattle.ast.specs.Operands.{kind_at};
 ghost use Rattle.ast.specs.Row as row;
 
 use crate::rows::at;
+use numbers::literals::{Literal, LiteralKind};
 use numbers::operators::{Binary, Unary};
 use text::places::Place;
 
@@ -20,15 +21,6 @@ pub enum Kind {
     Binary,
     Is,
     Literal,
-}
-
-#[derive(Clone, Copy, Debug, PartialEq, Eq)]
-pub enum LiteralKind {
-    Null,
-    Bool,
-    Int,
-    Float,
-    Text,
 }
 
 // The kind of the record at a row; a star where the number is none.
@@ -98,34 +90,12 @@ pub fn binary_operator(table: &[u32], r: usize) -> Binary
     Binary::of_code(at(table, r, 3)).unwrap_or(Binary::And)
 }
 
-// A literal's number for its kind, and its two numbers.
-pub fn literal_number(table: &[u32], r: usize) -> u32
-    ensures { result ≡ row.literal_number table.now r }
+pub fn literal(table: &[u32], r: usize) -> Literal
+    ensures { result ≡ row.literal_at table.now r }
 {
-    at(table, r, 3)
-}
-
-pub fn literal_first(table: &[u32], r: usize) -> u32
-    ensures { result ≡ row.literal_first table.now r }
-{
-    at(table, r, 4)
-}
-
-pub fn literal_second(table: &[u32], r: usize) -> u32
-    ensures { result ≡ row.literal_second table.now r }
-{
-    at(table, r, 5)
-}
-
-// The kind of literal that a number stands for.
-pub fn literal_kind(k: u32) -> LiteralKind
-    ensures { result ≡ row.literal_kind_of k }
-{
-    match k {
-        2 => LiteralKind::Bool,
-        3 => LiteralKind::Int,
-        4 => LiteralKind::Float,
-        5 => LiteralKind::Text,
-        _ => LiteralKind::Null,
+    Literal {
+        kind: LiteralKind::of_number(at(table, r, 3)),
+        first: at(table, r, 4),
+        second: at(table, r, 5),
     }
 }

@@ -23,8 +23,9 @@ use Rattle.appends.specs.Lists.Entry.{emit_second}
 use Rattle.appends.specs.Lists.Functions.{emit_operand, operand-star, operand-other, function-step, function-argument}
 use Rattle.appends.specs.Lists.Functions.{function-nested, function-none, function-more}
 use Rattle.ast.specs.Table.{row_size, arguments_at, tree_at}
-use Rattle.numbers.specs.Codes.{coded}
-use Rattle.numbers.specs.Values.{is_one, value_at}
+use Rattle.numbers.specs.Literals.{literal_of}
+use Rattle.numbers.specs.Values.{is_one}
+use Rattle.numbers.specs.declared.literals.LiteralKind.TheVariants as L
 use Rattle.ast.specs.Operands.{kind_of, kind_at, kind-at, tree-at, operands-inside, operands-call}
 use Rattle.ast.specs.Row as row
 use Rattle.ast.specs.Row.{line_at, row_name, first_operand, number_of, call-row}
@@ -167,9 +168,9 @@ counted-star s n sum e h = absurd (true-false h)
 
 module _ (c q : Bytes) (t xs ms ts : List ℕ) (g : Aggregate) (r n : ℕ) (area area' : List ℕ) where
   pub operand-constant : starred g (tree_at c q t r) ≡ true
-      → Puts n (C.constant (value_at c q 2 1 0) ∷ []) area area'
+      → Puts n (C.constant (literal_of L.Bool c q 1 0) ∷ []) area area'
       → OperandBuilds c q t xs ms ts g r n area area' (Ok (n + 1))
-  unfolding value_at coded is_one
+  unfolding literal_of is_one
   operand-constant e p = record { is = λ h. accepts (n + 1) p refl (counted-star _ n g _ e) }
 
   pub operand-built : (x : Written) → starred g (tree_at c q t r) ≡ false → Builds c q t xs ms ts r n area area' x

@@ -11,11 +11,16 @@ ghost use Rattle.build_aggregate.specs.Functions.{called_of, Calls, starred, Ope
 use ast::aggregates::{Aggregate, is_aggregate};
 use ast::{row, rows, walk};
 use build_expression::build_expression;
+use numbers::literals::{Literal, LiteralKind};
 use numbers::refusals::{Reason, Refusal};
 use plan::cells;
 
-// The kind of a literal that is true or false.
-const BOOL: u32 = 2;
+// What `count(*)` counts: the constant true.
+const TRUE: Literal = Literal {
+    kind: LiteralKind::Bool,
+    first: 1,
+    second: 0,
+};
 
 // The number of `count` in the plan.
 const COUNT: u32 = 2;
@@ -77,7 +82,7 @@ fn argument<'t, 'a>(
         (aggregate_of aggregate) r n area.old area.new result }
 {
     if takes_star(table, r, aggregate) {
-        cells::constant(catalog, statement, area, n, BOOL, 1, 0);
+        cells::constant(catalog, statement, area, n, TRUE);
         return Ok(n + 1);
     }
     build_expression(

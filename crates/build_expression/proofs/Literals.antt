@@ -8,28 +8,25 @@ use Rattle.rules.specs.Lines.{bytes}
 use Rattle.rules.specs.Places.{bytes_at, word_at}
 use Rattle.rules.specs.BuildExpression.{is_null_or_nan}
 use Rattle.rules.specs.Cells as C
-use Rattle.numbers.specs.Values.{value_at}
-use Rattle.ast.specs.Row.{literal_number, literal_first, literal_second, row_literal, name_address, name_length}
+use Rattle.numbers.specs.Literals.{literal_value}
+use Rattle.numbers.specs.declared.literals.Literal.{Literal}
+use Rattle.ast.specs.Row.{literal_at, row_literal, row-literal, name_address, name_length}
 use Rattle.plan.specs.Cells.{Puts}
 use Rattle.build_expression.specs.Calls.{sqrt_named}
 
-module _ (c q : Bytes) (t : List ℕ) (r k a b : ℕ) (hk : k ≡ literal_number t r) (ha : a ≡ literal_first t r)
-    (hb : b ≡ literal_second t r) where
-  value-is : value_at c q k a b ≡ row_literal c q t r
-  value-is = λ i. value_at c q (hk i) (ha i) (hb i)
-
+module _ (c q : Bytes) (t : List ℕ) (r : ℕ) {l : Literal} (h : l ≡ literal_at t r) where
   -- whether `is` takes it
-  pub is-literal : {x : Bool} → x ≡ is_null_or_nan (value_at c q k a b) → is_null_or_nan (row_literal c q t r) ≡ x
-  is-literal h = ap is_null_or_nan (sym value-is) ∙ sym h
+  pub is-literal : {x : Bool} → x ≡ is_null_or_nan (literal_value c q l) → is_null_or_nan (row_literal c q t r) ≡ x
+  is-literal e = sym (e ∙ ap is_null_or_nan (row-literal c q t r h))
 
   -- its cells
-  pub constant_cell : {n : ℕ} {area area' : List ℕ} → Puts n (C.constant (value_at c q k a b) ∷ []) area area'
+  pub constant_cell : {n : ℕ} {area area' : List ℕ} → Puts n (C.constant (literal_value c q l) ∷ []) area area'
       → Puts n (C.constant (row_literal c q t r) ∷ []) area area'
-  constant_cell p = rw value-is at p
+  constant_cell p = rw (row-literal c q t r h) at p
 
-  pub is-cell : {n x : ℕ} {area area' : List ℕ} → Puts n (C.is x (value_at c q k a b) ∷ []) area area'
+  pub is-cell : {n x : ℕ} {area area' : List ℕ} → Puts n (C.is x (literal_value c q l) ∷ []) area area'
       → Puts n (C.is x (row_literal c q t r) ∷ []) area area'
-  is-cell p = rw value-is at p
+  is-cell p = rw (row-literal c q t r h) at p
 
 pub sqrt-name : (c q : Bytes) (t : List ℕ) (r a n : ℕ) (x : Bool) → a ≡ name_address t r → n ≡ name_length t r
     → x ≡ same (bytes_at c q a n) (bytes "sqrt") → x ≡ sqrt_named c q t r

@@ -129,10 +129,8 @@ fn literal(
         (literal_step n (row_literal catalog.now statement.now table.now r))
         n area.old area.new (Ok result) }
 {
-    let kind = row::literal_number(table, r);
-    let a = row::literal_first(table, r);
-    let b = row::literal_second(table, r);
-    cells::constant(catalog, statement, area, n, kind, a, b);
+    let literal = row::literal(table, r);
+    cells::constant(catalog, statement, area, n, literal);
     n + 1
 }
 

@@ -9,7 +9,6 @@ ghost use Rattle.plan.specs.Emits.{Emits};
 ghost use Rattle.build_expression.specs.Rows.{unary_step, is_step, binary_step};
 
 use ast::row;
-use numbers::literals::is_null_or_nan;
 use numbers::operators::Unary;
 use numbers::refusals::{Reason, Refusal};
 use plan::cells;
@@ -32,16 +31,14 @@ pub fn is(table: &[u32], r: usize, area: &mut [u32], m: u32) -> Result<u32, Refu
         (is_step (line_at table.now r) (row_literal c q table.now r) m)
         m area.old area.new result }
 {
-    let kind = row::literal_number(table, r);
-    let a = row::literal_first(table, r);
-    let b = row::literal_second(table, r);
-    if !is_null_or_nan(kind, a, b) {
+    let literal = row::literal(table, r);
+    if !literal.is_null_or_nan() {
         return Err(Refusal {
             reason: Reason::InvalidIs,
             line: row::line(table, r),
         });
     }
-    cells::is(area, m, m - 1, kind, a, b);
+    cells::is(area, m, m - 1, literal);
     Ok(m + 1)
 }
 

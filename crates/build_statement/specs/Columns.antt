@@ -30,8 +30,8 @@ use Rattle.sections.specs.Layout.{section_at}
 use Rattle.sections.specs.Access.{column_kind, numbers_at}
 use Rattle.sections.specs.declared.entry.Entry.{Entry}
 use Rattle.expression.specs.Answers.{map_answer}
-use Rattle.expression.specs.Numbers.{numbers_of}
-use Rattle.expression.specs.declared.planned.Numbers.{Numbers}
+use Rattle.numbers.specs.Literals.{given_numbers}
+use Rattle.numbers.specs.declared.literals.Literal.{Literal}
 use Rattle.statement.specs.Layout.{to_column, create_of, statement_at}
 use Rattle.statement.specs.Access.{kind_number, kind_of, statement_of, statement-kind, line_at, name_word}
 use Rattle.statement.specs.declared.access.Kind.TheVariants as K
@@ -70,12 +70,12 @@ default-room c q e n h l =
     omega (arith, a.next, a.all, column-eight (made_of c q e n none))
 
 -- a default that is given
-record Known (a : Answer (Option Value)) (n : Numbers) : Type 0 where
+record Known (a : Answer (Option Value)) (n : std.Option Literal) : Type 0 where
   value : Option Value
   ok-is : a ≡ ok value
-  numbers : default_numbers value ≡ numbers_of n
+  numbers : default_numbers value ≡ given_numbers n
 
-known : (a : Answer (Option Value)) (n : Numbers) → default_of (Ok n) ≡ map_answer default_numbers a → Known a n
+known : (a : Answer (Option Value)) (n : std.Option Literal) → default_of (Ok n) ≡ map_answer default_numbers a → Known a n
 unfolding default_of map_answer
 known (ok d) n h = record { value = d; ok-is = refl; numbers = sym (ok_same h) }
 known (refused w) n h = ok-not-refused _ _ h
@@ -87,13 +87,13 @@ failed (refused v) w h =
     let z : told statement w ≡ v = cc in
     record { why = v; is = refl; noted' = sym (ap noted (sym z) ∙ rw (named-reason w.reason)) }
 
-module _ (c q : Bytes) (cells : List ℕ) (e : Entry) (n : Bool) (z : n ≡ nullable_of e) (r : Result Numbers Refusal)
+module _ (c q : Bytes) (cells : List ℕ) (e : Entry) (n : Bool) (z : n ≡ nullable_of e) (r : Result (std.Option Literal) Refusal)
     (h : default_of r ≡ map_answer default_numbers (default_value n (given_of c q cells e))) where
-  pub column-done : {k j i : ℕ} {s t u : List ℕ} (x : Numbers) → r ≡ Ok x
+  pub column-done : {k j i : ℕ} {s t u : List ℕ} (x : std.Option Literal) → r ≡ Ok x
       → ((d : Option Value) → Appended (column_numbers (made_of c q e n d)) k s j t)
-      → ((d : Option Value) → default_numbers d ≡ x.kind ∷ x.first ∷ x.second ∷ 0 ∷ [] → Appended (default_numbers d) j t i u)
+      → ((d : Option Value) → default_numbers d ≡ given_numbers x → Appended (default_numbers d) j t i u)
       → Pushes made_numbers (made_column (column_of c q cells e)) k s u (Ok i)
-  unfolding numbers_of map_answer made_of
+  unfolding map_answer made_of
   column-done x g a b =
       let y = known (default_value n (given_of c q cells e)) x (sym (ap default_of g) ∙ h) in
       let m : made_column (column_of c q cells e) ≡ ok (made_of c q e n y.value) =

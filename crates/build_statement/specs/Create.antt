@@ -23,7 +23,7 @@ use Rattle.rules.specs.Area.{span, option_span, value_numbers, default_numbers, 
 use Rattle.numbers.specs.Reasons.{told}
 use Rattle.numbers.specs.declared.refusals.Refusal.{Refusal}
 use Rattle.ast.specs.Table.{tree_at}
-use Rattle.numbers.specs.Values.{is_one, value_at}
+use Rattle.numbers.specs.Values.{is_one}
 use Rattle.text.specs.declared.places.Place.{Place}
 use Rattle.plan.specs.Places.{option_place}
 use Rattle.ast.specs.Names.{name_at}
@@ -36,8 +36,8 @@ use Rattle.value.specs.declared.Value as Va
 use Rattle.expression.specs.Answers.{map_answer, answered, constant_value, constant_of}
 use Rattle.expression.specs.declared.Constant.{Constant}
 use Rattle.expression.specs.declared.Constant.TheVariants as Co
-use Rattle.expression.specs.declared.planned.Numbers.{Numbers}
-use Rattle.expression.specs.Numbers.{numbers_of}
+use Rattle.numbers.specs.Literals.{literal_value, literal_numbers, given_numbers}
+use Rattle.numbers.specs.declared.literals.Literal.{Literal}
 use Rattle.statement.specs.Layout.{to_null, to_column, map_entries, create_of}
 use Rattle.numbers.specs.Values.{type_at}
 use Rattle.statement.specs.Access.{line_at, name_address, name_length, name_word}
@@ -221,22 +221,22 @@ module _ (c q : Bytes) (e : Entry) where
         go false y = rw (y, name-some c q e.reference e.extent (eqb-false e.extent 0 y))
 
 -- DEFAULTS
-unfoldable pub default_of : Result Numbers Refusal → Answer (List ℕ)
-default_of (Ok n) = ok (numbers_of n)
+unfoldable pub default_of : Result (std.Option Literal) Refusal → Answer (List ℕ)
+default_of (Ok m) = ok (given_numbers m)
 default_of (Err w) = refused (told statement w)
 
 module _ (c q : Bytes) (cells : List ℕ) (e : Entry) (n : Bool) where
   abbrev answer : Answer (List ℕ)
   answer = map_answer default_numbers (default_value n (given_of c q cells e))
 
-  pub null-given : e.expressions ≡ 0 → n ≡ true → (x : Numbers) → numbers_of x ≡ value_numbers null
-      → default_of (Ok x) ≡ answer
-  unfolding default_of map_answer default_value null_default default_numbers
+  pub null-given : e.expressions ≡ 0 → n ≡ true → (x : Literal) → literal_numbers x ≡ value_numbers null
+      → default_of (Ok (std.Some x)) ≡ answer
+  unfolding default_of given_numbers map_answer default_value null_default default_numbers
   null-given z b x h = rw (given-none c q cells e z, b, h)
 
   pub none-given : e.expressions ≡ 0 → n ≡ false
-      → default_of (Ok (record { kind = 0; first = 0; second = 0 })) ≡ answer
-  unfolding default_of map_answer default_value null_default default_numbers numbers_of
+      → default_of (Ok std.None) ≡ answer
+  unfolding default_of given_numbers map_answer default_value null_default default_numbers
   none-given z b = rw (given-none c q cells e z, b)
 
   module _ (z : e.expressions ≡ 0 → ⊥) (r : ℕ) (f : r ≡ first_row e) (x : Result Constant Refusal)
@@ -245,14 +245,14 @@ module _ (c q : Bytes) (cells : List ℕ) (e : Entry) (n : Bool) where
     unfolding default_value
     constant-is = rw (given-some c q cells e z, h, f)
 
-    pub literal-given : (k a b : ℕ) (v : Constant) (y : Numbers) → x ≡ Ok v → v ≡ Co.Literal k a b → numbers_of y ≡ value_numbers (value_at c q k a b)
-        → default_of (Ok y) ≡ answer
-    unfolding default_of map_answer default_numbers answered constant_value ◌>>=◌
-    literal-given k a b v y e i g = rw (constant-is, e, i, g)
+    pub literal-given : (l : Literal) (v : Constant) (y : Literal) → x ≡ Ok v → v ≡ Co.Literal l → literal_numbers y ≡ value_numbers (literal_value c q l)
+        → default_of (Ok (std.Some y)) ≡ answer
+    unfolding default_of given_numbers map_answer default_numbers answered constant_value ◌>>=◌
+    literal-given l v y e i g = rw (constant-is, e, i, g)
 
-    pub value-given : (u : Va.Value) (v : Constant) (y : Numbers) → x ≡ Ok v → v ≡ Co.Value u → numbers_of y ≡ value_numbers (value_of c q u)
-        → default_of (Ok y) ≡ answer
-    unfolding default_of map_answer default_numbers answered constant_value ◌>>=◌
+    pub value-given : (u : Va.Value) (v : Constant) (y : Literal) → x ≡ Ok v → v ≡ Co.Value u → literal_numbers y ≡ value_numbers (value_of c q u)
+        → default_of (Ok (std.Some y)) ≡ answer
+    unfolding default_of given_numbers map_answer default_numbers answered constant_value ◌>>=◌
     value-given u v y e i g = rw (constant-is, e, i, g)
 
     pub refused-given : (w : Refusal) → x ≡ Err w → default_of (Err w) ≡ answer

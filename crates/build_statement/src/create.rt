@@ -21,7 +21,9 @@ ghost use Rattle.build_statement.specs.Create as create;
 
 use expression::Constant;
 use expression::constants::build_constant_value;
-use expression::planned::{Numbers, literal_numbers, value_numbers};
+use expression::planned::of_value;
+use literal::planned::in_plan;
+use numbers::literals::Literal;
 use numbers::refusals::{Reason, Refusal};
 use plan::{finish, own};
 use sections::entry;
@@ -92,31 +94,27 @@ fn reference(catalog: &[u8], statement: &[u8], e: Entry) -> Option<Place>
     })
 }
 
-// A column's default by its numbers: the value of its expression; where there is none, a null if it may be null.
+// A column's default: the value of its expression; where there is none, a null if it may be null.
 fn default_of(
     catalog: &[u8],
     statement: &[u8],
     cells: &[u32],
     e: Entry,
     nullable: bool,
-) -> Result<Numbers, Refusal>
+) -> Result<Option<Literal>, Refusal>
     ensures { create.default_of result ≡ map_answer default_numbers
         (default_value nullable (given_of catalog.now statement.now cells.now e)) }
 {
     if e.expressions == 0 {
         if nullable {
-            return Ok(value_numbers(catalog, statement, value::Value::Null));
+            return Ok(Some(of_value(catalog, statement, value::Value::Null)));
         }
-        return Ok(Numbers {
-            kind: 0,
-            first: 0,
-            second: 0,
-        });
+        return Ok(None);
     }
     let constant = build_constant_value(catalog, statement, cells, entry::first_row(e))?;
     match constant {
-        Constant::Literal(k, a, b) => Ok(literal_numbers(catalog, statement, k, a, b)),
-        Constant::Value(v) => Ok(value_numbers(catalog, statement, v)),
+        Constant::Literal(literal) => Ok(Some(in_plan(catalog, statement, literal))),
+        Constant::Value(v) => Ok(Some(of_value(catalog, statement, v))),
     }
 }
 
@@ -163,7 +161,7 @@ fn column(
     let nullable = is_nullable(e);
     let default = default_of(catalog, statement, cells, e, nullable)?;
     let j = put_column(catalog, statement, e, nullable, nodes, k);
-    Ok(own::default_value(nodes, j, default.kind, default.first, default.second))
+    Ok(own::default_value(nodes, j, default))
 }
 
 // All columns.

@@ -19,7 +19,8 @@ use Rattle.appends.specs.Expressions.Emit.{emit}
 use Rattle.appends.specs.Lists.Entry.{emit_second}
 use Rattle.appends.specs.Answers.{ok_same, ok-not-refused}
 use Rattle.appends.specs.Statements.Update.{set-step, set_value_lem, set-default, set-no-default}
-use Rattle.numbers.specs.Values.{value_at, default_of, default-some}
+use Rattle.numbers.specs.Literals.{literal_value, given_value}
+use Rattle.numbers.specs.declared.literals.Literal.{Literal}
 use Rattle.ast.specs.Table.{tree_at}
 use Rattle.sections.specs.Expressions.{first_row}
 use Rattle.sections.specs.declared.entry.Entry.{Entry}
@@ -29,6 +30,7 @@ use Rattle.plan.specs.Emits.{Emitting, Written, Emits, accepts, refuses, emits-s
 use Rattle.numbers.specs.Reasons.{named as named_reason}
 use Rattle.numbers.specs.declared.refusals.Reason.TheVariants as Re
 use Rattle.std.specs.Prelude.{Ok, Err}
+use Rattle.std.specs.Prelude as std
 use Rattle.build_expression.specs.Rows.{emit-within}
 use Rattle.build_expression.specs.Builds.{scope_at, Builds}
 
@@ -38,17 +40,19 @@ unfoldable pub default_step : ℕ → ℕ → Option Value → Emitting
 default_step n l none = refuse no_default l
 default_step n l (some v) = ok (C.constant v ∷ [], n + 1)
 
-module _ (c q : Bytes) (k a b : ℕ) {d : Option Value} (h : default_of c q k a b ≡ d) {area : List ℕ} {n : ℕ} (l : ℕ) where
-  pub no-default : k ≡ 0 → Emits (default_step n l d) n area area (Err (record { reason = Re.NoDefault; line = l }))
-  unfolding default_step named_reason default_of
+module _ (c q : Bytes) (m : std.Option Literal) {d : Option Value} (h : given_value c q m ≡ d) {area : List ℕ} {n : ℕ} (l : ℕ) where
+  pub no-default : m ≡ std.None → Emits (default_step n l d) n area area (Err (record { reason = Re.NoDefault; line = l }))
+  unfolding default_step named_reason given_value
   no-default e =
-      let y : default_of c q k a b ≡ none = rw e in
+      let y : given_value c q m ≡ none = rw e in
       refuses no_default l Re.NoDefault l refl refl refl (ap (default_step n l) (sym h ∙ y))
 
-  pub a-default : {area' : List ℕ} → (k ≡ 0 → ⊥)
-      → Puts n (C.constant (value_at c q k a b) ∷ []) area area' → Emits (default_step n l d) n area area' (Ok (n + 1))
-  unfolding default_step
-  a-default e p = accepts (n + 1) p refl (ap (default_step n l) (sym h ∙ default-some c q k a b e))
+  pub a-default : {area' : List ℕ} (v : Literal) → m ≡ std.Some v
+      → Puts n (C.constant (literal_value c q v) ∷ []) area area' → Emits (default_step n l d) n area area' (Ok (n + 1))
+  unfolding default_step given_value
+  a-default v e p =
+      let y : given_value c q m ≡ some (literal_value c q v) = rw e in
+      accepts (n + 1) p refl (ap (default_step n l) (sym h ∙ y))
 
 -- SETS
 -- of column j of the columns cs, for a record at line l

@@ -31,14 +31,10 @@ fn build_default(
         (default_at (table_at catalog.now statement.now tables.now i).columns j))
         n area.old area.new result }
 {
-    let d = default_at(tables, i, j);
-    if d.kind == 0 {
-        return Err(Refusal {
-            reason: Reason::NoDefault,
-            line,
-        });
-    }
-    constant(catalog, statement, area, n, d.kind, d.first, d.second);
+    let Some(default) = default_at(tables, i, j) else {
+        return Err(Reason::NoDefault.at(line));
+    };
+    constant(catalog, statement, area, n, default);
     Ok(n + 1)
 }
 

@@ -32,7 +32,9 @@ use Rattle.std.specs.Result.{result_and}
 use Rattle.numbers.specs.Reasons.{reason_of}
 use Rattle.numbers.specs.declared.refusals.Reason.{Reason}
 use Rattle.numbers.specs.declared.refusals.Refusal.{Refusal}
-use Rattle.ast.specs.Row.{number_of, tree-star}
+use Rattle.ast.specs.Row.{number_of, tree-star, literal_at, row-literal}
+use Rattle.numbers.specs.Literals.{literal_value}
+use Rattle.numbers.specs.declared.literals.Literal.{Literal}
 use Rattle.ast.specs.declared.row.Kind.{Kind}
 use Rattle.ast.specs.declared.row.Kind.TheVariants as K
 use Rattle.expression.proofs.Rows.{kind_is}
@@ -164,9 +166,9 @@ module _ (f : ℕ → Expr) (c q : Bytes) (t : List ℕ) (r : ℕ) where
 
 -- the literal behind `is`, and the name and the arguments of a call, as the code reads them
 module _ (c q : Bytes) (t : List ℕ) (r : ℕ) where
-  pub is-literal : (b : Bool) (k x y : ℕ) → b ≡ is_null_or_nan (value_at c q k x y) → k ≡ at t r 3 → x ≡ at t r 4 → y ≡ at t r 5
+  pub is-literal : {b : Bool} {l : Literal} → b ≡ is_null_or_nan (literal_value c q l) → l ≡ literal_at t r
       → is_null_or_nan (value_at c q (at t r 3) (at t r 4) (at t r 5)) ≡ b
-  is-literal b k x y e hk hx hy = sym (e ∙ (λ i. is_null_or_nan (value_at c q (hk i) (hx i) (hy i))))
+  is-literal e h = sym (e ∙ ap is_null_or_nan (row-literal c q t r h))
 
   pub other-count : (k : ℕ) → k ≡ at t r 3 → (k ≡ 1 → ⊥) → is_root_call c q t r ≡ false
   unfolding is_root_call

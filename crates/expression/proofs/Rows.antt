@@ -13,13 +13,14 @@ use Rattle.rules.specs.Operators.{unary_of, binary_of, is_of}
 use Rattle.rules.specs.Places.{word_at}
 use Rattle.rules.specs.Refusals.{Refusal, Answer, ok, refused, refuse, statement, constant_only}
 use Rattle.rules.specs.Schema.{Value}
-use Rattle.numbers.specs.Values.{value_at}
 use Rattle.value.specs.Values.{value_of, held}
 use Rattle.value.specs.declared.Value as code
 use Rattle.ast.specs.Operands.{operands_of, kind_of, kind_at, operands_at, kind-at, operands-at, tree-column, tree-qualified, tree-call, tree-unary}
 use Rattle.ast.specs.Operands.{tree-binary, tree_is, tree-literal, operands-call, operands-unary, operands-binary}
 use Rattle.ast.specs.Operands.{operands-is, no-operands, arguments-none, arguments-more, tree-at}
-use Rattle.ast.specs.Row.{number_of, tree-star}
+use Rattle.ast.specs.Row.{number_of, tree-star, literal_at, row-literal}
+use Rattle.numbers.specs.Literals.{literal_value}
+use Rattle.numbers.specs.declared.literals.Literal.{Literal}
 use Rattle.ast.specs.declared.row.Kind.{Kind}
 use Rattle.ast.specs.declared.row.Kind.TheVariants as K
 use Rattle.ast.specs.Table.{at, rows_at, unary_at, binary_at, arguments_at, tree_by, tree_at}
@@ -102,9 +103,9 @@ module _ (f : ℕ → Expr) (c q : Bytes) (t : List ℕ) (r : ℕ) (x : Answer V
   unary-row o w h ho hw hx = rw (tree-unary f c q t r h)
       (hx ∙ (λ i. worked_at (hl i) ((hw ∙ ap (λ (p : Unary). unary_of p u) ho) i)) ∙ unary-step (at t r 1) (f (suc r)) u hu (unary_at (at t r 3)))
 
-  pub is_row : (k : ℕ) → kind_at t r ≡ 7 → k ≡ at t r 3 → x ≡ worked_at l (is_of (value_at c q k (at t r 4) (at t r 5)) u) → x ≡ map_answer held (evaluate (tree_by f c q t r))
-  is_row k h hk hx = rw (tree_is f c q t r h)
-      (hx ∙ (λ i. worked_at (hl i) (is_of (value_at c q (hk i) (at t r 4) (at t r 5)) u)) ∙ is-step (at t r 1) (f (suc r)) u hu _)
+  pub is_row : (m : Literal) → kind_at t r ≡ 7 → m ≡ literal_at t r → x ≡ worked_at l (is_of (literal_value c q m) u) → x ≡ map_answer held (evaluate (tree_by f c q t r))
+  is_row m h hm hx = rw (tree_is f c q t r h)
+      (hx ∙ (λ i. worked_at (hl i) (is_of (row-literal c q t r hm i) u)) ∙ is-step (at t r 1) (f (suc r)) u hu _)
 
   pub root-row : (w : Worked) → (operands_at t r ≡ 0 → ⊥) → kind_at t r ≡ 4 → w ≡ unary_of sqrt u → x ≡ worked_at l w → x ≡ map_answer held (evaluate (tree_by f c q t r))
   root-row w ne h hw hx = rw (tree-first f c q t r ne h) (hx ∙ (λ i. worked_at (hl i) (hw i)) ∙ root-step (at t r 1) (f (suc r)) u hu _ _)
@@ -161,11 +162,9 @@ module _ (c q : Bytes) (t : List ℕ) (r : ℕ) where
           (below (suc r + rows_at t (suc r))) _ (refused-is _ i))))
 
   -- a bare literal, and any other record
-  pub bare : (k a b : ℕ) → kind_at t r ≡ 8 → k ≡ at t r 3 → a ≡ at t r 4 → b ≡ at t r 5
-      → ok (value_at c q k a b) ≡ evaluate (tree_at c q t r)
+  pub bare : (m : Literal) → kind_at t r ≡ 8 → m ≡ literal_at t r → ok (literal_value c q m) ≡ evaluate (tree_at c q t r)
   unfolding evaluate
-  bare k a b h hk ha hb = rw (tree-at c q t r ∙ tree-literal below c q t r h)
-      (λ i. ok (value_at c q (hk i) (ha i) (hb i)))
+  bare m h hm = rw (tree-at c q t r ∙ tree-literal below c q t r h) (ap ok (row-literal c q t r hm))
 
   pub worked-out : (x : Answer Value) → (kind_at t r ≡ 8 → ⊥) → x ≡ map_answer held (evaluate (tree_at c q t r))
       → x ≡ evaluate (tree_at c q t r)

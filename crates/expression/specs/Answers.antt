@@ -6,7 +6,7 @@ use Rattle.rules.specs.Schema.{Value}
 use Rattle.rules.specs.Ast.{Expr}
 use Rattle.rules.specs.Evaluate.{evaluate}
 use Rattle.numbers.specs.Reasons.{reason_of}
-use Rattle.numbers.specs.Values.{value_at}
+use Rattle.numbers.specs.Literals.{literal_value}
 use Rattle.numbers.specs.declared.refusals.Refusal.{Refusal}
 use Rattle.value.specs.Values.{value_of, held}
 use Rattle.value.specs.declared.Value as code
@@ -29,9 +29,9 @@ answer_of c q x = answered (value_of c q) x
 abbrev pub Evaluates : Bytes → Bytes → Result code.Value Refusal → Expr → Type 0
 Evaluates c q x e = answer_of c q x ≡ map_answer held (evaluate e)
 
--- a literal by its kind and two numbers, as in the table
+-- a literal, its bits kept
 unfoldable pub constant_value : Bytes → Bytes → Constant → Value
-constant_value c q (Co.Literal k a b) = value_at c q k a b
+constant_value c q (Co.Literal l) = literal_value c q l
 constant_value c q (Co.Value v) = value_of c q v
 
 abbrev pub constant_of : Bytes → Bytes → Result Constant Refusal → Answer Value

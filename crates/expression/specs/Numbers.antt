@@ -1,5 +1,5 @@
 -- What the answers about a constant's numbers mean.
-use Rattle.std.specs.Prelude.{ℕ, List, [], ◌∷◌, ◌≡◌, refl, Option, Some, None}
+use Rattle.std.specs.Prelude.{ℕ, ◌≡◌, refl, Option, Some, None}
 use Rattle.std.proofs.Math.Option.{some}
 use Rattle.rules.specs.Refusals as rule
 use Rattle.rules.specs.Refusals.{Answer, ok, refused, ◌>>=◌, refuse}
@@ -8,7 +8,6 @@ use Rattle.rules.specs.Ast.{Clause}
 use Rattle.rules.specs.Plan.{Built, Node}
 use Rattle.rules.specs.BuildExpression.{constant}
 use Rattle.rules.specs.BuildSelect.{natural, build_rows}
-use Rattle.expression.specs.declared.planned.Numbers.{Numbers}
 
 -- for a clause at line l that refuses by r what is no number of 0 or more
 unfoldable pub natural_of : rule.Reason → ℕ → Option ℕ → Answer ℕ
@@ -28,7 +27,3 @@ rows-built r f n c = by (constant c.expr)
         ≡ ((m >>= natural r c.line) >>= λ k. ok (f k n))
     by (ok v) = refl
     by (refused s) = refl
-
--- the four numbers of a value in the area
-unfoldable pub numbers_of : Numbers → List ℕ
-numbers_of x = x.kind ∷ x.first ∷ x.second ∷ 0 ∷ []

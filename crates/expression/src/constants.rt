@@ -13,18 +13,14 @@ ghost use Rattle.expression.specs.Constants.{checked_of, check, check_all, is_ro
 
 use crate::{Constant, evaluate_constant};
 use ast::row::{Kind, kind_of};
-use ast::rows;
-use numbers::literals::is_null_or_nan;
+use ast::{row, rows};
 use numbers::refusals::{Reason, Refusal};
 
 // `is` takes a null or a NaN.
 fn check_is(table: &[u32], r: usize) -> Result<(), Refusal>
     ensures { (c q : Bytes) → checked_of result ≡ refuse_if (not (is_null_or_nan (value_at c q (at table.now r 3) (at table.now r 4) (at table.now r 5)))) invalid_is (at table.now r 1) }
 {
-    let k = rows::at(table, r, 3);
-    let a = rows::at(table, r, 4);
-    let b = rows::at(table, r, 5);
-    if is_null_or_nan(k, a, b) {
+    if row::literal(table, r).is_null_or_nan() {
         return Ok(());
     }
     Err(Reason::InvalidIs.at(rows::at(table, r, 1)))
@@ -100,7 +96,6 @@ pub fn build_constant_value(
 ) -> Result<Constant, Refusal>
     ensures { constant_of catalog.now statement.now result ≡ constant (tree_at catalog.now statement.now table.now r) }
 {
-    let checked = check_constant(catalog, statement, table, r);
-    checked?;
+    check_constant(catalog, statement, table, r)?;
     evaluate_constant(catalog, statement, table, r)
 }

@@ -16,13 +16,14 @@ ghost use Rattle.expression.specs.Answers.{map_answer, answer_of, Evaluates, con
 
 use ast::row::{Kind, kind_of};
 use ast::{row, rows};
+use numbers::literals::Literal;
 use numbers::refusals::{Reason, Refusal};
 use value::{Value, arithmetic, literals};
 
-// The value of a constant: a bare literal by its kind and two numbers, its bits kept; or a value worked out.
-#[derive(Clone, Copy)]
+// The value of a constant: a bare literal, its bits kept; or a value worked out.
+#[derive(Clone, Copy, Debug, PartialEq)]
 pub enum Constant {
-    Literal(u32, u32, u32),
+    Literal(Literal),
     Value(Value),
 }
 
@@ -35,12 +36,7 @@ fn leaf(table: &[u32], r: usize) -> Result<Value, Refusal>
     match kind_of(table, r) {
         Kind::Column | Kind::Qualified => Err(Reason::ConstantOnly.at(line)),
         Kind::Call => Err(Reason::UnknownFunction.at(line)),
-        Kind::Literal => {
-            let v = rows::at(table, r, 3);
-            let a = rows::at(table, r, 4);
-            let b = rows::at(table, r, 5);
-            Ok(literals::literal(v, a, b))
-        }
+        Kind::Literal => Ok(literals::literal(row::literal(table, r))),
         _ => Err(Reason::UnsupportedStar.at(line)),
     }
 }
@@ -57,7 +53,7 @@ fn first_operand(table: &[u32], r: usize, a: Value) -> Result<Value, Refusal>
             let operator = row::unary_operator(table, r);
             operators::worked_at(value::operators::unary(operator, a), line)
         }
-        Kind::Is => operators::is(rows::at(table, r, 3), a, line),
+        Kind::Is => operators::is(row::literal(table, r), a, line),
         _ => operators::worked_at(arithmetic::sqrt(a), line),
     }
 }
@@ -106,10 +102,7 @@ pub fn evaluate_constant(
     ensures { constant_of catalog.now statement.now result ≡ evaluate (tree_at catalog.now statement.now table.now r) }
 {
     if kind_of(table, r) == Kind::Literal {
-        let k = rows::at(table, r, 3);
-        let a = rows::at(table, r, 4);
-        let b = rows::at(table, r, 5);
-        return Ok(Constant::Literal(k, a, b));
+        return Ok(Constant::Literal(row::literal(table, r)));
     }
     evaluate(catalog, statement, table, r).map(Constant::Value)
 }

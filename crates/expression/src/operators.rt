@@ -1,13 +1,13 @@
 // Operators at a record's line, and `is`.
-ghost use Rattle.std.specs.Prelude.{◌≡◌, ℕ};
+ghost use Rattle.std.specs.Prelude.{◌≡◌};
 ghost use Rattle.rules.specs.Lists.{Bytes};
 ghost use Rattle.rules.specs.Operators.{is_of};
 ghost use Rattle.rules.specs.Evaluate.{worked_at};
-ghost use Rattle.numbers.specs.Values.{value_at};
+ghost use Rattle.numbers.specs.Literals.{literal_value};
 ghost use Rattle.value.specs.Values.{value_of, worked_of};
 ghost use Rattle.expression.specs.Answers.{answer_of};
 
-use ast::row::{LiteralKind, literal_kind};
+use numbers::literals::{Literal, LiteralKind};
 use numbers::refusals::{Reason, Refusal};
 use value::{Value, comparison};
 
@@ -19,11 +19,12 @@ pub fn worked_at(w: Result<Value, Reason>, line: u32) -> Result<Value, Refusal>
     w.map_err(|reason| reason.at(line))
 }
 
-// `is` with a literal of kind k, in a record at a line: a null, or a NaN; any other is invalid.
-pub fn is(k: u32, a: Value, line: u32) -> Result<Value, Refusal>
-    ensures { (x y : ℕ) (c q : Bytes) → answer_of c q result ≡ worked_at line (is_of (value_at c q k x y) (value_of c q a)) }
+// `is` with a literal, in a record at a line: a null, or a NaN; any other is invalid.
+#[tactic(auto, unfolding(numbers::specs::Literals::literal_of, crate::specs::Answers::answered, rules::specs::Evaluate::worked_at, rules::specs::Operators::is_of, numbers::specs::Reasons::reason_of))]
+pub fn is(literal: Literal, a: Value, line: u32) -> Result<Value, Refusal>
+    ensures { (c q : Bytes) → answer_of c q result ≡ worked_at line (is_of (literal_value c q literal) (value_of c q a)) }
 {
-    match literal_kind(k) {
+    match literal.kind {
         LiteralKind::Bool | LiteralKind::Int | LiteralKind::Text => {
             Err(Reason::InvalidIs.at(line))
         }

@@ -20,15 +20,13 @@ use Rattle.text.specs.Reading.{place, text_of, field_of, one-of, rest-none, rest
 use Rattle.text.specs.Records.{no-field, one_field_lem}
 use Rattle.text.specs.Fields.{Inside, field-length, field_at}
 use Rattle.numbers.specs.Options.{option_of}
-use Rattle.literal.specs.declared.record.Literal.{Literal}
-
--- a literal's numbers in the tables
-abbrev pub numbers_of : Literal → List ℕ
-numbers_of r = r.kind ∷ r.a ∷ r.b ∷ 0 ∷ []
+use Rattle.numbers.specs.Literals.{kind_number, literal_numbers}
+use Rattle.numbers.specs.declared.literals.Literal.{Literal}
+use Rattle.numbers.specs.declared.literals.LiteralKind.TheVariants as L
 
 -- r is the literal of a record of the text t, whose bytes have the addresses from base on, or there is none
 pub record IsLiteral (base : ℕ) (t : Bytes) (v : Option Value) (r : std.Option Literal) : Type 0 where
-  pub is : map_option value_numbers v ≡ map_option numbers_of (option_of r)
+  pub is : map_option value_numbers v ≡ map_option literal_numbers (option_of r)
   pub fits : (k : Text) → base_address k ≡ base → (c q : Bytes) → text_of k c q ≡ t → LiteralFits c q v
 
 -- a literal by its keyword's number and its one field
@@ -44,7 +42,7 @@ literal-none {v = none} s e = refl
 literal-none {v = some x} s e = absurd (cc (s.is, e))
 
 pub literal-some : {base : ℕ} {t : Bytes} {v : Option Value} {r : std.Option Literal} (l : Literal) → IsLiteral base t v r → r ≡ std.Some l
-    → (x : Value) × (v ≡ some x) × (value_numbers x ≡ numbers_of l) × ((k : Text) → base_address k ≡ base → (c q : Bytes) → text_of k c q ≡ t → ValueFits c q x)
+    → (x : Value) × (v ≡ some x) × (value_numbers x ≡ literal_numbers l) × ((k : Text) → base_address k ≡ base → (c q : Bytes) → text_of k c q ≡ t → ValueFits c q x)
 unfolding map_option LiteralFits
 literal-some {v = none} l s e = absurd (cc (s.is, e))
 literal-some {v = some x} l s e = (x, refl, cc (s.is, e), s.fits)
@@ -55,13 +53,13 @@ no-literal-as base t e = rw e (record { is = refl; fits = λ k e c q f. tt })
 
 -- BY THE KEYWORD AND THE FIELD
 module _ (base : ℕ) (t : Bytes) (w : Word) (r : Literal) where
-  pub int-some : (v : ℕ) → map_option signed (some v) ≡ Lines.integer w.bytes → v < 2 ^ 64 → (r.kind ≡ 3) × (r.a ≡ v % 2 ^ 32) × (r.b ≡ v / 2 ^ 32) → IsLiteral base t (literal_by 2 w) (std.Some r)
+  pub int-some : (v : ℕ) → map_option signed (some v) ≡ Lines.integer w.bytes → v < 2 ^ 64 → (r.kind ≡ L.Int) × (r.first ≡ v % 2 ^ 32) × (r.second ≡ v / 2 ^ 32) → IsLiteral base t (literal_by 2 w) (std.Some r)
   unfolding literal_by literals nth apply one_field map_option
-  int-some v e l g = let b = bits-signed v l in rw (← e) (record { is = unfold value_numbers halves in rw (b, g.0, g.1, g.2); fits = λ k e c q f. unfold LiteralFits ValueFits in ap signed b })
+  int-some v e l g = let b = bits-signed v l in rw (← e) (record { is = unfold value_numbers halves kind_number in rw (b, g.0, g.1, g.2); fits = λ k e c q f. unfold LiteralFits ValueFits in ap signed b })
 
-  pub float-some : (v : ℕ) → some v ≡ Lines.float w.bytes → (r.kind ≡ 4) × (r.a ≡ v % 2 ^ 32) × (r.b ≡ v / 2 ^ 32) → IsLiteral base t (literal_by 3 w) (std.Some r)
+  pub float-some : (v : ℕ) → some v ≡ Lines.float w.bytes → (r.kind ≡ L.Float) × (r.first ≡ v % 2 ^ 32) × (r.second ≡ v / 2 ^ 32) → IsLiteral base t (literal_by 3 w) (std.Some r)
   unfolding literal_by literals nth apply one_field map_option
-  float-some v e g = rw (← e) (record { is = unfold value_numbers halves in rw (g.0, g.1, g.2); fits = λ k e c q f. unfold LiteralFits ValueFits in tt })
+  float-some v e g = rw (← e) (record { is = unfold value_numbers halves kind_number in rw (g.0, g.1, g.2); fits = λ k e c q f. unfold LiteralFits ValueFits in tt })
 
 module _ (w : Word) where
   pub int-none : map_option {A = ℕ} signed none ≡ Lines.integer w.bytes → literal_by 2 w ≡ none
@@ -89,22 +87,22 @@ module _ (base : ℕ) (t : Bytes) (a n : ℕ) where
     pub flag-none : 2 ≤ k → literal_by 1 (field base t a n) ≡ none
     flag-none l = flag_is ∙ rw (nth-none flags k (unfold flags in l)) (unfold map_option in refl)
 
-    pub flag-some : (r : Literal) → k < 2 → (r.kind ≡ 2) × (r.a ≡ 1 - k) × (r.b ≡ 0) → IsLiteral base t (literal_by 1 (field base t a n)) (std.Some r)
+    pub flag-some : (r : Literal) → k < 2 → (r.kind ≡ L.Bool) × (r.first ≡ 1 - k) × (r.second ≡ 0) → IsLiteral base t (literal_by 1 (field base t a n)) (std.Some r)
     flag-some r l g = rw flag_is (go k l g.1)
       where
-        go : (k : ℕ) → k < 2 → r.a ≡ 1 - k → IsLiteral base t (map_option bool (nth flags k)) (std.Some r)
-        go zero l x = unfold nth flags map_option in record { is = unfold value_numbers flag in rw (g.0, x, g.2); fits = λ k e c q f. unfold LiteralFits ValueFits in tt }
-        go (suc zero) l x = unfold nth flags map_option in record { is = unfold value_numbers flag in rw (g.0, x, g.2); fits = λ k e c q f. unfold LiteralFits ValueFits in tt }
+        go : (k : ℕ) → k < 2 → r.first ≡ 1 - k → IsLiteral base t (map_option bool (nth flags k)) (std.Some r)
+        go zero l x = unfold nth flags map_option in record { is = unfold value_numbers flag kind_number in rw (g.0, x, g.2); fits = λ k e c q f. unfold LiteralFits ValueFits in tt }
+        go (suc zero) l x = unfold nth flags map_option in record { is = unfold value_numbers flag kind_number in rw (g.0, x, g.2); fits = λ k e c q f. unfold LiteralFits ValueFits in tt }
         go (suc (suc k)) l x = absurd (omega arith)
 
   text-fits : Inside t a n → (k : Text) → base_address k ≡ base → (c q : Bytes) → text_of k c q ≡ t → WordFits c q (field base t a n)
   unfolding WordFits field
   text-fits i k e c q f = rw (field-length t a n i, ← e) (sym (field_at t a n i k c q f))
 
-  pub text-some : (r : Literal) → Inside t a n → (r.kind ≡ 5) × (r.a ≡ base + a) × (r.b ≡ n) → IsLiteral base t (literal_by 4 (field base t a n)) (std.Some r)
+  pub text-some : (r : Literal) → Inside t a n → (r.kind ≡ L.Text) × (r.first ≡ base + a) × (r.second ≡ n) → IsLiteral base t (literal_by 4 (field base t a n)) (std.Some r)
   unfolding literal_by literals nth apply one_field map_option
   text-some r i g = record {
-    is = unfold value_numbers span field in rw (field-length t a n i, g.0, g.1, g.2);
+    is = unfold value_numbers span field kind_number in rw (field-length t a n i, g.0, g.1, g.2);
     fits = λ k e c q f. unfold LiteralFits ValueFits in text-fits i k e c q f;
   }
 

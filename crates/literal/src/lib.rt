@@ -1,6 +1,7 @@
 // Literals in text: an integer in shortest signed decimal, a float in 16 lower-case hexadecimal digits, both by their 64 bits.
 #![tactic(auto)]
 
+pub mod planned;
 pub mod record;
 
 ghost use Rattle.std.specs.Prelude.{◌≡◌, take, drop, pos};

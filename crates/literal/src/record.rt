@@ -1,4 +1,4 @@
-// The record of a literal, in the catalog or the statement: its kind and two numbers (crate numbers, specs/Values.antt).
+// The record of a literal, in the catalog or the statement.
 ghost use Rattle.std.specs.Prelude.{◌≡◌, ℕ, ◌/◌, ◌%◌, ◌^◌, ◌≤◌, List, length};
 ghost use Rattle.rules.specs.Limits.{most_bytes};
 ghost use Rattle.rules.specs.Refusals.{Text};
@@ -9,35 +9,17 @@ ghost use Rattle.text.specs.Fields.{Inside};
 ghost use Rattle.literal.specs.Records.{IsLiteral, literal_by};
 
 use numbers::halves::{high, low};
+use numbers::literals::{Literal, LiteralKind};
 use text::Line;
 
-// The kinds of literals.
-const NULL: u32 = 1;
-
-const BOOL: u32 = 2;
-
-const INT: u32 = 3;
-
-const FLOAT: u32 = 4;
-
-const TEXT: u32 = 5;
-
-// A literal's kind and its two numbers. The kind is no enum, which would be no plainer: callers store its number in tables.
-#[derive(Clone, Copy)]
-pub struct Literal {
-    pub kind: u32,
-    pub a: u32,
-    pub b: u32,
-}
-
 // 64 bits in two halves, the low one first.
-fn halves(kind: u32, bits: u64) -> Literal
-    ensures { (result.kind ≡ kind) × (result.a ≡ bits % 2 ^ 32) × (result.b ≡ bits / 2 ^ 32) }
+fn halves(kind: LiteralKind, bits: u64) -> Literal
+    ensures { (result.kind ≡ kind) × (result.first ≡ bits % 2 ^ 32) × (result.second ≡ bits / 2 ^ 32) }
 {
     Literal {
         kind,
-        a: low(bits),
-        b: high(bits),
+        first: low(bits),
+        second: high(bits),
     }
 }
 
@@ -50,9 +32,9 @@ fn flag(t: &[u8], a: usize, n: usize) -> Option<Literal>
         return None;
     }
     Some(Literal {
-        kind: BOOL,
-        a: 1 - k as u32,
-        b: 0,
+        kind: LiteralKind::Bool,
+        first: 1 - k as u32,
+        second: 0,
     })
 }
 
@@ -64,12 +46,12 @@ fn literal_by(t: &[u8], base: u32, k: usize, a: usize, n: usize) -> Option<Liter
 {
     match k {
         1 => flag(t, a, n),
-        2 => Some(halves(INT, crate::int(t, a, n)?)),
-        3 => Some(halves(FLOAT, crate::float(t, a, n)?)),
+        2 => Some(halves(LiteralKind::Int, crate::int(t, a, n)?)),
+        3 => Some(halves(LiteralKind::Float, crate::float(t, a, n)?)),
         4 => Some(Literal {
-            kind: TEXT,
-            a: base + a as u32,
-            b: n as u32,
+            kind: LiteralKind::Text,
+            first: base + a as u32,
+            second: n as u32,
         }),
         _ => None,
     }
@@ -88,9 +70,9 @@ pub fn literal_at(t: &[u8], base: u32, p: usize, f: Line) -> Option<Literal>
             return None;
         }
         return Some(Literal {
-            kind: NULL,
-            a: 0,
-            b: 0,
+            kind: LiteralKind::Null,
+            first: 0,
+            second: 0,
         });
     }
     if n != 2 {

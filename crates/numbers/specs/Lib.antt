@@ -1,6 +1,7 @@
 pub mod Bits
 pub mod Codes
 pub mod Kept
+pub mod Literals
 pub mod Operators
 pub mod Reasons
 pub mod Options

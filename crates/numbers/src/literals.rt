@@ -1,11 +1,78 @@
-// Literals by their kinds and two numbers (specs/Values.antt).
-ghost use Rattle.std.specs.Prelude.{◌≡◌};
+// Literals: a kind and two numbers (specs/Literals.antt).
+ghost use Rattle.std.specs.Prelude.{◌≡◌, ◌+◌, ◌≤◌, length};
+ghost use Rattle.std.proofs.lemmas.List.Edits.{sets};
 ghost use Rattle.rules.specs.Lists.{Bytes};
 ghost use Rattle.rules.specs.Schema.{float};
 ghost use Rattle.rules.specs.BuildExpression.{is_null_or_nan};
-ghost use Rattle.numbers.specs.Values.{value_at};
+ghost use Rattle.numbers.specs.Literals.{kind_number, kind_at, literal_value, given_numbers};
 
 use super::halves::joined;
+use super::put_four;
+
+// The kinds of literals, with their numbers in the statement's table, which are those of their cells (docs/PLAN.md).
+#[derive(Clone, Copy, Debug, PartialEq, Eq)]
+pub enum LiteralKind {
+    Null = 1,
+    Bool,
+    Int,
+    Float,
+    Text,
+}
+
+impl LiteralKind {
+    pub fn number(self) -> u32
+        ensures { result ≡ kind_number self }
+    {
+        self as u32
+    }
+
+    // The kind of a number; a null's where it is none's.
+    #[tactic(auto, unfolding(crate::specs::Literals::kind_at, crate::specs::Codes::coded))]
+    pub fn of_number(n: u32) -> LiteralKind
+        ensures { result ≡ kind_at n }
+    {
+        match n {
+            2 => LiteralKind::Bool,
+            3 => LiteralKind::Int,
+            4 => LiteralKind::Float,
+            5 => LiteralKind::Text,
+            _ => LiteralKind::Null,
+        }
+    }
+}
+
+// Its numbers are a flag; the 64 bits of an integer or a float, the low half first; or a text's address and length.
+#[derive(Clone, Copy, Debug, PartialEq, Eq)]
+pub struct Literal {
+    pub kind: LiteralKind,
+    pub first: u32,
+    pub second: u32,
+}
+
+impl Literal {
+    #[tactic(auto, unfolding(crate::specs::Literals::literal_of, rules::specs::BuildExpression::is_null_or_nan))]
+    pub fn is_null_or_nan(self) -> bool
+        ensures { (c q : Bytes) → result ≡ is_null_or_nan (literal_value c q self) }
+    {
+        match self.kind {
+            LiteralKind::Null => true,
+            LiteralKind::Float => is_nan(joined(self.first, self.second)),
+            LiteralKind::Bool | LiteralKind::Int | LiteralKind::Text => false,
+        }
+    }
+}
+
+// The numbers of a literal that may be missing, in four places from i on; all 0 where it is.
+#[tactic(auto, unfolding(crate::specs::Literals::given_numbers))]
+pub fn put_given(s: &mut [u32], i: usize, literal: Option<Literal>)
+    requires { i + 4 ≤ length s.old }
+    ensures { s.new ≡ sets s.old i (given_numbers literal) }
+{
+    match literal {
+        None => put_four(s, i, 0, 0, 0, 0),
+        Some(x) => put_four(s, i, x.kind.number(), x.first, x.second, 0),
+    }
+}
 
 // Whether the bits n are a NaN's.
 #[tactic(auto, unfolding(rules::specs::BuildExpression::is_null_or_nan))]
@@ -13,17 +80,4 @@ pub fn is_nan(n: u64) -> bool
     ensures { result ≡ is_null_or_nan (float n) }
 {
     n % 0x8000_0000_0000_0000 > 0x7ff0_0000_0000_0000
-}
-
-// Whether a literal is a null or a NaN.
-pub fn is_null_or_nan(kind: u32, a: u32, b: u32) -> bool
-    ensures { (c q : Bytes) → result ≡ is_null_or_nan (value_at c q kind a b) }
-{
-    match kind {
-        2 => false,
-        3 => false,
-        4 => is_nan(joined(a, b)),
-        5 => false,
-        _ => true,
-    }
 }

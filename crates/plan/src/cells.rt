@@ -3,28 +3,20 @@ ghost use Rattle.std.specs.Prelude.{◌≡◌, [], ◌∷◌, ◌+◌};
 ghost use Rattle.rules.specs.Lists.{Bytes};
 ghost use Rattle.rules.specs.Ast as ast;
 ghost use Rattle.rules.specs.Area.{cell_numbers};
+ghost use Rattle.rules.specs.Schema.{float};
 ghost use Rattle.rules.specs.Cells as rules;
 ghost use Rattle.numbers.specs.Operators.{unary_operator, binary_operator};
-ghost use Rattle.numbers.specs.Values.{value_at};
+ghost use Rattle.numbers.specs.Bits.{joined};
+ghost use Rattle.numbers.specs.Literals.{literal_value};
 ghost use Rattle.plan.specs.Cells.{Room, Puts, Operated};
 
 use super::{CELL_SIZE, HEADER_SIZE};
-use ast::row::{LiteralKind, literal_kind};
+use literal::planned::in_plan;
+use numbers::literals::{Literal, LiteralKind};
 use numbers::operators::{Binary, Unary};
 use numbers::put_four;
-use text::lengths::length_at;
 
-// The kinds of cells that are made here: docs/PLAN.md.
-const NULL: u32 = 1;
-
-const BOOL: u32 = 2;
-
-const INT: u32 = 3;
-
-const FLOAT: u32 = 4;
-
-const TEXT: u32 = 5;
-
+// The kinds of cells that are neither a literal's nor an operator's: docs/PLAN.md.
 const COLUMN: u32 = 6;
 
 const IS_NULL: u32 = 14;
@@ -48,52 +40,34 @@ pub fn column(area: &mut [u32], n: u32, i: u32)
     put_cell(area, n, COLUMN, i, 0, 0);
 }
 
-// A literal by its kind and two numbers, its bits kept. Of a text, as many bytes as there are.
-pub fn constant(
-    catalog: &[u8],
-    statement: &[u8],
-    area: &mut [u32],
-    n: u32,
-    kind: u32,
-    a: u32,
-    b: u32,
-)
+// A literal, its bits kept. Of a text, as many bytes as there are.
+pub fn constant(catalog: &[u8], statement: &[u8], area: &mut [u32], n: u32, literal: Literal)
     requires { Room n 1 area.old }
     ensures { Puts n
-        (rules.constant (value_at catalog.now statement.now kind a b) ∷ [])
+        (rules.constant (literal_value catalog.now statement.now literal) ∷ [])
         area.old area.new }
 {
-    let literal = literal_kind(kind);
-    match literal {
-        LiteralKind::Null => put_cell(area, n, NULL, 0, 0, 0),
-        LiteralKind::Bool => {
-            if a == 1 {
-                return put_cell(area, n, BOOL, 1, 0, 0);
-            }
-            put_cell(area, n, BOOL, 0, 0, 0)
-        }
-        LiteralKind::Int => put_cell(area, n, INT, a, b, 0),
-        LiteralKind::Float => put_cell(area, n, FLOAT, a, b, 0),
-        LiteralKind::Text => {
-            let length = length_at(catalog, statement, a, b);
-            put_cell(area, n, TEXT, a, length, 0)
-        }
-    }
+    let x = in_plan(catalog, statement, literal);
+    put_cell(area, n, x.kind.number(), x.first, x.second, 0);
 }
 
-// `is` with a literal by its kind and two numbers, a NaN's bits kept.
-pub fn is(area: &mut [u32], n: u32, x: u32, kind: u32, a: u32, b: u32)
+// `is` with a NaN, its bits kept.
+fn is_nan(area: &mut [u32], n: u32, x: u32, low: u32, high: u32)
     requires { Room n 1 area.old }
-    ensures { (c q : Bytes) → Puts n (rules.is x (value_at c q kind a b) ∷ [])
+    ensures { Puts n (rules.is x (float (joined low high)) ∷ []) area.old area.new }
+{
+    put_cell(area, n, IS_NAN, x, low, high);
+}
+
+// `is` with a literal: a NaN, or a null.
+pub fn is(area: &mut [u32], n: u32, x: u32, literal: Literal)
+    requires { Room n 1 area.old }
+    ensures { (c q : Bytes) → Puts n (rules.is x (literal_value c q literal) ∷ [])
         area.old area.new }
 {
-    let literal = literal_kind(kind);
-    match literal {
-        LiteralKind::Null => put_cell(area, n, IS_NULL, x, 0, 0),
-        LiteralKind::Bool => put_cell(area, n, IS_NULL, x, 0, 0),
-        LiteralKind::Int => put_cell(area, n, IS_NULL, x, 0, 0),
-        LiteralKind::Float => put_cell(area, n, IS_NAN, x, a, b),
-        LiteralKind::Text => put_cell(area, n, IS_NULL, x, 0, 0),
+    match literal.kind {
+        LiteralKind::Float => is_nan(area, n, x, literal.first, literal.second),
+        _ => put_cell(area, n, IS_NULL, x, 0, 0),
     }
 }
 

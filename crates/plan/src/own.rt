@@ -7,12 +7,15 @@ ghost use Rattle.rules.specs.Schema.{Value, Table};
 ghost use Rattle.rules.specs.Plan.{Node, cindex, vindex, Made, delete};
 ghost use Rattle.rules.specs.Plan as plan;
 ghost use Rattle.rules.specs.Area.{span, option_span, type_code, mapping_numbers, set_numbers, default_numbers, own_numbers};
+ghost use Rattle.numbers.specs.Literals.{given_numbers};
 ghost use Rattle.plan.specs.Layout.{cell_size, own_size, own_head, set_size, mapping_size, column_size};
 ghost use Rattle.plan.specs.Appended.{Appended};
 ghost use Rattle.plan.specs.Places.{place_numbers, option_place};
 ghost use Rattle.plan.specs.Own.{inserting, updating, creating, column_numbers};
 
+use crate::CELL_SIZE;
 use crate::pushes::{four, pair, place, push};
+use numbers::literals::{Literal, put_given};
 use text::places::Place;
 
 // A name and a number.
@@ -102,10 +105,11 @@ pub fn column(
     place(nodes, j, reference)
 }
 
-// A column's default: its kind and two numbers, all 0 for none.
-pub fn default_value(nodes: &mut [u32], k: usize, kind: u32, x: u32, y: u32) -> usize
+// A column's default: its numbers, all 0 for none.
+pub fn default_value(nodes: &mut [u32], k: usize, default: Option<Literal>) -> usize
     requires { k + cell_size ≤ length nodes.old }
-    ensures { (d : Option Value) → default_numbers d ≡ kind ∷ x ∷ y ∷ 0 ∷ [] → Appended (default_numbers d) k nodes.old result nodes.new }
+    ensures { (d : Option Value) → default_numbers d ≡ given_numbers default → Appended (default_numbers d) k nodes.old result nodes.new }
 {
-    four(nodes, k, kind, x, y, 0)
+    put_given(nodes, k, default);
+    k + CELL_SIZE
 }

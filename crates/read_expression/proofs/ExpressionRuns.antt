@@ -17,7 +17,8 @@ use Rattle.text.specs.Reading.{place, text_of}
 use Rattle.numbers.specs.Values.{ValueFits}
 use Rattle.std.specs.Prelude as std
 use Rattle.literal.specs.Records.{IsLiteral, literal-none, literal-some}
-use Rattle.literal.specs.declared.record.Literal.{Literal}
+use Rattle.numbers.specs.Literals.{kind_number}
+use Rattle.numbers.specs.declared.literals.Literal.{Literal}
 use Rattle.numbers.specs.Stores.{sets-in-front}
 use Rattle.ast.specs.Table.{row_size}
 use Rattle.numbers.specs.declared.refusals.Reason.TheVariants.{WrongRecord, LimitPassed}
@@ -91,11 +92,12 @@ module _ {t : Bytes} (p l d k : ℕ) {r : std.Option Literal} (s : (x : Text) (l
   unfolding base_address
   is-row-wrong H z = gives-wrong _ H _ _ _ _ _ l (literal-wrong t p l d k (literal-none (s statement l d k refl) z))
 
-  pub is_row : (c line : ℕ) {q : ℕ} (v : Literal) (cells : List ℕ) {cells' : List ℕ} → Position t p l d → r ≡ std.Some v → q ≡ line_end t p
-      → cells' ≡ sets cells (row_size * c) (7 ∷ line ∷ (d - c) ∷ v.kind ∷ v.a ∷ v.b ∷ 0 ∷ 0 ∷ [])
+  pub is_row : (c line : ℕ) {q m : ℕ} (v : Literal) (cells : List ℕ) {cells' : List ℕ} → Position t p l d → r ≡ std.Some v → q ≡ line_end t p
+      → m ≡ kind_number v.kind
+      → cells' ≡ sets cells (row_size * c) (7 ∷ line ∷ (d - c) ∷ m ∷ v.first ∷ v.second ∷ 0 ∷ 0 ∷ [])
       → Given literal_here (IsRow t c d line cells cells') t p l d k (Ok (record { position = q; line = l + 1; rows = d }))
   unfolding base_address text_of
-  is_row c line {q} x cells w z f e =
+  is_row c line {q} x cells w z f g e =
       let v = literal-some x (s statement l d k refl) z in
       let i = literal-inside t p l d k v.0 v.1 in
       gives-done _ _ _ _ _ _ _ q (l + 1) d (record {
@@ -105,7 +107,7 @@ module _ {t : Bytes} (p l d k : ℕ) {r : std.Option Literal} (s : (x : Text) (l
         moved = line-passed t i f;
         more = omega arith;
         holds = record {
-          written = e ∙ ap (sets cells (row_size * c)) (is-numbers line (d - c) v.0 v.2);
+          written = rw g at e ∙ ap (sets cells (row_size * c)) (is-numbers line (d - c) v.0 v.2);
           rows = refl;
           fits = λ b. v.3 statement refl b t refl;
         };

@@ -12,7 +12,8 @@ use Rattle.rules.specs.Reader.{base_address}
 use Rattle.rules.specs.ReadExpression.{value_head}
 use Rattle.text.specs.Reading.{text_of}
 use Rattle.literal.specs.Records.{IsLiteral, literal-none, literal-some}
-use Rattle.literal.specs.declared.record.Literal.{Literal}
+use Rattle.numbers.specs.Literals.{kind_number}
+use Rattle.numbers.specs.declared.literals.Literal.{Literal}
 use Rattle.read_expression.specs.declared.heads.Row.{Row}
 use Rattle.read_expression.specs.Encode.{head_numbers, arity}
 use Rattle.read_expression.specs.Fits.{HeadFits}
@@ -22,7 +23,7 @@ pub row-none : (t : Bytes) (o : Option Value) (v : std.Option Literal) → IsLit
 unfolding map_option
 row-none t o v s e = rw (literal-none s e)
 
-pub row-some : (t : Bytes) (o : Option Value) (l : std.Option Literal) (v : Literal) (r : Row) → IsLiteral most_bytes t o l → l ≡ std.Some v → numbers_of r ≡ 8 ∷ v.kind ∷ v.a ∷ v.b ∷ 0 ∷ 0 ∷ [] → r.operands ≡ 0 → RowOf t (map_option value_head o) (std.Some r)
+pub row-some : (t : Bytes) (o : Option Value) (l : std.Option Literal) (v : Literal) (r : Row) → IsLiteral most_bytes t o l → l ≡ std.Some v → numbers_of r ≡ 8 ∷ kind_number v.kind ∷ v.first ∷ v.second ∷ 0 ∷ 0 ∷ [] → r.operands ≡ 0 → RowOf t (map_option value_head o) (std.Some r)
 unfolding RowSays base_address text_of
 row-some t o l v r s e n z =
     let x = literal-some v s e in

@@ -14,7 +14,8 @@ ghost use Rattle.literal.specs.Records.{IsLiteral};
 ghost use Rattle.read_expression.specs.RowOf.{Plain, RowOf};
 
 use ast::rows::{BINARY, CALL, COLUMN, IS, LITERAL, QUALIFIED, STAR, UNARY};
-use literal::record::{Literal, literal_at};
+use literal::record::literal_at;
+use numbers::literals::Literal;
 use text::places::address;
 use text::{Line, MOST_BYTES};
 
@@ -145,9 +146,9 @@ fn literal_row(literal: Option<Literal>) -> Option<Row>
     let v = literal?;
     Some(Row {
         kind: LITERAL,
-        code: v.kind,
-        a: v.a,
-        b: v.b,
+        code: v.kind.number(),
+        a: v.first,
+        b: v.second,
         c: 0,
         d: 0,
         operands: 0,

@@ -54,9 +54,9 @@ fn read_is(t: &[u8], at: Cursor, c: u32, line: u32, cells: &mut [u32]) -> Result
     };
     let h = Row {
         kind: IS,
-        code: v.kind,
-        a: v.a,
-        b: v.b,
+        code: v.kind.number(),
+        a: v.first,
+        b: v.second,
         c: 0,
         d: 0,
         operands: 1,

@@ -26,7 +26,9 @@ use Rattle.numbers.specs.declared.refusals.Reason.TheVariants.{WrongRecord, Limi
 use Rattle.numbers.specs.declared.refusals.Refusal as code
 use Rattle.numbers.specs.Reasons.{reason_of}
 use Rattle.schema.specs.declared.record.ColumnRecord.{ColumnRecord}
-use Rattle.schema.specs.declared.Default.{Default}
+use Rattle.numbers.specs.Literals.{given_numbers}
+use Rattle.numbers.specs.Literals.{given as numbers-given}
+use Rattle.numbers.specs.declared.literals.Literal.{Literal}
 use Rattle.schema.specs.Room.{least_line, least_default, least_column, column_fits, column-bytes, field_bytes, Closed, line-size, named-short, default-short, field-most}
 use Rattle.schema.specs.Columns.{columns, columns-end, columns-wrong, columns-limit, columns-no, columns-on, body-no, body_ok, ColumnReady, columns_from, ColumnMoves, ColumnRead, line-position}
 
@@ -74,7 +76,7 @@ module _ {t : Bytes} {s : List ℕ} {p l f n : ℕ} (w : ColumnReady t s p l f n
     unfolding columns_from ColumnMoves reason_of stop place
     column-limit g = record { says = λ q fuel. sym (columns-limit _ fuel n _ (said q) _ refl g); kept = kept-all _ _ s; moves = tt }
 
-    module _ (g : n < most_table_columns) (d : std.Option Default) (given : (q : Bytes) (i : ℕ) → default_said t q d ≡ one_of (default_records literals) (line_here (here t e i))) where
+    module _ (g : n < most_table_columns) (d : std.Option (std.Option Literal)) (given : (q : Bytes) (i : ℕ) → default_said t q d ≡ one_of (default_records literals) (line_here (here t e i))) where
       pub column-default : d ≡ None → ColumnRead t p l f n s s (Err (record { reason = WrongRecord; line = l + 1 }))
       unfolding columns_from ColumnMoves reason_of stop place default_said
       column-default y = record {
@@ -83,10 +85,19 @@ module _ {t : Bytes} {s : List ℕ} {p l f n : ℕ} (w : ColumnReady t s p l f n
         moves = tt;
       }
 
-      module _ {x y v : ℕ} (o : d ≡ Some (record { kind = x; first = y; second = v })) where
+      module _ {b : std.Option Literal} (o : d ≡ Some b) where
+        abbrev x : ℕ
+        x = (numbers-given b).kind
+
+        abbrev y : ℕ
+        y = (numbers-given b).first
+
+        abbrev v : ℕ
+        v = (numbers-given b).second
+
         given-as : (q : Bytes) → one_of (default_records literals) (line_here (here t e (l + 1))) ≡ some (default_of t q x y v)
         unfolding default_said
-        given-as q = sym (given q (l + 1)) ∙ ap (default_said t q) o
+        given-as q = sym (given q (l + 1)) ∙ ap (default_said t q) o ∙ ap some (sym ((numbers-given b).value t q))
 
         ended : (p + least_column ≤ line_end t e) × (line_end t e ≤ length t)
         ended = (omega (arith, moved, default-bytes t e (l + 1) _ (given-as [])), omega (arith, line-most t e, column-next.within))
@@ -94,9 +105,9 @@ module _ {t : Bytes} {s : List ℕ} {p l f n : ℕ} (w : ColumnReady t s p l f n
         pub column-room : column_start (suc (f + n)) ≤ length s
         column-room = column_fits (f + n) w.room (omega (arith, w.first)) (omega (arith, w.behind, ended.0, ended.1))
 
-        module _ {s₁ s₂ : List ℕ} {i : ℕ} (ei : i ≡ column_start (f + n)) (e₁ : s₁ ≡ sets s i (a ∷ m ∷ k ∷ u ∷ [])) (n₁ : length s₁ ≡ length s) (e₂ : s₂ ≡ sets s₁ (i + 4) (x ∷ y ∷ v ∷ 0 ∷ [])) where
+        module _ {s₁ s₂ : List ℕ} {i : ℕ} (ei : i ≡ column_start (f + n)) (e₁ : s₁ ≡ sets s i (a ∷ m ∷ k ∷ u ∷ [])) (n₁ : length s₁ ≡ length s) (e₂ : s₂ ≡ sets s₁ (i + 4) (given_numbers b)) where
           eight : s₂ ≡ sets s i (a ∷ m ∷ k ∷ u ∷ x ∷ y ∷ v ∷ 0 ∷ [])
-          eight = e₂ ∙ rw e₁ (sym (sets-append (a ∷ m ∷ k ∷ u ∷ []) (x ∷ y ∷ v ∷ 0 ∷ []) s i))
+          eight = e₂ ∙ rw (e₁, (numbers-given b).is) (sym (sets-append (a ∷ m ∷ k ∷ u ∷ []) (x ∷ y ∷ v ∷ 0 ∷ []) s i))
 
           stands : Stored s₂ i (a ∷ m ∷ k ∷ u ∷ x ∷ y ∷ v ∷ 0 ∷ [])
           stands = rw eight (stored-sets s i (a ∷ m ∷ k ∷ u ∷ x ∷ y ∷ v ∷ 0 ∷ []) (omega (arith, column-room)))

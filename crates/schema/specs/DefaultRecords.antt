@@ -11,15 +11,15 @@ use Rattle.rules.specs.Lines.{Word, bytes}
 use Rattle.rules.specs.Schema.{Value}
 use Rattle.rules.specs.Reader.{base_address, key, rest, key_of, line_here, apply, one_of, no_field, literals}
 use Rattle.rules.specs.ReadCatalog.{default_records}
-use Rattle.rules.specs.Area.{default_numbers}
-use Rattle.numbers.specs.Values.{LiteralFits, default_of, default-back}
+use Rattle.numbers.specs.Literals.{kind_number, given_value, literal-back}
+use Rattle.numbers.specs.Values.{value-back}
 use Rattle.text.specs.declared.Line.{Line}
 use Rattle.text.specs.Lines.{Fields}
 use Rattle.text.specs.Order.{same_true, same_self}
 use Rattle.text.specs.Reading.{place, text_of, key-is, rest-none, rest-other}
 use Rattle.text.specs.Records.{no-field}
 use Rattle.literal.specs.Records.{IsLiteral, literal-none, literal-some}
-use Rattle.literal.specs.declared.record.Literal.{Literal}
+use Rattle.numbers.specs.declared.literals.Literal.{Literal}
 use Rattle.schema.specs.Records.{here, default_said}
 
 same-no : (x y : Bytes) → same x y ≡ false → same y x ≡ false
@@ -49,8 +49,8 @@ module _ (t : Bytes) (p : ℕ) (f : Line) (g : Fields t p f) {b : Bool} (e : b �
         let w : key_of (line_here (here t p l)) ≡ bytes "nodefault" = key-is catalog t p l 0 0 f g ∙ same_true _ _ (sym e ∙ h) in
         rw w
 
-    pub default_none : f.count ≡ 1 → default_said t q (Some (record { kind = 0; first = 0; second = 0 })) ≡ one_of (default_records literals) (line_here (here t p l))
-    unfolding default_said default_of no_field map_option
+    pub default_none : f.count ≡ 1 → default_said t q (Some std.None) ≡ one_of (default_records literals) (line_here (here t p l))
+    unfolding default_said given_value no_field map_option
     default_none n = sym (none_here ∙ rw (rest-none catalog t p l 0 0 f g n))
 
     pub default-crowded : (f.count ≡ 1 → ⊥) → default_said t q None ≡ one_of (default_records literals) (line_here (here t p l))
@@ -70,9 +70,9 @@ module _ (t : Bytes) (p : ℕ) (f : Line) (g : Fields t p f) {b : Bool} (e : b �
     unfolding default_said map_option
     default-wrong z = sym (literal-here ∙ rw (literal-none spoken z))
 
-    pub default-value : {v : Literal} → r ≡ std.Some v → default_said t q (Some (record { kind = v.kind; first = v.a; second = v.b })) ≡ one_of (default_records literals) (line_here (here t p l))
-    unfolding default_said map_option base_address text_of
+    pub default-value : {v : Literal} → r ≡ std.Some v → default_said t q (Some (std.Some v)) ≡ one_of (default_records literals) (line_here (here t p l))
+    unfolding default_said given_value map_option base_address text_of
     default-value {v} z =
         let x = literal-some v spoken z in
-        let d = default-back t q (some x.0) v.kind v.a v.b (unfold LiteralFits in x.3 catalog refl t q refl) (unfold default_numbers in x.2) in
-        ap some d ∙ sym (literal-here ∙ ap (map_option some) x.1)
+        let d = value-back t q x.0 (kind_number v.kind) v.first v.second (x.3 catalog refl t q refl) x.2 in
+        ap (λ (u : Value). some (some u)) (sym (literal-back t q v) ∙ d) ∙ sym (literal-here ∙ ap (map_option some) x.1)

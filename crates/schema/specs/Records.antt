@@ -15,13 +15,14 @@ use Rattle.rules.specs.Places.{bytes_at, word_at}
 use Rattle.text.specs.declared.Line.{Line}
 use Rattle.text.specs.Lines.{Fields, line_end, field}
 use Rattle.text.specs.Reading.{place, text_of, field-word, field-inside}
-use Rattle.numbers.specs.Values.{is_one, type_at, default_of}
+use Rattle.numbers.specs.Literals.{given_value}
+use Rattle.numbers.specs.Values.{is_one, type_at}
 use Rattle.schema.specs.Layout.{table_start}
 use Rattle.numbers.specs.declared.refusals.Reason.TheVariants.{WrongRecord}
 use Rattle.numbers.specs.declared.refusals.Refusal as code
 use Rattle.schema.specs.declared.record.ColumnRecord.{ColumnRecord}
 use Rattle.schema.specs.declared.record.TableRecord.{TableRecord}
-use Rattle.schema.specs.declared.Default.{Default}
+use Rattle.numbers.specs.declared.literals.Literal.{Literal}
 
 -- p is a position in a text that is not too long
 pub record Position (t : Bytes) (p : ℕ) : Type 0 where
@@ -73,9 +74,9 @@ pub record TableLine (t : Bytes) (s : List ℕ) (n p : ℕ) (r : std.Option Tabl
   pub says : (q : Bytes) (l : ℕ) → table_said t q r ≡ table_here (names t s n) (here t p l)
   pub next : TableEnds t p r
 
--- a default by its numbers
-unfoldable pub default_said : Bytes → Bytes → std.Option Default → Option (Option Value)
-default_said c q (Some d) = some (default_of c q d.kind d.first d.second)
+-- a default, or none
+unfoldable pub default_said : Bytes → Bytes → std.Option (std.Option Literal) → Option (Option Value)
+default_said c q (Some d) = some (given_value c q d)
 default_said c q None = none
 
 -- FIELDS

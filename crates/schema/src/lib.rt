@@ -8,10 +8,11 @@ ghost use Rattle.std.specs.Prelude.{◌≡◌, ◌<◌, ◌^◌, length};
 ghost use Rattle.rules.specs.Lists.{Bytes};
 ghost use Rattle.rules.specs.Places.{bytes_at, word_at};
 ghost use Rattle.rules.specs.Schema.{column_at, default_at};
-ghost use Rattle.numbers.specs.Values.{default_of};
+ghost use Rattle.numbers.specs.Literals.{given_value};
 ghost use Rattle.schema.specs.Layout.{table_at, catalog_at};
 ghost use Rattle.schema.specs.Search.{table_from, found_of, found_table, start_of, name_at};
 
+use numbers::literals::{Literal, LiteralKind};
 use numbers::number;
 
 // The most numbers that a catalog takes: how many tables, 32 tables of five numbers, 2,048 columns of eight.
@@ -32,14 +33,6 @@ const COLUMN_SIZE: usize = 8;
 pub struct Name {
     pub address: u32,
     pub length: u32,
-}
-
-// A column's default: its kind and two numbers.
-#[derive(Clone, Copy)]
-pub struct Default {
-    pub kind: u32,
-    pub first: u32,
-    pub second: u32,
 }
 
 // The position of the table of a name, which is the n bytes at an address.
@@ -131,13 +124,17 @@ pub fn column_name(tables: &[u32], i: u32, j: u32) -> Name
 }
 
 // The default of the j-th column of the i-th table.
-pub fn default_at(tables: &[u32], i: u32, j: u32) -> Default
-    ensures { (c q : Bytes) → default_of c q result.kind result.first result.second ≡ default_at (table_at c q tables.now i).columns j }
+pub fn default_at(tables: &[u32], i: u32, j: u32) -> Option<Literal>
+    ensures { (c q : Bytes) → given_value c q result ≡ default_at (table_at c q tables.now i).columns j }
 {
     let k = column_start(tables, i, j);
-    Default {
-        kind: number(tables, k + 4),
+    let kind = number(tables, k + 4);
+    if kind == 0 {
+        return None;
+    }
+    Some(Literal {
+        kind: LiteralKind::of_number(kind),
         first: number(tables, k + 5),
         second: number(tables, k + 6),
-    }
+    })
 }

@@ -11,6 +11,7 @@ ghost use Rattle.schema.specs.TableRuns.{catalog_of, catalog_answer};
 
 use crate::record::{column_record, default_record, table_record};
 use crate::{COLUMN_SIZE, COLUMNS, NUMBERS, TABLE_SIZE, TABLES};
+use numbers::literals::put_given;
 use numbers::put_four;
 use numbers::refusals::{Reason, Refusal};
 
@@ -62,7 +63,7 @@ fn read_column(
         c.datatype,
         c.nullable,
     );
-    put_four(tables, i + 4, d.kind, d.first, d.second, 0);
+    put_given(tables, i + 4, d);
     Ok(Some(f.next))
 }
 

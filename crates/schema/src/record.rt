@@ -8,8 +8,9 @@ ghost use Rattle.rules.specs.ReadCatalog.{default_records};
 ghost use Rattle.text.specs.Lines.{Fields};
 ghost use Rattle.schema.specs.Records.{Position, here, names, default_said, ColumnLine, TableLine};
 
-use crate::{Default, Name, TABLE_SIZE, TABLES};
+use crate::{Name, TABLE_SIZE, TABLES};
 use literal::record::literal_at;
+use numbers::literals::Literal;
 use numbers::number;
 use numbers::refusals::{Reason, Refusal};
 use text::Line;
@@ -117,7 +118,7 @@ pub fn table_record(catalog: &[u8], tables: &[u32], n: u32, at: usize) -> Option
 }
 
 // The default's record at a position, by its fields: a literal or `nodefault`.
-pub fn default_record(catalog: &[u8], at: usize, f: Line) -> Option<Default>
+pub fn default_record(catalog: &[u8], at: usize, f: Line) -> Option<Option<Literal>>
     requires fact_1 { Position catalog.now at }
     requires fact_2 { Fields catalog.now at f }
     ensures { (q : Bytes) (l : ℕ) → default_said catalog.now q result ≡ one_of (default_records literals) (line_here (here catalog.now at l)) }
@@ -126,16 +127,8 @@ pub fn default_record(catalog: &[u8], at: usize, f: Line) -> Option<Default>
         if f.count != 1 {
             return None;
         }
-        return Some(Default {
-            kind: 0,
-            first: 0,
-            second: 0,
-        });
+        return Some(None);
     }
     let v = literal_at(catalog, 0, at, f)?;
-    Some(Default {
-        kind: v.kind,
-        first: v.a,
-        second: v.b,
-    })
+    Some(Some(v))
 }

@@ -18,7 +18,7 @@ use std::num::nearest_i64_to_f64;
 
 // How two values compare: their order, which a NaN has with no float; unknown where one is a null; or not at all.
 // An enum, as the rules have it: a Result of two Options is no plainer.
-#[derive(Clone, Copy)]
+#[derive(Clone, Copy, Debug, PartialEq, Eq)]
 pub enum Compared {
     Ordered(Option<Ordering>),
     Unknown,

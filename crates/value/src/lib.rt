@@ -10,7 +10,7 @@ mod operands;
 pub mod operators;
 
 // A text is an address and a length (text::places).
-#[derive(Clone, Copy)]
+#[derive(Clone, Copy, Debug, PartialEq)]
 pub enum Value {
     Null,
     Bool(bool),

@@ -1,22 +1,24 @@
-// Literals by their kinds and their two numbers (crate numbers, specs/Values.antt).
+// Literals by their kinds and their two numbers (crate numbers, specs/Literals.antt).
 ghost use Rattle.std.specs.Prelude.{◌≡◌};
 ghost use Rattle.rules.specs.Lists.{Bytes};
-ghost use Rattle.numbers.specs.Values.{value_at};
+ghost use Rattle.numbers.specs.Literals.{literal_value};
 ghost use Rattle.value.specs.Values.{value_of, held};
 
 use crate::Value;
 use numbers::halves::joined;
+use numbers::literals::{Literal, LiteralKind};
 
-// A literal's value, by its kind and two numbers.
-pub fn literal(k: u32, a: u32, b: u32) -> Value
-    ensures { (c q : Bytes) → value_of c q result ≡ held (value_at c q k a b) }
+// A literal's value.
+#[tactic(auto, unfolding(numbers::specs::Literals::literal_of, numbers::specs::Values::is_one, crate::specs::Values::value_of, crate::specs::Values::held))]
+pub fn literal(literal: Literal) -> Value
+    ensures { (c q : Bytes) → value_of c q result ≡ held (literal_value c q literal) }
 {
-    let n = joined(a, b);
-    match k {
-        2 => Value::Bool(a == 1),
-        3 => Value::Int(ints::bits::from_bits(n)),
-        4 => Value::Float(crate::bits::from_bits(n)),
-        5 => Value::Text(a, b),
-        _ => Value::Null,
+    let n = joined(literal.first, literal.second);
+    match literal.kind {
+        LiteralKind::Null => Value::Null,
+        LiteralKind::Bool => Value::Bool(literal.first == 1),
+        LiteralKind::Int => Value::Int(ints::bits::from_bits(n)),
+        LiteralKind::Float => Value::Float(crate::bits::from_bits(n)),
+        LiteralKind::Text => Value::Text(literal.first, literal.second),
     }
 }

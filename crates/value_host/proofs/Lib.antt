@@ -1,2 +1,3 @@
 mod Coded
+mod Halves
 mod Held

@@ -10,13 +10,17 @@ ghost use Rattle.value_host.specs.Numbers.{value_by, kind_of, bits_of, answer_of
 ghost use Rattle.value_host.specs.Codes.{unary_worked, binary_worked};
 
 use numbers::halves::{high, low};
+use numbers::literals::{Literal, LiteralKind};
 use numbers::operators::{Binary, Unary};
 use numbers::refusals::Reason;
 use value::{Value, comparison, literals, operators};
 
+// The number of a text's kind.
+const TEXT: u32 = LiteralKind::Text as u32;
+
 // Document 01's number of a refusal, or 0 and the value's kind and bits.
 #[repr(C)]
-#[derive(Clone, Copy)]
+#[derive(Clone, Copy, Debug, PartialEq, Eq)]
 pub struct Answer {
     pub refusal: u32,
     pub kind: u32,
@@ -27,12 +31,19 @@ pub struct Answer {
 fn value_at(kind: u32, n: u64) -> Value
     ensures { (c q : Bytes) → value_of c q result ≡ held (value_by c q kind n) }
 {
-    let a = low(n);
-    let b = high(n);
-    if kind == 5 {
-        return literals::literal(kind, b, a);
+    let literal_kind = LiteralKind::of_number(kind);
+    if kind == TEXT {
+        return literals::literal(Literal {
+            kind: literal_kind,
+            first: high(n),
+            second: low(n),
+        });
     }
-    literals::literal(kind, a, b)
+    literals::literal(Literal {
+        kind: literal_kind,
+        first: low(n),
+        second: high(n),
+    })
 }
 
 #[tactic(auto, unfolding(crate::specs::Numbers::kind_of, value::specs::Values::value_of))]

@@ -10,8 +10,8 @@ use Rattle.expression.proofs.evaluate_constant.Goals as goal
 
 pub returns-then-eq : goal.returns-then-eq
 unfolding answered constant_value number_of
-returns-then-eq c = bare _ _ _ _ _ _ _
-    (eqb-true _ _ (sym (same-kinds _ K.Literal c.kind_of.ensures refl) ∙ sym c.eq.ensures ∙ c.if-eq.true)) c.at-k.ensures c.at-a.ensures c.at-b.ensures
+returns-then-eq c = bare _ _ _ _ _
+    (eqb-true _ _ (sym (same-kinds _ K.Literal c.kind_of.ensures refl) ∙ sym c.eq.ensures ∙ c.if-eq.true)) c.literal.ensures
 
 pub returns : goal.returns
 unfolding number_of

@@ -12,7 +12,7 @@ returns-in-Unary c = let here = c in λ f t q h. unary-row f t q _ _ _ _ _ here.
 pub returns-in-Is : goal.returns-in-Is
 unfolding answered number_of
 returns-in-Is c = let here = c in λ f t q h. is_row f t q _ _ _ _ _ here.at-line.ensures h _
-    (kind_is here.kind_of.ensures here.in-Is.is) c.at.ensures (c.is.ensures _ _ t q)
+    (kind_is here.kind_of.ensures here.in-Is.is) c.literal.ensures (c.is.ensures t q)
 
 pub returns-in_default : goal.returns-in_default
 unfolding answered

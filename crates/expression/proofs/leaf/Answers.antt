@@ -2,10 +2,9 @@
 use mathlib.Core.Path.{ap, ◌∙◌}
 use Rattle.rules.specs.Evaluate.{evaluate, evaluate_root}
 use Rattle.rules.specs.Refusals.{ok, refuse, constant_only, unknown_function, unsupported_star}
-use Rattle.numbers.specs.Values.{value_at}
 use Rattle.value.specs.Values.{held}
 use Rattle.ast.specs.Operands.{tree-literal}
-use Rattle.ast.specs.Row.{number_of}
+use Rattle.ast.specs.Row.{number_of, row-literal}
 use Rattle.numbers.specs.Reasons.{reason_of}
 use Rattle.expression.specs.Answers.{map_answer, answered}
 use Rattle.expression.proofs.Rows.{kind_is, leaf-name, leaf-star, tree-none}
@@ -24,7 +23,7 @@ returns-in-Call c = λ f t q. rw (tree-none f t q _ _ (kind_is c.kind_of.ensures
 pub returns-in-Literal : goal.returns-in-Literal
 unfolding answered evaluate map_answer number_of
 returns-in-Literal c = λ f t q. rw (tree-literal f t q _ _ (kind_is c.kind_of.ensures c.in-Literal.is))
-    (ap ok (c.literal.ensures t q ∙ (λ i. held (value_at t q (c.at-v.ensures i) (c.at-a.ensures i) (c.at-b.ensures i)))))
+    (ap ok (c.literal-in-Literal.ensures t q ∙ ap held (row-literal t q _ _ c.literal.ensures)))
 
 pub returns-in_default : goal.returns-in_default
 unfolding answered reason_of evaluate map_answer refuse

@@ -1,6 +1,13 @@
 -- `default_at`: the default by the column's numbers.
+use Rattle.std.proofs.Common.{refl, ◌∙◌}
+use Rattle.numbers.specs.Literals.{given-none, given-some}
 use Rattle.schema.specs.Search.{default-there}
 use Rattle.schema.proofs.default_at.Goals as goal
 
+pub returns-then-kind-eq0 : goal.returns-then-kind-eq0
+returns-then-kind-eq0 c = λ c' q. given-none c' q _ _ _ c.if-kind-eq0.true
+    ∙ default-there _ c.args.i c.args.j c' q c.column_start-k.ensures.0 c.number-kind.ensures refl refl
+
 pub returns : goal.returns
-returns c c' q = default-there _ c.args.i c.args.j c' q c.column_start-k.ensures.0 c.number.ensures c.number-2.ensures c.number-3.ensures
+returns c = λ c' q. rw c.of_number.ensures (given-some c' q _ _ _ c.if-kind-eq0.false
+    ∙ default-there _ c.args.i c.args.j c' q c.column_start-k.ensures.0 c.number-kind.ensures c.number.ensures c.number-2.ensures)

@@ -4,6 +4,4 @@ use Rattle.build_expression.proofs.Literals.{constant_cell}
 use Rattle.build_expression.proofs.leaves.literal.Goals as goal
 
 pub returns : goal.returns
-returns c = literal-emits _ _ _ _ (constant_cell _ _ _ _ _ _ _ c.literal_number-kind.ensures
-    c.literal_first-a.ensures c.literal_second-b.ensures
-    c.constant.ensures)
+returns c = literal-emits _ _ _ _ (constant_cell _ _ _ _ c.literal-literal.ensures c.constant.ensures)

@@ -2,10 +2,8 @@
 use Rattle.build_update.specs.Sets.{no-default, a-default}
 use Rattle.build_update.proofs.set.build_default.Goals as goal
 
-pub returns-then-d-eq0 : goal.returns-then-d-eq0
-returns-then-d-eq0 c = no-default _ _ _ _ _ (c.default_at-d.ensures c.args.catalog.now c.args.statement.now) _
-    c.if-d-eq0.true
+pub returns-in_default : goal.returns-in_default
+returns-in_default c = rw c.at.ensures (no-default _ _ _ (c.default_at.ensures c.args.catalog.now c.args.statement.now) _ c.in_default.is)
 
 pub returns : goal.returns
-returns c = a-default _ _ _ _ _ (c.default_at-d.ensures c.args.catalog.now c.args.statement.now) _
-    c.if-d-eq0.false c.constant.ensures
+returns c = a-default _ _ _ (c.default_at.ensures c.args.catalog.now c.args.statement.now) _ _ c.in-Some.is c.constant.ensures

@@ -6,12 +6,10 @@ use Rattle.expression.proofs.Checks.{guard_passed, guard-refused, is-literal}
 use Rattle.expression.proofs.constants.check_is.Goals as goal
 
 pub returns-then-is_null_or_nan : goal.returns-then-is_null_or_nan
-returns-then-is_null_or_nan c = λ t q. guard_passed _ _ _ (is-literal t q _ _ _ _ _ _ (c.is_null_or_nan.ensures t q)
-    c.at-k.ensures c.at-a.ensures c.at-b.ensures
+returns-then-is_null_or_nan c = λ t q. guard_passed _ _ _ (is-literal t q _ _ (c.is_null_or_nan.ensures t q) c.literal.ensures
     ∙ c.if-is_null_or_nan.true)
 
 pub returns : goal.returns
 unfolding reason_of
-returns c = λ t q. rw c.at-2.ensures (guard-refused _ InvalidIs _ _ (is-literal t q _ _ _ _ _ _ (c.is_null_or_nan.ensures t q)
-    c.at-k.ensures c.at-a.ensures c.at-b.ensures
+returns c = λ t q. rw c.at-2.ensures (guard-refused _ InvalidIs _ _ (is-literal t q _ _ (c.is_null_or_nan.ensures t q) c.literal.ensures
     ∙ c.if-is_null_or_nan.false) c.at.ensures)

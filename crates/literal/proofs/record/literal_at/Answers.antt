@@ -3,6 +3,7 @@ use Rattle.std.proofs.Common.{refl, arith}
 use Rattle.rules.specs.Lists.{map_option}
 use Rattle.rules.specs.Lines.{bytes}
 use Rattle.rules.specs.Area.{value_numbers}
+use Rattle.numbers.specs.Literals.{kind_number}
 use Rattle.numbers.specs.Values.{ValueFits, LiteralFits}
 use Rattle.text.specs.Fields.{inside-field}
 use Rattle.literal.specs.Records.{literal-as, no-literal-as, literal-words, literal-null, literal-null-not, literal-field, literal-not}
@@ -13,7 +14,7 @@ unfolding bytes
 returns-then-n-ne1 c = λ x l d k b. no-literal-as _ _ (literal-null-not x _ _ l d k _ c.requires.fact_2 _ _ literal-words c.literal-k.ensures c.if-k-eq0.true c.if-n-ne1.true)
 
 pub returns-then-k-eq0 : goal.returns-then-k-eq0
-unfolding bytes map_option value_numbers LiteralFits ValueFits
+unfolding bytes map_option value_numbers kind_number LiteralFits ValueFits
 returns-then-k-eq0 c = λ x l d k b. literal-as (literal-null x _ _ l d k _ c.requires.fact_2 _ _ literal-words c.literal-k.ensures c.if-k-eq0.true c.if-n-ne1.false) (record { is = refl; fits = λ k e c q f. tt })
 
 pub returns-then-n-ne2 : goal.returns-then-n-ne2

@@ -8,4 +8,4 @@ pub returns-in_err-v : goal.returns-in_err-v
 returns-in_err-v c = λ t o s. rw c.from_residual.ensures (no_row (row-none t o _ s c.in_err-v.was))
 
 pub returns : goal.returns
-returns c = λ t o s. row-some t o _ _ _ s c.in_ok-v.was refl refl
+returns c = λ t o s. row-some t o _ _ _ s c.in_ok-v.was (rw c.number.ensures) refl

@@ -6,4 +6,4 @@ pub returns-in_default : goal.returns-in_default
 returns-in_default c = λ k. rw c.at.ensures (is-row-wrong _ _ _ k c.literal_at.ensures _ c.in_default.is)
 
 pub returns : goal.returns
-returns c = λ k. is_row _ _ _ k c.literal_at.ensures _ _ _ _ c.requires.fact_1 c.in-Some.is c.fields-f.ensures.next c.put_row.ensures
+returns c = λ k. is_row _ _ _ k c.literal_at.ensures _ _ _ _ c.requires.fact_1 c.in-Some.is c.fields-f.ensures.next c.number.ensures c.put_row.ensures

@@ -24,8 +24,8 @@ returns-in_default-default_record c = rw c.at-in_default-default_record.ensures 
 pub put_four-requires : goal.put_four-requires
 put_four-requires c = omega (arith, column-room c.requires c.column_record.ensures (c.in_ok-c.was ∙ ap Ok c.in-Some.is) c.if-index-ge-MOST_TABLE_COLUMNS.false _ c.default_record.ensures c.in-Some-default_record.is)
 
-pub put_four-requires-2 : goal.put_four-requires-2
-put_four-requires-2 c = omega (arith, column-room c.requires c.column_record.ensures (c.in_ok-c.was ∙ ap Ok c.in-Some.is) c.if-index-ge-MOST_TABLE_COLUMNS.false _ c.default_record.ensures c.in-Some-default_record.is, c.put_four.auto.s)
+pub put_given-requires : goal.put_given-requires
+put_given-requires c = omega (arith, column-room c.requires c.column_record.ensures (c.in_ok-c.was ∙ ap Ok c.in-Some.is) c.if-index-ge-MOST_TABLE_COLUMNS.false _ c.default_record.ensures c.in-Some-default_record.is, c.put_four.auto.s)
 
 pub returns : goal.returns
-returns c = column-read c.requires c.column_record.ensures (c.in_ok-c.was ∙ ap Ok c.in-Some.is) c.if-index-ge-MOST_TABLE_COLUMNS.false _ c.default_record.ensures c.in-Some-default_record.is refl c.put_four.ensures c.put_four.auto.s c.put_four-2.ensures c.fields-f.ensures.next
+returns c = column-read c.requires c.column_record.ensures (c.in_ok-c.was ∙ ap Ok c.in-Some.is) c.if-index-ge-MOST_TABLE_COLUMNS.false _ c.default_record.ensures c.in-Some-default_record.is refl c.put_four.ensures c.put_four.auto.s c.put_given.ensures c.fields-f.ensures.next
