@@ -1,5 +1,6 @@
 pub mod Behind
 pub mod Table
+pub mod Expressions
 pub mod Operands
 pub mod Row
 pub mod Aggregates

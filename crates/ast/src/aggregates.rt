@@ -5,6 +5,8 @@ ghost use Rattle.rules.specs.Places.{bytes_at};
 ghost use Rattle.rules.specs.BuildAggregate.{aggregates};
 ghost use Rattle.ast.specs.Aggregates.{named_of};
 
+use text::places::{Place, Texts};
+
 #[derive(Clone, Copy, Debug, PartialEq, Eq)]
 pub enum Aggregate {
     Avg,
@@ -30,16 +32,15 @@ fn named_in(t: &[u8], a: u32, n: u32) -> Option<Aggregate>
 }
 
 // Which aggregate the name at a place is.
-pub fn is_aggregate(
-    catalog: &[u8],
-    statement: &[u8],
-    address: u32,
-    length: u32,
-) -> Option<Aggregate>
-    ensures { named_of result ≡ named aggregates (bytes_at catalog.now statement.now address length) }
+pub fn is_aggregate(texts: &Texts, name: Place) -> Option<Aggregate>
+    ensures { named_of result ≡ named aggregates (bytes_at texts.now.catalog.now texts.now.statement.now name.address name.length) }
 {
-    if address < text::MOST_BYTES {
-        return named_in(catalog, address, length);
+    if name.address < text::MOST_BYTES {
+        return named_in(texts.catalog, name.address, name.length);
     }
-    named_in(statement, address - text::MOST_BYTES, length)
+    named_in(
+        texts.statement,
+        name.address - text::MOST_BYTES,
+        name.length,
+    )
 }

@@ -6,3 +6,12 @@ pub mod equality;
 pub mod row;
 pub mod rows;
 pub mod walk;
+
+use text::places::Texts;
+
+// The statement's expressions in their table, and the texts that their names stand in.
+#[derive(Clone, Copy)]
+pub struct Expressions<'t> {
+    pub texts: Texts<'t>,
+    pub table: &'t [u32],
+}

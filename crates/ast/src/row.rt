@@ -46,16 +46,14 @@ pub fn line(table: &[u32], r: usize) -> u32
 }
 
 // The place of a column's or a function's name.
-pub fn name_address(table: &[u32], r: usize) -> u32
-    ensures { result ≡ row.name_address table.now r }
+pub fn name(table: &[u32], r: usize) -> Place
+    ensures address { result.address ≡ row.name_address table.now r }
+    ensures length { result.length ≡ row.name_length table.now r }
 {
-    at(table, r, 4)
-}
-
-pub fn name_length(table: &[u32], r: usize) -> u32
-    ensures { result ≡ row.name_length table.now r }
-{
-    at(table, r, 5)
+    Place {
+        address: at(table, r, 4),
+        length: at(table, r, 5),
+    }
 }
 
 // The place of the table's name that qualifies a column.

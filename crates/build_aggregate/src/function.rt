@@ -4,16 +4,18 @@ ghost use Rattle.rules.specs.Lists.{Bytes};
 ghost use Rattle.rules.specs.Ast.{size};
 ghost use Rattle.rules.specs.Area.{aggregate_code};
 ghost use Rattle.ast.specs.Table.{tree_at};
+ghost use Rattle.ast.specs.Expressions.{tree_in};
 ghost use Rattle.ast.specs.Aggregates.{aggregate_of, named_of};
 ghost use Rattle.plan.specs.Cells.{Room};
 ghost use Rattle.build_aggregate.specs.Functions.{called_of, Calls, starred, OperandBuilds, FunctionBuilds};
 
 use ast::aggregates::{Aggregate, is_aggregate};
-use ast::{row, rows, walk};
+use ast::{Expressions, row, rows, walk};
 use build_expression::build_expression;
 use numbers::literals::{Literal, LiteralKind};
 use numbers::refusals::{Reason, Refusal};
 use plan::cells;
+use scope::view::View;
 
 // What `count(*)` counts: the constant true.
 const TRUE: Literal = Literal {
@@ -26,16 +28,14 @@ const TRUE: Literal = Literal {
 const COUNT: u32 = 2;
 
 // Which aggregate the record at row r calls, if any.
-pub fn called(catalog: &[u8], statement: &[u8], table: &[u32], r: usize) -> Option<Aggregate>
+pub fn called(exprs: &Expressions, r: usize) -> Option<Aggregate>
     ensures { named_of result
-        ≡ called_of (tree_at catalog.now statement.now table.now r) }
+        ≡ called_of (tree_in exprs.now r) }
 {
-    if rows::kind(table, r) != rows::CALL {
+    if rows::kind(exprs.table, r) != rows::CALL {
         return None;
     }
-    let a = row::name_address(table, r);
-    let n = row::name_length(table, r);
-    is_aggregate(catalog, statement, a, n)
+    is_aggregate(&exprs.texts, row::name(exprs.table, r))
 }
 
 // An aggregate's number in the plan.
@@ -62,72 +62,56 @@ fn takes_star(table: &[u32], r: usize, aggregate: Aggregate) -> bool
 }
 
 // The argument at row r: the constant true for the star of `count`.
-fn argument<'t, 'a>(
-    catalog: &'t [u8],
-    statement: &'t [u8],
-    table: &[u32],
+fn argument(
+    exprs: &Expressions,
     r: usize,
-    labels: &'a [u32],
-    matches: &'a [u16],
-    width: u32,
-    tables: &'a [u32],
-    count: u32,
+    scope: &View,
     aggregate: Aggregate,
     area: &mut [u32],
     n: u32,
 ) -> Result<u32, Refusal>
-    requires { Room n (3 * size (tree_at catalog.now statement.now table.now r)) area.old }
-    ensures { OperandBuilds catalog.now statement.now table.now
-        (take width labels.now) (take width matches.now) (take count tables.now)
+    requires { Room n (3 * size (tree_in exprs.now r)) area.old }
+    ensures { OperandBuilds exprs.now.texts.catalog.now exprs.now.texts.statement.now exprs.now.table.now
+        scope.now.labels.now scope.now.matches.now scope.now.tables.now
         (aggregate_of aggregate) r n area.old area.new result }
 {
-    if takes_star(table, r, aggregate) {
-        cells::constant(catalog, statement, area, n, TRUE);
+    if takes_star(exprs.table, r, aggregate) {
+        cells::constant(&exprs.texts, area, n, TRUE);
         return Ok(n + 1);
     }
-    build_expression(
-        catalog, statement, table, r, labels, matches, width, tables, count, area, n,
-    )
+    build_expression(exprs, r, scope, area, n)
 }
 
 // The argument of the aggregate that the record at row r calls: refused where it has not one argument, then where an
 // aggregate stands in it.
-pub fn build_function<'t, 'a>(
-    catalog: &'t [u8],
-    statement: &'t [u8],
-    table: &[u32],
+pub fn build_function(
+    exprs: &Expressions,
     r: usize,
-    labels: &'a [u32],
-    matches: &'a [u16],
-    width: u32,
-    tables: &'a [u32],
-    count: u32,
+    scope: &View,
     aggregate: Aggregate,
     area: &mut [u32],
     n: u32,
 ) -> Result<u32, Refusal>
-    requires calls { Calls catalog.now statement.now table.now r (aggregate_of aggregate) }
-    requires room { Room n (3 * size (tree_at catalog.now statement.now table.now r)) area.old }
-    ensures { FunctionBuilds catalog.now statement.now table.now
-        (take width labels.now) (take width matches.now) (take count tables.now)
+    requires calls { Calls exprs.now.texts.catalog.now exprs.now.texts.statement.now exprs.now.table.now r (aggregate_of aggregate) }
+    requires room { Room n (3 * size (tree_in exprs.now r)) area.old }
+    ensures { FunctionBuilds exprs.now.texts.catalog.now exprs.now.texts.statement.now exprs.now.table.now
+        scope.now.labels.now scope.now.matches.now scope.now.tables.now
         r n area.old area.new result }
 {
-    if row::arguments(table, r) != 1 {
-        let line = row::line(table, r);
+    if row::arguments(exprs.table, r) != 1 {
+        let line = row::line(exprs.table, r);
         return Err(Refusal {
             reason: Reason::ArgumentCount,
             line,
         });
     }
     let a = r + 1;
-    if walk::contains(catalog, statement, table, a) {
-        let line = row::line(table, r);
+    if walk::contains(exprs, a) {
+        let line = row::line(exprs.table, r);
         return Err(Refusal {
             reason: Reason::NestedAggregate,
             line,
         });
     }
-    argument(
-        catalog, statement, table, a, labels, matches, width, tables, count, aggregate, area, n,
-    )
+    argument(exprs, a, scope, aggregate, area, n)
 }

@@ -2,16 +2,18 @@
 ghost use Rattle.std.specs.Prelude.{◌≡◌, ◌+◌, ◌*◌, ◌≤◌, ◌<◌, ◌++◌, length, get_or, take};
 ghost use Rattle.rules.specs.Ast.{size};
 ghost use Rattle.rules.specs.Sizes.{total};
-ghost use Rattle.ast.specs.Table.{tree_at};
+ghost use Rattle.ast.specs.Expressions.{tree_in};
 ghost use Rattle.plan.specs.Layout.{nodes_size};
 ghost use Rattle.plan.specs.Cells.{Room};
 ghost use Rattle.build_aggregate.specs.Nodes.{record_end, NodeBuilt};
 
 use crate::lists::{FUNCTION_SIZE, build_functions, build_groups};
-use ast::row;
+use ast::{Expressions, row};
 use numbers::refusals::{Reason, Refusal};
 use plan::parts::{begin_aggregate, end, end_groups};
+use plan::steps::Part;
 use scope::COLUMNS;
+use scope::view::View;
 
 // The i-th of the groups' and the functions' rows.
 fn row_at(groups: &[usize], functions: &[usize], i: usize) -> usize
@@ -25,57 +27,53 @@ fn row_at(groups: &[usize], functions: &[usize], i: usize) -> usize
 }
 
 // The node over a source, by the rows of its groups and of its functions.
-pub fn build_node<'t, 'a>(
-    catalog: &'t [u8],
-    statement: &'t [u8],
-    table: &[u32],
+pub fn build_node(
+    exprs: &Expressions,
     groups: &[usize],
     functions: &[usize],
-    labels: &'a [u32],
-    matches: &'a [u16],
-    width: u32,
-    tables: &'a [u32],
-    count: u32,
+    scope: &View,
     source: u32,
     area: &mut [u32],
-    n: u32,
     nodes: &mut [u32],
-    k: usize,
+    at: Part,
 ) -> Result<u32, Refusal>
-    requires room { Room n (3 * (total (λ r. size (tree_at catalog.now statement.now table.now r)) groups.now
-        + total (λ r. size (tree_at catalog.now statement.now table.now r)) functions.now)) area.old }
-    requires functions_in_bounds { record_end k (length groups.now) (length functions.now) ≤ length nodes.old }
+    requires room { Room at.cell (3 * (total (λ r. size (tree_in exprs.now r)) groups.now
+        + total (λ r. size (tree_in exprs.now r)) functions.now)) area.old }
+    requires functions_in_bounds { record_end at.used (length groups.now) (length functions.now) ≤ length nodes.old }
     requires nodes_len_bound { length nodes.old ≤ nodes_size }
-    ensures { NodeBuilt catalog.now statement.now table.now
-        (take width labels.now) (take width matches.now) (take count tables.now)
-        groups.now functions.now source n k
-        (record_end k (length groups.now) (length functions.now))
+    ensures { NodeBuilt exprs.now.texts.catalog.now exprs.now.texts.statement.now exprs.now.table.now
+        scope.now.labels.now scope.now.matches.now scope.now.tables.now
+        groups.now functions.now source at.cell at.used
+        (record_end at.used (length groups.now) (length functions.now))
         area.old area.new nodes.old nodes.new result }
 {
-    let start = begin_aggregate(nodes, k, source);
+    let start = begin_aggregate(nodes, at.used, source);
     let m = build_groups(
-        catalog, statement, table, groups, labels, matches, width, tables, count, area, n, nodes,
-        start,
-    )?;
-    end_groups(nodes, k, start + groups.len());
-    let p = build_functions(
-        catalog,
-        statement,
-        table,
-        functions,
-        labels,
-        matches,
-        width,
-        tables,
-        count,
+        exprs,
+        groups,
+        scope,
         area,
-        m,
         nodes,
-        start + groups.len(),
+        Part {
+            cell: at.cell,
+            used: start,
+        },
+    )?;
+    end_groups(nodes, at.used, start + groups.len());
+    let p = build_functions(
+        exprs,
+        functions,
+        scope,
+        area,
+        nodes,
+        Part {
+            cell: m,
+            used: start + groups.len(),
+        },
     )?;
     if COLUMNS < groups.len() + functions.len() {
         let r = row_at(groups, functions, COLUMNS);
-        let line = row::line(table, r);
+        let line = row::line(exprs.table, r);
         return Err(Refusal {
             reason: Reason::LimitPassed,
             line,
@@ -83,7 +81,7 @@ pub fn build_node<'t, 'a>(
     }
     end(
         nodes,
-        k,
+        at.used,
         start + groups.len() + FUNCTION_SIZE * functions.len(),
     );
     Ok(p)

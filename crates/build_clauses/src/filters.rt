@@ -2,128 +2,89 @@
 ghost use Rattle.std.specs.Prelude.{◌*◌, take};
 ghost use Rattle.rules.specs.Ast.{size};
 ghost use Rattle.rules.specs.Sizes.{clause_size};
-ghost use Rattle.ast.specs.Table.{tree_at};
+ghost use Rattle.ast.specs.Expressions.{tree_in};
 ghost use Rattle.statement.specs.EntryAccess.{clause_of};
 ghost use Rattle.plan.specs.Layout.{filter_size};
 ghost use Rattle.plan.specs.Cells.{Room};
 ghost use Rattle.build_clauses.specs.Follows.{Follows};
 ghost use Rattle.build_clauses.specs.Filters.{Filtered, WhereBuilt, HavingBuilt};
 
+use ast::Expressions;
 use build_expression::build_expression;
 use numbers::refusals::{Reason, Refusal};
 use plan::nodes::filter;
 use plan::steps::Step;
-use scope::lookup::is_matched;
+use scope::view::View;
 use statement::access::Clause;
 
 // The rows for which the expression at row r holds.
-fn build_filter<'t, 'a>(
-    catalog: &'t [u8],
-    statement: &'t [u8],
-    cells: &[u32],
+fn build_filter(
+    exprs: &Expressions,
     r: usize,
-    labels: &'a [u32],
-    matches: &'a [u16],
-    width: u32,
-    tables: &'a [u32],
-    count: u32,
+    scope: &View,
     area: &mut [u32],
-    n: u32,
     nodes: &mut [u32],
-    m: u32,
-    k: usize,
+    at: Step,
 ) -> Result<Step, Refusal>
-    requires room { Room n (3 * size (tree_at catalog.now statement.now cells.now r)) area.old }
-    requires follows { Follows filter_size m k nodes.old }
-    ensures { Filtered catalog.now statement.now cells.now
-        (take width labels.now) (take width matches.now) (take count tables.now)
-        r n m k area.old nodes.old area.new nodes.new result }
+    requires room { Room at.cell (3 * size (tree_in exprs.now r)) area.old }
+    requires follows { Follows filter_size at.node at.used nodes.old }
+    ensures { Filtered exprs.now.texts.catalog.now exprs.now.texts.statement.now exprs.now.table.now
+        scope.now.labels.now scope.now.matches.now scope.now.tables.now
+        r at.cell at.node at.used area.old nodes.old area.new nodes.new result }
 {
-    let cell = build_expression(
-        catalog, statement, cells, r, labels, matches, width, tables, count, area, n,
-    )?;
-    let used = filter(nodes, k, m - 1, cell - 1);
+    let cell = build_expression(exprs, r, scope, area, at.cell)?;
+    let used = filter(nodes, at.used, at.node - 1, cell - 1);
     Ok(Step {
         cell,
-        node: m + 1,
+        node: at.node + 1,
         used,
     })
 }
 
 // WHERE over FROM's scope.
-pub fn build_where<'t, 'a>(
-    catalog: &'t [u8],
-    statement: &'t [u8],
-    cells: &[u32],
+pub fn build_where(
+    exprs: &Expressions,
     clause: Option<Clause>,
-    labels: &'a [u32],
-    matches: &'a [u16],
-    width: u32,
-    tables: &'a [u32],
-    count: u32,
+    scope: &View,
     area: &mut [u32],
-    n: u32,
     nodes: &mut [u32],
-    m: u32,
-    k: usize,
+    at: Step,
 ) -> Result<Step, Refusal>
-    requires room { Room n (3 * clause_size (clause_of catalog.now statement.now cells.now clause)) area.old }
-    requires follows { Follows filter_size m k nodes.old }
-    ensures { WhereBuilt catalog.now statement.now cells.now clause
-        (take width labels.now) (take width matches.now) (take count tables.now)
-        n m k area.old nodes.old area.new nodes.new result }
+    requires room { Room at.cell (3 * clause_size (clause_of exprs.now.texts.catalog.now exprs.now.texts.statement.now exprs.now.table.now clause)) area.old }
+    requires follows { Follows filter_size at.node at.used nodes.old }
+    ensures { WhereBuilt exprs.now.texts.catalog.now exprs.now.texts.statement.now exprs.now.table.now clause
+        scope.now.labels.now scope.now.matches.now scope.now.tables.now
+        at.cell at.node at.used area.old nodes.old area.new nodes.new result }
 {
     let Some(clause) = clause else {
-        return Ok(Step {
-            cell: n,
-            node: m,
-            used: k,
-        });
+        return Ok(at);
     };
-    build_filter(
-        catalog, statement, cells, clause.row, labels, matches, width, tables, count, area, n,
-        nodes, m, k,
-    )
+    build_filter(exprs, clause.row, scope, area, nodes, at)
 }
 
 // HAVING, which wants a group or an aggregate.
-pub fn build_having<'t, 'a>(
-    catalog: &'t [u8],
-    statement: &'t [u8],
-    cells: &[u32],
+pub fn build_having(
+    exprs: &Expressions,
     clause: Option<Clause>,
-    labels: &'a [u32],
-    matches: &'a [u16],
-    width: u32,
-    tables: &'a [u32],
-    count: u32,
+    scope: &View,
     area: &mut [u32],
-    n: u32,
     nodes: &mut [u32],
-    m: u32,
-    k: usize,
+    at: Step,
 ) -> Result<Step, Refusal>
-    requires room { Room n (3 * clause_size (clause_of catalog.now statement.now cells.now clause)) area.old }
-    requires follows { Follows filter_size m k nodes.old }
-    ensures { HavingBuilt catalog.now statement.now cells.now clause
-        (take width labels.now) (take width matches.now) (take count tables.now)
-        n m k area.old nodes.old area.new nodes.new result }
+    requires room { Room at.cell (3 * clause_size (clause_of exprs.now.texts.catalog.now exprs.now.texts.statement.now exprs.now.table.now clause)) area.old }
+    requires follows { Follows filter_size at.node at.used nodes.old }
+    ensures { HavingBuilt exprs.now.texts.catalog.now exprs.now.texts.statement.now exprs.now.table.now clause
+        scope.now.labels.now scope.now.matches.now scope.now.tables.now
+        at.cell at.node at.used area.old nodes.old area.new nodes.new result }
 {
     let Some(clause) = clause else {
-        return Ok(Step {
-            cell: n,
-            node: m,
-            used: k,
-        });
+        return Ok(at);
     };
-    if !is_matched(matches, width) {
+    if !scope.is_matched() {
         return Err(Refusal {
             reason: Reason::HavingWithoutAggregate,
             line: clause.line,
         });
     }
-    build_filter(
-        catalog, statement, cells, clause.row, labels, matches, width, tables, count, area, n,
-        nodes, m, k,
-    )
+    build_filter(exprs, clause.row, scope, area, nodes, at)
 }

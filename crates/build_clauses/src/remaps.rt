@@ -26,24 +26,20 @@ fn push_targets(width: u32, hidden: u32, nodes: &mut [u32], k: usize) -> usize
 }
 
 // The remap of a scope's columns by its width and how many of them are hidden; without these nothing is appended.
-pub fn build_remap(width: u32, hidden: u32, nodes: &mut [u32], n: u32, m: u32, k: usize) -> Step
+pub fn build_remap(width: u32, hidden: u32, nodes: &mut [u32], at: Step) -> Step
     requires hidden_le_width { hidden ≤ width }
-    requires follows { Follows (source_head + width) m k nodes.old }
-    ensures { RemapBuilt width hidden n m k nodes.old nodes.new result }
+    requires follows { Follows (source_head + width) at.node at.used nodes.old }
+    ensures { RemapBuilt width hidden at.cell at.node at.used nodes.old nodes.new result }
 {
     if hidden == 0 {
-        return Step {
-            cell: n,
-            node: m,
-            used: k,
-        };
+        return at;
     }
-    let start = begin(nodes, k, Kind::Remap, m - 1);
+    let start = begin(nodes, at.used, Kind::Remap, at.node - 1);
     let used = push_targets(width, hidden, nodes, start);
-    end(nodes, k, used);
+    end(nodes, at.used, used);
     Step {
-        cell: n,
-        node: m + 1,
+        cell: at.cell,
+        node: at.node + 1,
         used,
     }
 }

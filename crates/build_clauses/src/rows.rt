@@ -4,6 +4,7 @@ ghost use Rattle.plan.specs.Layout.{rows_size};
 ghost use Rattle.build_clauses.specs.Follows.{Follows};
 ghost use Rattle.build_clauses.specs.Rows.{Counted, OffsetBuilt, LimitBuilt};
 
+use ast::Expressions;
 use expression::constants::build_constant_value;
 use expression::planned::to_natural;
 use numbers::refusals::{Reason, Refusal};
@@ -12,80 +13,58 @@ use plan::steps::Step;
 use statement::access::Clause;
 
 // The number of rows that the constant at row r is, or the clause's refusal where it is none.
-fn row_count(
-    catalog: &[u8],
-    statement: &[u8],
-    cells: &[u32],
-    r: usize,
-    invalid: Refusal,
-) -> Result<u64, Refusal>
+fn row_count(exprs: &Expressions, r: usize, invalid: Refusal) -> Result<u64, Refusal>
     ensures { Counted (reason_of invalid.reason) invalid.line
-        catalog.now statement.now cells.now r result }
+        exprs.now.texts.catalog.now exprs.now.texts.statement.now exprs.now.table.now r result }
 {
-    let constant = build_constant_value(catalog, statement, cells, r)?;
+    let constant = build_constant_value(exprs, r)?;
     to_natural(constant).ok_or(invalid)
 }
 
 // All rows but the first ones.
 pub fn build_offset(
-    catalog: &[u8],
-    statement: &[u8],
-    cells: &[u32],
+    exprs: &Expressions,
     clause: Option<Clause>,
     nodes: &mut [u32],
-    n: u32,
-    m: u32,
-    k: usize,
+    at: Step,
 ) -> Result<Step, Refusal>
-    requires { Follows rows_size m k nodes.old }
-    ensures { OffsetBuilt catalog.now statement.now cells.now clause n m k
+    requires { Follows rows_size at.node at.used nodes.old }
+    ensures { OffsetBuilt exprs.now.texts.catalog.now exprs.now.texts.statement.now exprs.now.table.now clause at.cell at.node at.used
         nodes.old nodes.new result }
 {
     let Some(clause) = clause else {
-        return Ok(Step {
-            cell: n,
-            node: m,
-            used: k,
-        });
+        return Ok(at);
     };
     let invalid = Reason::InvalidOffset.at(clause.line);
-    let z = row_count(catalog, statement, cells, clause.row, invalid)?;
-    let used = rows(nodes, k, Kind::Offset, m - 1, z);
+    let z = row_count(exprs, clause.row, invalid)?;
+    let used = rows(nodes, at.used, Kind::Offset, at.node - 1, z);
     Ok(Step {
-        cell: n,
-        node: m + 1,
+        cell: at.cell,
+        node: at.node + 1,
         used,
     })
 }
 
 // The first rows.
 pub fn build_limit(
-    catalog: &[u8],
-    statement: &[u8],
-    cells: &[u32],
+    exprs: &Expressions,
     clause: Option<Clause>,
     nodes: &mut [u32],
-    n: u32,
-    m: u32,
-    k: usize,
+    at: Step,
 ) -> Result<Step, Refusal>
-    requires { Follows rows_size m k nodes.old }
-    ensures { LimitBuilt catalog.now statement.now cells.now clause n m k
+    requires { Follows rows_size at.node at.used nodes.old }
+    ensures { LimitBuilt exprs.now.texts.catalog.now exprs.now.texts.statement.now exprs.now.table.now clause at.cell at.node at.used
         nodes.old nodes.new result }
 {
     let Some(clause) = clause else {
-        return Ok(Step {
-            cell: n,
-            node: m,
-            used: k,
-        });
+        return Ok(at);
     };
     let invalid = Reason::InvalidLimit.at(clause.line);
-    let z = row_count(catalog, statement, cells, clause.row, invalid)?;
-    let used = rows(nodes, k, Kind::Limit, m - 1, z);
+    let z = row_count(exprs, clause.row, invalid)?;
+    let used = rows(nodes, at.used, Kind::Limit, at.node - 1, z);
     Ok(Step {
-        cell: n,
-        node: m + 1,
+        cell: at.cell,
+        node: at.node + 1,
         used,
     })
 }

@@ -1,7 +1,7 @@
 -- The contracts of building: what is built of the tree at a row, over a scope whose arrays are lent, and what is known of
 -- a record whose operands are still to be built.
-use Rattle.std.specs.Prelude.{ℕ, suc, ◌+◌, ◌*◌, ◌<◌, ◌≡◌, List, [], ◌∷◌, length, take, Result, Ok, Err}
-use Rattle.std.proofs.Common.{arith, ◌∙◌, take_all}
+use Rattle.std.specs.Prelude.{ℕ, suc, ◌+◌, ◌*◌, ◌<◌, ◌≡◌, refl, List, [], ◌∷◌, length, Result, Ok, Err}
+use Rattle.std.proofs.Common.{arith, ◌∙◌}
 use Rattle.std.proofs.Math.Option.{none}
 use Rattle.rules.specs.Lists.{Bytes}
 use Rattle.rules.specs.Ast.{size}
@@ -12,7 +12,7 @@ use Rattle.ast.specs.Table.{row_size, binary_at, tree_at}
 use Rattle.ast.specs.Row.{line_at, operator_at, row_literal, first_operand, second_operand}
 use Rattle.scope.specs.Scopes.{matches_of, scope_from}
 use Rattle.scope.specs.Matches.{matched-from}
-use Rattle.scope.specs.UsedMatches.{used_matches, used-again, used-scope}
+use Rattle.scope.specs.UsedMatches.{used_matches, used-scope}
 use Rattle.numbers.specs.declared.refusals.Refusal.{Refusal}
 use Rattle.plan.specs.Emits.{Emitting, Written, Emits, joined}
 use Rattle.build_expression.specs.Rows.{unary_step, is_step, binary_step}
@@ -30,27 +30,22 @@ pub record Builds (c q : Bytes) (t xs ms ts : List ℕ) (r n : ℕ) (area area' 
   pub is : (h : ℕ) → Emits (emit (scope_at c q t xs ms ts h) n (tree_at c q t r)) n area area' x
 
 -- the matches us are those that ms has, or none where nothing is matched: the scope is the same
-pub used-at : (c q : Bytes) (t xs us ts : List ℕ) (w : ℕ) (ms : List ℕ) (h : ℕ) → us ≡ used_matches (take w ms)
-    → scope_at c q t xs (take w us) ts h ≡ scope_at c q t xs (take w ms) ts h
-used-at c q t xs us ts w ms h e = rw (e, used-again w ms) (used-scope (tree_at c q t) c q xs (take w ms) ts h)
+pub used-at : (c q : Bytes) (t xs us ts ms : List ℕ) (h : ℕ) → us ≡ used_matches ms → scope_at c q t xs us ts h ≡ scope_at c q t xs ms ts h
+used-at c q t xs us ts ms h e = rw e (used-scope (tree_at c q t) c q xs ms ts h)
 
-pub used-builds : {c q : Bytes} {t xs us ts : List ℕ} {r n : ℕ} {area area' : List ℕ} {x : Written} (w : ℕ) (ms : List ℕ)
-    → us ≡ used_matches (take w ms) → Builds c q t xs (take w us) ts r n area area' x
-    → Builds c q t xs (take w ms) ts r n area area' x
-used-builds {c} {q} {t} {xs} {us} {ts} w ms e b = record { is = λ h. rw (used-at c q t xs us ts w ms h e) at (b.is h) }
+pub used-builds : {c q : Bytes} {t xs us ts : List ℕ} {r n : ℕ} {area area' : List ℕ} {x : Written} (ms : List ℕ)
+    → us ≡ used_matches ms → Builds c q t xs us ts r n area area' x → Builds c q t xs ms ts r n area area' x
+used-builds {c} {q} {t} {xs} {us} {ts} ms e b = record { is = λ h. rw (used-at c q t xs us ts ms h e) at (b.is h) }
 
 -- it is matched to no column
 pub record Unmatched (c q : Bytes) (t ms : List ℕ) (r : ℕ) : Type 0 where
   pub is : match_at (matches_of (tree_at c q t) 0 ms) (tree_at c q t r) ≡ none
 
 -- there are no matches
-pub unmatched-none : (c q : Bytes) (t : List ℕ) (w : ℕ) (ms : List ℕ) (r : ℕ) → length ms ≡ 0 → Unmatched c q t (take w ms) r
+pub unmatched-none : (c q : Bytes) (t ms : List ℕ) (r : ℕ) → length ms ≡ 0 → Unmatched c q t ms r
 unfolding match_at matches_of
-unmatched-none c q t w ms r e = record { is = rw (none_left w ms e) }
-  where
-    none_left : (w : ℕ) (ms : List ℕ) → length ms ≡ 0 → take w ms ≡ []
-    none_left w [] e = take_all w [] (omega arith)
-    none_left w (m ∷ ms) e = absurd (omega arith)
+unmatched-none c q t [] r e = record { is = refl }
+unmatched-none c q t (m ∷ ms) r e = absurd (omega arith)
 
 pub unmatched : {c q : Bytes} {t ms : List ℕ} {r : ℕ} (xs ts : List ℕ) (h : ℕ) → Unmatched c q t ms r
     → matched (scope_at c q t xs ms ts h) (tree_at c q t r) ≡ none

@@ -7,15 +7,15 @@ pub mod position; // position.rt: a column that was looked up
 
 ghost use Rattle.std.specs.Prelude.{◌*◌, take};
 ghost use Rattle.rules.specs.Ast.{size};
-ghost use Rattle.ast.specs.Table.{tree_at};
+ghost use Rattle.ast.specs.Expressions.{tree_in};
 ghost use Rattle.plan.specs.Cells.{Room};
 ghost use Rattle.build_expression.specs.Builds.{Builds};
 
 use ast::row::{Kind, kind_of};
-use ast::rows;
+use ast::{Expressions, rows};
 use numbers::operators::Unary;
 use numbers::refusals::Refusal;
-use scope::lookup::used_matches;
+use scope::view::View;
 
 // A record whose operands are to be built: a unary operator, `is`, or a binary operator.
 #[derive(Clone, Copy, Debug, PartialEq, Eq)]
@@ -33,44 +33,31 @@ pub enum Begun {
 }
 
 // The cells of the tree at row r from the n-th on: a match first, then the operands, the left one first.
-fn build_tree<'t, 'a>(
-    catalog: &'t [u8],
-    statement: &'t [u8],
-    table: &[u32],
+fn build_tree(
+    exprs: &Expressions,
     r: usize,
-    labels: &'a [u32],
-    matches: &'a [u16],
-    width: u32,
-    tables: &'a [u32],
-    count: u32,
+    scope: &View,
     area: &mut [u32],
     n: u32,
 ) -> Result<u32, Refusal>
-    requires { Room n (3 * size (tree_at catalog.now statement.now table.now r)) area.old }
-    ensures { Builds catalog.now statement.now table.now
-        (take width labels.now) (take width matches.now) (take count tables.now)
+    requires { Room n (3 * size (tree_in exprs.now r)) area.old }
+    ensures { Builds exprs.now.texts.catalog.now exprs.now.texts.statement.now exprs.now.table.now
+        scope.now.labels.now scope.now.matches.now scope.now.tables.now
         r n area.old area.new result }
 {
-    let begun = leaves::begin(
-        catalog, statement, table, r, labels, matches, width, tables, count, area, n,
-    )?;
+    let begun = leaves::begin(exprs, r, scope, area, n)?;
     match begun {
         Begun::Whole(next) => Ok(next),
         Begun::Operands(operator) => {
             let left = r + 1;
-            let right = rows::next(table, left);
-            let m = build_tree(
-                catalog, statement, table, left, labels, matches, width, tables, count, area, n,
-            )?;
+            let right = rows::next(exprs.table, left);
+            let m = build_tree(exprs, left, scope, area, n)?;
             match operator {
                 Operator::Unary(unary) => Ok(operators::unary(area, m, unary)),
-                Operator::Is => operators::is(table, r, area, m),
+                Operator::Is => operators::is(exprs.table, r, area, m),
                 Operator::Binary => {
-                    let k = build_tree(
-                        catalog, statement, table, right, labels, matches, width, tables, count,
-                        area, m,
-                    )?;
-                    Ok(operators::binary(table, r, area, m, k))
+                    let k = build_tree(exprs, right, scope, area, m)?;
+                    Ok(operators::binary(exprs.table, r, area, m, k))
                 }
             }
         }
@@ -78,57 +65,38 @@ fn build_tree<'t, 'a>(
 }
 
 // The same, where no match is looked for if nothing is matched.
-pub fn build_expression<'t, 'a>(
-    catalog: &'t [u8],
-    statement: &'t [u8],
-    table: &[u32],
+pub fn build_expression(
+    exprs: &Expressions,
     r: usize,
-    labels: &'a [u32],
-    matches: &'a [u16],
-    width: u32,
-    tables: &'a [u32],
-    count: u32,
+    scope: &View,
     area: &mut [u32],
     n: u32,
 ) -> Result<u32, Refusal>
-    requires { Room n (3 * size (tree_at catalog.now statement.now table.now r)) area.old }
-    ensures { Builds catalog.now statement.now table.now
-        (take width labels.now) (take width matches.now) (take count tables.now)
+    requires { Room n (3 * size (tree_in exprs.now r)) area.old }
+    ensures { Builds exprs.now.texts.catalog.now exprs.now.texts.statement.now exprs.now.table.now
+        scope.now.labels.now scope.now.matches.now scope.now.tables.now
         r n area.old area.new result }
 {
-    let used = used_matches(matches, width);
-    build_tree(
-        catalog, statement, table, r, labels, used, width, tables, count, area, n,
-    )
+    build_tree(exprs, r, &scope.used(), area, n)
 }
 
 // The same for an item of a projection: where there are no matches, a qualified column is looked up at once.
-pub fn build_item<'t, 'a>(
-    catalog: &'t [u8],
-    statement: &'t [u8],
-    table: &[u32],
+pub fn build_item(
+    exprs: &Expressions,
     r: usize,
-    labels: &'a [u32],
-    matches: &'a [u16],
-    width: u32,
-    tables: &'a [u32],
-    count: u32,
+    scope: &View,
     area: &mut [u32],
     n: u32,
 ) -> Result<u32, Refusal>
-    requires { Room n (3 * size (tree_at catalog.now statement.now table.now r)) area.old }
-    ensures { Builds catalog.now statement.now table.now
-        (take width labels.now) (take width matches.now) (take count tables.now)
+    requires { Room n (3 * size (tree_in exprs.now r)) area.old }
+    ensures { Builds exprs.now.texts.catalog.now exprs.now.texts.statement.now exprs.now.table.now
+        scope.now.labels.now scope.now.matches.now scope.now.tables.now
         r n area.old area.new result }
 {
-    if matches.len() == 0 {
-        if kind_of(table, r) == Kind::Qualified {
-            return leaves::qualified(
-                catalog, statement, table, r, labels, matches, width, tables, count, area, n,
-            );
+    if scope.matches.len() == 0 {
+        if kind_of(exprs.table, r) == Kind::Qualified {
+            return leaves::qualified(exprs, r, scope, area, n);
         }
     }
-    build_tree(
-        catalog, statement, table, r, labels, matches, width, tables, count, area, n,
-    )
+    build_tree(exprs, r, scope, area, n)
 }

@@ -1,6 +1,6 @@
 -- The scopes of a join's sides merged, or refused: 6 a table name held by both, then 3 too many columns. Merged into the
 -- empty scope, a scope stays as it is.
-use Rattle.std.specs.Prelude.{ℕ, ◌+◌, ◌≤◌, ◌≡◌, Bool, ltb, take, ⊤, Result, MatchResult, Ok, Err}
+use Rattle.std.specs.Prelude.{ℕ, ◌+◌, ◌≤◌, ◌≡◌, Bool, ltb, length, ⊤, Result, MatchResult, Ok, Err}
 use native.Mathlib.Omega.{arith}
 use Rattle.std.proofs.Math.Path.{refl, sym, ap}
 use Rattle.std.proofs.Common.{◌∙◌, length-take-le}
@@ -72,15 +72,18 @@ pub record Merges (c q : Bytes) (s t : Scope) (l : ℕ) (r : Result Scope Refusa
   pub is : MatchResult r (MergedScope c q s t)
       (λ w. (e : ℕ → Expr) → RefusedWith (merge_at (scope_of e c q s) (scope_of e c q t) l) w)
 
+labels-many : (s : Scope) → Valid s → length (labels_of s) ≡ s.width
+labels-many s h = length-take-le s.width s.labels (omega (arith, h.width, h.labels-room))
+
 -- what was told, of the rules' merge
 module _ (c q : Bytes) (s t : Scope) (h : TwoScopes s t) {m : Result ⊤ Reason}
-    (g : MayMerge c q (take s.count s.tables) s.width (take t.count t.tables) t.width m) where
+    (g : MayMerge c q (table_numbers s) (length (labels_of s)) (table_numbers t) (length (labels_of t)) m) where
   told : (e : ℕ → Expr) (l : ℕ) → merge_at (scope_of e c q s) (scope_of e c q t) l
       ≡ merging_of m (scope_of e c q s) (source_of (P.values []) (scope_of e c q t) l)
   unfolding scope_of scope_from
   told e l = sym (merge-at (scope_of e c q s) (scope_of e c q t) (P.values []) l)
-      ∙ g.is (scope_of e c q s) (source_of (P.values []) (scope_of e c q t) l) refl (scope-width e c q s h.valid)
-      refl (scope-width e c q t h.other)
+      ∙ g.is (scope_of e c q s) (source_of (P.values []) (scope_of e c q t) l) refl (scope-width e c q s h.valid ∙ sym (labels-many s h.valid))
+      refl (scope-width e c q t h.other ∙ sym (labels-many t h.other))
 
   pub merges-refused : {k : Reason} (l : ℕ) → m ≡ Err k → Merges c q s t l (Err (record { reason = k; line = l }))
   unfolding merging_of

@@ -8,33 +8,30 @@ ghost use Rattle.build_from.specs.Clause.{ClauseRoom, ClauseBuilds};
 
 use crate::merges::merge_scopes;
 use crate::{Source, build_from};
+use ast::Expressions;
 use from::roots;
 use numbers::refusals::Refusal;
 use plan::nodes;
 use scope::Scope;
 
 // The item in row r behind the clause a: its scope merged into the clause's, and the cross join of both.
-fn join_item<'t>(
-    catalog: &'t [u8],
-    statement: &'t [u8],
+fn join_item(
+    exprs: &Expressions,
     tables: &[u32],
-    cells: &[u32],
     froms: &[u32],
     r: u32,
     a: Source,
     area: &mut [u32],
     nodes: &mut [u32],
 ) -> Result<Source, Refusal>
-    requires { LaterRoom catalog.now statement.now tables.now
-        (from_at catalog.now statement.now cells.now froms.now r) a area.old nodes.old }
-    ensures { LaterBuilds catalog.now statement.now tables.now cells.now
-        (from_at catalog.now statement.now cells.now froms.now r) a
+    requires { LaterRoom exprs.now.texts.catalog.now exprs.now.texts.statement.now tables.now
+        (from_at exprs.now.texts.catalog.now exprs.now.texts.statement.now exprs.now.table.now froms.now r) a area.old nodes.old }
+    ensures { LaterBuilds exprs.now.texts.catalog.now exprs.now.texts.statement.now tables.now exprs.now.table.now
+        (from_at exprs.now.texts.catalog.now exprs.now.texts.statement.now exprs.now.table.now froms.now r) a
         area.old nodes.old area.new nodes.new result }
 {
-    let b = build_from(
-        catalog, statement, tables, cells, froms, r, area, nodes, a.cell, a.node, a.used,
-    )?;
-    let s = merge_scopes(catalog, statement, a.scope, b.scope, b.line)?;
+    let b = build_from(exprs, tables, froms, r, area, nodes, a.cell, a.node, a.used)?;
+    let s = merge_scopes(&exprs.texts, a.scope, b.scope, b.line)?;
     let k = nodes::join(nodes, b.used, a.node - 1, b.node - 1, false, 0);
     Ok(Source {
         scope: s,
@@ -63,20 +60,18 @@ fn empty_clause(nodes: &mut [u32]) -> Source
 
 // The items in the first `rows` rows of FROM, from the first cell and the first node on. The line of what it gives is not
 // determined.
-pub fn build_from_clause<'t>(
-    catalog: &'t [u8],
-    statement: &'t [u8],
+pub fn build_from_clause(
+    exprs: &Expressions,
     tables: &[u32],
-    cells: &[u32],
     froms: &[u32],
     rows: u32,
     area: &mut [u32],
     nodes: &mut [u32],
 ) -> Result<Source, Refusal>
-    requires { ClauseRoom catalog.now statement.now tables.now
-        (froms_at catalog.now statement.now cells.now froms.now rows) area.old nodes.old }
-    ensures { ClauseBuilds catalog.now statement.now tables.now cells.now
-        (froms_at catalog.now statement.now cells.now froms.now rows)
+    requires { ClauseRoom exprs.now.texts.catalog.now exprs.now.texts.statement.now tables.now
+        (froms_at exprs.now.texts.catalog.now exprs.now.texts.statement.now exprs.now.table.now froms.now rows) area.old nodes.old }
+    ensures { ClauseBuilds exprs.now.texts.catalog.now exprs.now.texts.statement.now tables.now exprs.now.table.now
+        (froms_at exprs.now.texts.catalog.now exprs.now.texts.statement.now exprs.now.table.now froms.now rows)
         area.old nodes.old area.new nodes.new result }
 {
     let count = roots::items(froms, rows);
@@ -84,14 +79,10 @@ pub fn build_from_clause<'t>(
         return Ok(empty_clause(nodes));
     }
     let first = roots::root(froms, rows, 0);
-    let mut clause = build_from(
-        catalog, statement, tables, cells, froms, first, area, nodes, 0, 0, 0,
-    )?;
+    let mut clause = build_from(exprs, tables, froms, first, area, nodes, 0, 0, 0)?;
     for i in 1..count {
         let r = roots::root(froms, rows, i);
-        clause = join_item(
-            catalog, statement, tables, cells, froms, r, clause, area, nodes,
-        )?;
+        clause = join_item(exprs, tables, froms, r, clause, area, nodes)?;
     }
     Ok(clause)
 }

@@ -6,16 +6,15 @@ use crate::merges::merge_scopes;
 use crate::predicates::build_predicate;
 use crate::remaps::push_remap;
 use crate::rows::join_kind;
+use ast::Expressions;
 use from::row;
 use numbers::refusals::Refusal;
 use plan::nodes;
 
 // The join in row r of the sides a and b, a built before b: their scopes merged, its predicate over both, its record; the
 // columns of a right join swapped back.
-pub fn build_join<'t>(
-    catalog: &'t [u8],
-    statement: &'t [u8],
-    cells: &[u32],
+pub fn build_join(
+    exprs: &Expressions,
     froms: &[u32],
     r: u32,
     a: Source,
@@ -23,18 +22,15 @@ pub fn build_join<'t>(
     area: &mut [u32],
     nodes: &mut [u32],
 ) -> Result<Source, Refusal>
-    requires { JoinRoom catalog.now statement.now cells.now froms.now r a b area.old nodes.old }
-    ensures { Joins catalog.now statement.now cells.now froms.now r a b
+    requires { JoinRoom exprs.now.texts.catalog.now exprs.now.texts.statement.now exprs.now.table.now froms.now r a b area.old nodes.old }
+    ensures { Joins exprs.now.texts.catalog.now exprs.now.texts.statement.now exprs.now.table.now froms.now r a b
         area.old nodes.old area.new nodes.new result }
 {
     let first = a.scope.width;
     let second = b.scope.width;
     let m = b.node;
-    let s = merge_scopes(catalog, statement, a.scope, b.scope, b.line)?;
-    let p = build_predicate(
-        catalog, statement, cells, froms, r, &s.labels, &s.matches, s.width, &s.tables, s.count,
-        area, b.cell,
-    )?;
+    let s = merge_scopes(&exprs.texts, a.scope, b.scope, b.line)?;
+    let p = build_predicate(exprs, froms, r, &s.view(), area, b.cell)?;
     let l = row::line(froms, r);
     let kind = join_kind(froms, r);
     let k = nodes::join(nodes, b.used, a.node - 1, m - 1, kind.outer, p.root);

@@ -12,6 +12,7 @@ mod tables; // tables.rt: a table of FROM
 ghost use Rattle.from.specs.Layout.{from_at};
 ghost use Rattle.build_from.specs.Sources.{ItemRoom, Builds};
 
+use ast::Expressions;
 use numbers::refusals::Refusal;
 use rows::rows_of;
 use scope::Scope;
@@ -29,11 +30,9 @@ pub struct Source {
 
 // The item in row r of FROM from the n-th cell and the m-th node on, k numbers of the nodes being in use: a scan, or a join
 // of the items in two rows before it.
-pub fn build_from<'t>(
-    catalog: &'t [u8],
-    statement: &'t [u8],
+pub fn build_from(
+    exprs: &Expressions,
     tables: &[u32],
-    cells: &[u32],
     froms: &[u32],
     r: u32,
     area: &mut [u32],
@@ -42,31 +41,25 @@ pub fn build_from<'t>(
     m: u32,
     k: usize,
 ) -> Result<Source, Refusal>
-    requires { ItemRoom catalog.now statement.now tables.now
-        (from_at catalog.now statement.now cells.now froms.now r) n m k area.old nodes.old }
-    ensures { Builds catalog.now statement.now tables.now cells.now
-        (from_at catalog.now statement.now cells.now froms.now r) n m k
+    requires { ItemRoom exprs.now.texts.catalog.now exprs.now.texts.statement.now tables.now
+        (from_at exprs.now.texts.catalog.now exprs.now.texts.statement.now exprs.now.table.now froms.now r) n m k area.old nodes.old }
+    ensures { Builds exprs.now.texts.catalog.now exprs.now.texts.statement.now tables.now exprs.now.table.now
+        (from_at exprs.now.texts.catalog.now exprs.now.texts.statement.now exprs.now.table.now froms.now r) n m k
         area.old nodes.old area.new nodes.new result }
 {
     let rows = rows_of(froms, r);
     match rows {
-        None => tables::build_table(
-            catalog, statement, tables, cells, froms, r, area, nodes, n, m, k,
-        ),
+        None => tables::build_table(exprs, tables, froms, r, area, nodes, n, m, k),
         Some(side) => {
-            let first = build_from(
-                catalog, statement, tables, cells, froms, side.first, area, nodes, n, m, k,
-            );
+            let first = build_from(exprs, tables, froms, side.first, area, nodes, n, m, k);
             // A match, since ? would hold a scope of 1.6 KB once more in each frame of the recursion.
             let a = match first {
                 Ok(a) => a,
                 Err(refusal) => return Err(refusal),
             };
             let second = build_from(
-                catalog,
-                statement,
+                exprs,
                 tables,
-                cells,
                 froms,
                 side.second,
                 area,
@@ -76,7 +69,7 @@ pub fn build_from<'t>(
                 a.used,
             );
             match second {
-                Ok(b) => joins::build_join(catalog, statement, cells, froms, r, a, b, area, nodes),
+                Ok(b) => joins::build_join(exprs, froms, r, a, b, area, nodes),
                 Err(refusal) => Err(refusal),
             }
         }

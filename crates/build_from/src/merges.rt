@@ -4,22 +4,14 @@ ghost use Rattle.build_from.specs.Merges.{TwoScopes, Merges};
 use numbers::refusals::Refusal;
 use scope::Scope;
 use scope::merging::may_merge;
+use text::places::Texts;
 
 // The scope of both, refused at a line.
-pub fn merge_scopes(
-    catalog: &[u8],
-    statement: &[u8],
-    a: Scope,
-    b: Scope,
-    line: u32,
-) -> Result<Scope, Refusal>
+pub fn merge_scopes(texts: &Texts, a: Scope, b: Scope, line: u32) -> Result<Scope, Refusal>
     requires { TwoScopes a b }
-    ensures { Merges catalog.now statement.now a b line result }
+    ensures { Merges texts.now.catalog.now texts.now.statement.now a b line result }
 {
-    let may = may_merge(
-        catalog, statement, &a.tables, a.count, a.width, &b.tables, b.count, b.width,
-    );
-    match may {
+    match may_merge(texts, &a.view(), &b.view()) {
         Ok(()) => Ok(a.merge(b)),
         Err(reason) => Err(Refusal { reason, line }),
     }

@@ -6,13 +6,13 @@ ghost use Rattle.build_from.specs.Sources.{ItemRoom, Builds};
 ghost use Rattle.build_from.specs.Tables.{table_row, FromNamed, Scanned};
 
 use crate::Source;
+use ast::Expressions;
 use from::row;
 use numbers::refusals::{Reason, Refusal};
 use plan::nodes;
 use schema::get_table;
 use scope::Scope;
-use text::lengths::length_at;
-use text::places::Place;
+use text::places::{Place, Texts};
 
 // The scope of the catalog's i-th table under the alias of row r, or its name.
 fn named_scope(tables: &[u32], froms: &[u32], r: u32, i: u32) -> Scope
@@ -20,32 +20,33 @@ fn named_scope(tables: &[u32], froms: &[u32], r: u32, i: u32) -> Scope
 {
     let n = row::alias_length(froms, r);
     if n == 0 {
-        let a = row::name_address(froms, r);
-        let len = row::name_length(froms, r);
-        return Scope::from_table(tables, i, a, len);
+        let name = Place {
+            address: row::name_address(froms, r),
+            length: row::name_length(froms, r),
+        };
+        return Scope::from_table(tables, i, name);
     }
-    let b = row::alias_address(froms, r);
-    Scope::from_table(tables, i, b, n)
+    let alias = Place {
+        address: row::alias_address(froms, r),
+        length: n,
+    };
+    Scope::from_table(tables, i, alias)
 }
 
 // The scan of the table in row r.
-fn scan_row(
-    catalog: &[u8],
-    statement: &[u8],
-    froms: &[u32],
-    r: u32,
-    nodes: &mut [u32],
-    k: usize,
-) -> usize
+fn scan_row(texts: &Texts, froms: &[u32], r: u32, nodes: &mut [u32], k: usize) -> usize
     requires { k + scan_size ≤ length nodes.old }
-    ensures { Scanned catalog.now statement.now froms.now r k
+    ensures { Scanned texts.now.catalog.now texts.now.statement.now froms.now r k
         nodes.old result nodes.new }
 {
     let a = row::name_address(froms, r);
     let len = row::name_length(froms, r);
     let name = Place {
         address: a,
-        length: length_at(catalog, statement, a, len),
+        length: texts.length_at(Place {
+            address: a,
+            length: len,
+        }),
     };
     let n = row::alias_length(froms, r);
     if n == 0 {
@@ -54,17 +55,18 @@ fn scan_row(
     let b = row::alias_address(froms, r);
     let alias = Place {
         address: b,
-        length: length_at(catalog, statement, b, n),
+        length: texts.length_at(Place {
+            address: b,
+            length: n,
+        }),
     };
     nodes::scan(nodes, k, name, Some(alias), 0)
 }
 
 // The item in row r, which is a table.
 pub fn build_table(
-    catalog: &[u8],
-    statement: &[u8],
+    exprs: &Expressions,
     tables: &[u32],
-    cells: &[u32],
     froms: &[u32],
     r: u32,
     area: &mut [u32],
@@ -73,16 +75,18 @@ pub fn build_table(
     m: u32,
     k: usize,
 ) -> Result<Source, Refusal>
-    requires { ItemRoom catalog.now statement.now tables.now (table_row catalog.now statement.now froms.now r)
+    requires { ItemRoom exprs.now.texts.catalog.now exprs.now.texts.statement.now tables.now (table_row exprs.now.texts.catalog.now exprs.now.texts.statement.now froms.now r)
         n m k area.old nodes.old }
-    ensures { Builds catalog.now statement.now tables.now cells.now
-        (table_row catalog.now statement.now froms.now r) n m k
+    ensures { Builds exprs.now.texts.catalog.now exprs.now.texts.statement.now tables.now exprs.now.table.now
+        (table_row exprs.now.texts.catalog.now exprs.now.texts.statement.now froms.now r) n m k
         area.old nodes.old area.new nodes.new result }
 {
     let l = row::line(froms, r);
-    let a = row::name_address(froms, r);
-    let len = row::name_length(froms, r);
-    let found = get_table(catalog, statement, tables, a, len);
+    let name = Place {
+        address: row::name_address(froms, r),
+        length: row::name_length(froms, r),
+    };
+    let found = get_table(&exprs.texts, tables, name);
     let Some(i) = found else {
         return Err(Refusal {
             reason: Reason::UnknownTable,
@@ -90,7 +94,7 @@ pub fn build_table(
         });
     };
     let s = named_scope(tables, froms, r, i);
-    let e = scan_row(catalog, statement, froms, r, nodes, k);
+    let e = scan_row(&exprs.texts, froms, r, nodes, k);
     Ok(Source {
         scope: s,
         line: l,

@@ -9,43 +9,39 @@ ghost use Rattle.build_groups.specs.Terms.{GroupsReady};
 ghost use Rattle.build_groups.specs.Stages.{GroupsBuilt};
 
 use aggregate::{FUNCTIONS, GROUPS, build_aggregate};
+use ast::Expressions;
 use numbers::refusals::Refusal;
+use plan::steps::Step;
 use rows::{function_rows, group_rows};
 use scope::Scope;
 use stage::Stage;
 
 // Groups and aggregates over the node before them; where there are none, all is as it was.
-pub fn build_groups<'t>(
-    catalog: &'t [u8],
-    statement: &'t [u8],
-    cells: &[u32],
+pub fn build_groups(
+    exprs: &Expressions,
     parts: &[u32],
     scope: Scope,
     area: &mut [u32],
-    n: u32,
     nodes: &mut [u32],
-    m: u32,
-    k: usize,
+    at: Step,
 ) -> Result<Stage, Refusal>
-    requires { GroupsReady catalog.now statement.now cells.now parts.now scope n m k area.old nodes.old }
-    ensures { GroupsBuilt catalog.now statement.now cells.now scope
-        (groups_at catalog.now statement.now cells.now parts.now)
-        (functions_at catalog.now statement.now cells.now parts.now)
-        n m k area.old nodes.old area.new nodes.new result }
+    requires { GroupsReady exprs.now.texts.catalog.now exprs.now.texts.statement.now exprs.now.table.now parts.now scope at.cell at.node at.used area.old nodes.old }
+    ensures { GroupsBuilt exprs.now.texts.catalog.now exprs.now.texts.statement.now exprs.now.table.now scope
+        (groups_at exprs.now.texts.catalog.now exprs.now.texts.statement.now exprs.now.table.now parts.now)
+        (functions_at exprs.now.texts.catalog.now exprs.now.texts.statement.now exprs.now.table.now parts.now)
+        at.cell at.node at.used area.old nodes.old area.new nodes.new result }
 {
     let mut groups = [0usize; GROUPS];
     let g = group_rows(parts, &mut groups);
     let mut functions = [0usize; FUNCTIONS];
-    let f = function_rows(catalog, statement, cells, parts, &mut functions);
+    let f = function_rows(exprs, parts, &mut functions);
     if g + f == 0 {
         return Ok(Stage {
             scope,
-            cell: n,
-            node: m,
-            used: k,
+            cell: at.cell,
+            node: at.node,
+            used: at.used,
         });
     }
-    build_aggregate(
-        catalog, statement, cells, &groups, g, &functions, f, scope, area, n, nodes, m, k,
-    )
+    build_aggregate(exprs, &groups, g, &functions, f, scope, area, nodes, at)
 }

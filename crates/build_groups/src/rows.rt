@@ -5,6 +5,7 @@ ghost use Rattle.ast.specs.Collect.{collect_rows};
 ghost use Rattle.plan.specs.Appended.{Appended};
 ghost use Rattle.build_groups.specs.Rows.{section_rows, clause_rows, collect_each_rows, function_rows};
 
+use ast::Expressions;
 use ast::walk::collect;
 use sections::entry::{GROUP, HAVING, ITEM, ORDER, count, entry_at, first_row};
 use statement::access::{Clause, clause_at};
@@ -23,19 +24,12 @@ pub fn group_rows(parts: &[u32], rows: &mut [usize]) -> usize
 }
 
 // The aggregates of the tree at row r behind k rows; how many rows there are then.
-fn collect_at(
-    catalog: &[u8],
-    statement: &[u8],
-    cells: &[u32],
-    r: usize,
-    rows: &mut [usize],
-    k: usize,
-) -> usize
-    requires { k + length (collect_rows catalog.now statement.now cells.now r) ≤ length rows.old }
-    ensures { Appended (collect_rows catalog.now statement.now cells.now r) k
+fn collect_at(exprs: &Expressions, r: usize, rows: &mut [usize], k: usize) -> usize
+    requires { k + length (collect_rows exprs.now.texts.catalog.now exprs.now.texts.statement.now exprs.now.table.now r) ≤ length rows.old }
+    ensures { Appended (collect_rows exprs.now.texts.catalog.now exprs.now.texts.statement.now exprs.now.table.now r) k
         rows.old result rows.new }
 {
-    let collected = collect(catalog, statement, cells, r, rows, k);
+    let collected = collect(exprs, r, rows, k);
     match collected {
         Some(x) => x,
         None => k,
@@ -44,65 +38,55 @@ fn collect_at(
 
 // The aggregates of a section's entries.
 fn collect_section(
-    catalog: &[u8],
-    statement: &[u8],
-    cells: &[u32],
+    exprs: &Expressions,
     parts: &[u32],
     kind: u32,
     rows: &mut [usize],
     k: usize,
 ) -> usize
-    requires { k + length (collect_each_rows catalog.now statement.now cells.now (section_rows parts.now kind))
+    requires { k + length (collect_each_rows exprs.now.texts.catalog.now exprs.now.texts.statement.now exprs.now.table.now (section_rows parts.now kind))
         ≤ length rows.old }
     ensures { Appended
-        (collect_each_rows catalog.now statement.now cells.now
+        (collect_each_rows exprs.now.texts.catalog.now exprs.now.texts.statement.now exprs.now.table.now
         (section_rows parts.now kind)) k rows.old result rows.new }
 {
     let n = count(parts, kind);
     let mut x = k;
     for i in 0..n {
         let e = entry_at(parts, kind, i);
-        x = collect_at(catalog, statement, cells, first_row(e), rows, x);
+        x = collect_at(exprs, first_row(e), rows, x);
     }
     x
 }
 
 // Those of a clause.
 fn collect_clause(
-    catalog: &[u8],
-    statement: &[u8],
-    cells: &[u32],
+    exprs: &Expressions,
     clause: Option<Clause>,
     rows: &mut [usize],
     k: usize,
 ) -> usize
-    requires { k + length (collect_each_rows catalog.now statement.now cells.now (clause_rows clause))
+    requires { k + length (collect_each_rows exprs.now.texts.catalog.now exprs.now.texts.statement.now exprs.now.table.now (clause_rows clause))
         ≤ length rows.old }
     ensures { Appended
-        (collect_each_rows catalog.now statement.now cells.now (clause_rows clause)) k
+        (collect_each_rows exprs.now.texts.catalog.now exprs.now.texts.statement.now exprs.now.table.now (clause_rows clause)) k
         rows.old result rows.new }
 {
     match clause {
         None => k,
-        Some(clause) => collect_at(catalog, statement, cells, clause.row, rows, k),
+        Some(clause) => collect_at(exprs, clause.row, rows, k),
     }
 }
 
 // The aggregates of the items, of HAVING and of ORDER; how many there are.
-pub fn function_rows(
-    catalog: &[u8],
-    statement: &[u8],
-    cells: &[u32],
-    parts: &[u32],
-    rows: &mut [usize],
-) -> usize
-    requires { length (function_rows catalog.now statement.now cells.now parts.now) ≤ length rows.old }
+pub fn function_rows(exprs: &Expressions, parts: &[u32], rows: &mut [usize]) -> usize
+    requires { length (function_rows exprs.now.texts.catalog.now exprs.now.texts.statement.now exprs.now.table.now parts.now) ≤ length rows.old }
     ensures { Appended
-        (function_rows catalog.now statement.now cells.now parts.now) 0
+        (function_rows exprs.now.texts.catalog.now exprs.now.texts.statement.now exprs.now.table.now parts.now) 0
         rows.old result rows.new }
 {
-    let items = collect_section(catalog, statement, cells, parts, ITEM, rows, 0);
+    let items = collect_section(exprs, parts, ITEM, rows, 0);
     let having = clause_at(parts, HAVING);
-    let k = collect_clause(catalog, statement, cells, having, rows, items);
-    collect_section(catalog, statement, cells, parts, ORDER, rows, k)
+    let k = collect_clause(exprs, having, rows, items);
+    collect_section(exprs, parts, ORDER, rows, k)
 }

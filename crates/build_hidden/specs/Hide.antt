@@ -83,9 +83,9 @@ pub record HidingRows (c q : Bytes) (t xs ms ts rows : List ℕ) (child : Scope)
   pub kept : length positions' ≡ length positions
   pub reached : (h : ℕ) → Reached c q t xs ms ts rows child h i s positions'
 
-pub hiding-begin : {t labels matches : List ℕ} {w : ℕ} {tables : List ℕ} {n : ℕ} {child : Scope} {positions : List ℕ}
-    → Passable t labels matches w tables n child positions → (c q : Bytes) (rows : List ℕ)
-    → HidingRows c q t (take w labels) (take w matches) (take n tables) rows child positions 0 child positions
+pub hiding-begin : {t labels matches tables : List ℕ} {child : Scope} {positions : List ℕ}
+    → Passable t labels matches tables child positions → (c q : Bytes) (rows : List ℕ)
+    → HidingRows c q t labels matches tables rows child positions 0 child positions
 hiding-begin f c q rows = record {
   valid = f.valid;
   width = omega (arith, f.shown);
@@ -95,13 +95,13 @@ hiding-begin f c q rows = record {
   reached = λ h. record { columns = []; rest = refl; numbers = rw f.shown; count = sym f.shown };
 }
 
-module _ {c q : Bytes} {t labels matches : List ℕ} {w : ℕ} {tables : List ℕ} {n : ℕ} {rows : List ℕ} {child : Scope}
+module _ {c q : Bytes} {t labels matches tables rows : List ℕ} {child : Scope}
     {positions : List ℕ} {i : ℕ} {s : Scope} {positions' : List ℕ}
-    (f : Passable t labels matches w tables n child positions)
-    (v : HidingRows c q t (take w labels) (take w matches) (take n tables) rows child positions i s positions') where
+    (f : Passable t labels matches tables child positions)
+    (v : HidingRows c q t labels matches tables rows child positions i s positions') where
   -- the parent, what is hidden so far, and what all rows hide
   abbrev parent : ℕ → rules.Scope
-  parent h = scope_at c q t (take w labels) (take w matches) (take n tables) h
+  parent h = scope_at c q t labels matches tables h
 
   abbrev state : ℕ → Hidden
   state h = record { scope = scope_of (tree_at c q t) c q s; columns = (v.reached h).columns }
@@ -110,7 +110,7 @@ module _ {c q : Bytes} {t labels matches : List ℕ} {w : ℕ} {tables : List �
   whole h = hidden_by (parent h) (trees_at c q t rows) (shown_of c q t child)
 
   pub hiding-end : length rows ≤ i
-      → RowsHidden c q t (take w labels) (take w matches) (take n tables) rows child positions positions' (Ok s)
+      → RowsHidden c q t labels matches tables rows child positions positions' (Ok s)
   unfolding hidden_by
   hiding-end k = record {
     is = λ h.
@@ -132,18 +132,14 @@ module _ {c q : Bytes} {t labels matches : List ℕ} {w : ℕ} {tables : List �
   }
 
   -- the scope's tables are the parent's
-  same_tables : table_numbers s ≡ take n tables
+  same_tables : table_numbers s ≡ tables
   same_tables = rw (v.count, v.tables) f.same_tables
 
-  scope-is : scope_of (tree_at c q t) c q s
-      ≡ scope_at c q t (labels_of s) (take s.width s.matches) (take n tables) s.hidden
-  unfolding scope_of
-  scope-is = rw same_tables
-
   module _ {r : ℕ} {x : std.Option ℕ} (l : i < length rows) (e : r ≡ get_or rows i 0)
-      (k : Lacking c q t (take w labels) (take w matches) (take n tables) (labels_of s) (take s.width s.matches) r x) where
+      (k : Lacking c q t labels matches tables (labels_of s) (take s.width s.matches) (table_numbers s) r x) where
     asked : (h : ℕ) → option_of x ≡ to_hide (parent h) (scope_of (tree_at c q t) c q s) (tree_at c q t r)
-    asked h = rw scope-is (k.is h s.hidden)
+    unfolding scope_of
+    asked h = k.is h s.hidden
 
     -- the row is visited next
     next_row : (h : ℕ)
@@ -152,7 +148,7 @@ module _ {c q : Bytes} {t labels matches : List ℕ} {w : ℕ} {tables : List �
     next_row h = rw (drop-cons rows i 0 l, ← e) at (v.reached h).rest
 
     pub hiding-skip : x ≡ std.None
-        → HidingRows c q t (take w labels) (take w matches) (take n tables) rows child positions (i + 1) s positions'
+        → HidingRows c q t labels matches tables rows child positions (i + 1) s positions'
     hiding-skip z = record {
       valid = v.valid;
       width = v.width;
@@ -175,16 +171,13 @@ module _ {c q : Bytes} {t labels matches : List ℕ} {w : ℕ} {tables : List �
       added-row : (h : ℕ) → hidden_by (parent h) (trees_at c q t (drop (suc i) rows)) (added h) ≡ whole h
       added-row h = rw (visit-some _ _ (state h) j (sym (ap option_of z) ∙ asked h)) at (next_row h)
 
-      long : length (take w matches) ≡ length (take w labels)
-      long = length-take-le w matches f.matches-long ∙ sym (length-take-le w labels f.labels-long)
-
       -- the column is one of the parent's
-      pub hiding-below : j < w
-      hiding-below = omega (arith, lacking-below k z long, length-take-le w labels f.labels-long)
+      pub hiding-below : j < length labels
+      hiding-below = lacking-below k z f.as_many
 
       -- there is no room for it
       pub hiding-full : {y : ℕ} → most_columns ≤ s.width → y ≡ line_at t r
-          → RowsHidden c q t (take w labels) (take w matches) (take n tables) rows child positions positions'
+          → RowsHidden c q t labels matches tables rows child positions positions'
           (Err (record { reason = LimitPassed; line = y }))
       unfolding add_hidden named
       hiding-full {y} m g = record {
@@ -210,8 +203,7 @@ module _ {c q : Bytes} {t labels matches : List ℕ} {w : ℕ} {tables : List �
         hiding-fits = record {
           valid = v.valid;
           room = m;
-          slot = rw (g, v.count, f.same_count)
-              (rw (get_or-take w labels j 0 hiding-below) at (below_at j f.slots));
+          slot = rw (g, v.count, f.same_count) (below_at j f.slots);
           hidden = omega (arith, v.width);
           table = omega (arith, f.table);
         }
@@ -220,7 +212,7 @@ module _ {c q : Bytes} {t labels matches : List ℕ} {w : ℕ} {tables : List �
         hiding-place = omega (arith, v.width, m, v.kept, f.places)
 
         pub hiding-more : {u : ℕ} {s' : Scope} → u ≡ get_or matches j 0 → HiddenAdded c q t s y u s'
-            → HidingRows c q t (take w labels) (take w matches) (take n tables) rows child positions (i + 1) s'
+            → HidingRows c q t labels matches tables rows child positions (i + 1) s'
             (set positions' s.hidden j)
         unfolding add_hidden scope_from rules.found_label
         hiding-more {u} {s'} d a = record {
@@ -232,9 +224,9 @@ module _ {c q : Bytes} {t labels matches : List ℕ} {w : ℕ} {tables : List �
           reached = λ h.
               let b = v.reached h in
               let o : scope_of (tree_at c q t) c q s' ≡ add_passthrough (parent h) j true (scope_of (tree_at c q t) c q s) =
-              a.is (parent h) (take w matches) j refl (get_or-take w matches j 0 hiding-below ∙ sym d)
-              (label-found (tree_at c q t) c q (take w labels) (take w matches) (take n tables) h j
-              ∙ rw (get_or-take w labels j 0 hiding-below, ← g, ← same_tables)) in
+              a.is (parent h) matches j refl (sym d)
+              (label-found (tree_at c q t) c q labels matches tables h j
+              ∙ rw (← g, ← same_tables)) in
               record {
                 columns = b.columns ++ (record { position = j; line = line_of (tree_at c q t r) } ∷ []);
                 rest = rw (add-one i, o) (added-row h);

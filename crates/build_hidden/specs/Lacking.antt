@@ -1,5 +1,5 @@
--- The column to hide for an expression: of the parent's with the labels xs and the matches ms, which a child with the
--- labels ys and the matches ns lacks, both over the tables ts.
+-- The column to hide for an expression: of the parent's with the labels xs, the matches ms and the tables ts, which a child
+-- with the labels ys, the matches ns and the tables us lacks.
 use Rattle.std.specs.Prelude as std
 use Rattle.std.specs.Prelude.{ℕ, ◌<◌, List, Result, Ok, Err}
 use Rattle.std.specs.Result.{result_ok}
@@ -32,19 +32,19 @@ use Rattle.text.specs.declared.places.Place.{Place}
 use Rattle.build_expression.specs.Builds.{scope_at}
 
 -- CONTRACTS
-module _ (c q : Bytes) (xs ms ts ys ns : List ℕ) where
+module _ (c q : Bytes) (xs ms ts ys ns us : List ℕ) where
   -- for a name w, under a table's o or not
   pub record NameLacking (o : Option Word) (w : Word) (x : std.Option ℕ) : Type 0 where
     pub is : (e : ℕ → Expr) (h k : ℕ) → option_of x ≡ lacking
-        (position (rules.lookup (scope_from e c q xs ms ts h) o w)) (position (rules.lookup (scope_from e c q ys ns ts k) o w))
+        (position (rules.lookup (scope_from e c q xs ms ts h) o w)) (position (rules.lookup (scope_from e c q ys ns us k) o w))
 
   -- for an expression that may be a column's name
   pub record ColumnLacking (a : Expr) (x : std.Option ℕ) : Type 0 where
     pub is : (e : ℕ → Expr) (h k : ℕ)
-        → option_of x ≡ lacking_column (scope_from e c q xs ms ts h) (scope_from e c q ys ns ts k) (as_column a)
+        → option_of x ≡ lacking_column (scope_from e c q xs ms ts h) (scope_from e c q ys ns us k) (as_column a)
 
-pub record Lacking (c q : Bytes) (t xs ms ts ys ns : List ℕ) (r : ℕ) (x : std.Option ℕ) : Type 0 where
-  pub is : (h k : ℕ) → option_of x ≡ to_hide (scope_at c q t xs ms ts h) (scope_at c q t ys ns ts k) (tree_at c q t r)
+pub record Lacking (c q : Bytes) (t xs ms ts ys ns us : List ℕ) (r : ℕ) (x : std.Option ℕ) : Type 0 where
+  pub is : (h k : ℕ) → option_of x ≡ to_hide (scope_at c q t xs ms ts h) (scope_at c q t ys ns us k) (tree_at c q t r)
 
 -- WHAT THE CHILD LACKS
 lacking-nothing : (o : Option ℕ) → none ≡ lacking none o
@@ -80,78 +80,78 @@ module _ {c q : Bytes} {xs ms ts : List ℕ} {o : Option Word} {w : Word} {u : R
 
 module _ {c q : Bytes} {xs ms ts : List ℕ} {o : Option Word} {w : Word} {u : Result ℕ Reason}
     (l : Looked c q xs ms ts o w u) where
-  pub name-nothing : {ys ns : List ℕ} → result_ok u ≡ std.None → NameLacking c q xs ms ts ys ns o w std.None
+  pub name-nothing : {ys ns us : List ℕ} → result_ok u ≡ std.None → NameLacking c q xs ms ts ys ns us o w std.None
   name-nothing g = record { is = λ e h k. lacks-nothing _ _ (looked-at l e h) g }
 
-  module _ {ys ns : List ℕ} {v : Result ℕ Reason} (m : Looked c q ys ns ts o w v) where
+  module _ {ys ns us : List ℕ} {v : Result ℕ Reason} (m : Looked c q ys ns us o w v) where
     pub name-lacking : {i : ℕ} {reason : Reason} → result_ok u ≡ std.Some i → v ≡ Err reason
-        → NameLacking c q xs ms ts ys ns o w (std.Some i)
+        → NameLacking c q xs ms ts ys ns us o w (std.Some i)
     name-lacking {i} g z = record {
       is = λ e h k. lacks-at _ _ i (looked-at l e h) (looked-at m e k) g (ap result_ok z);
     }
 
-    pub name-known : {j : ℕ} → v ≡ Ok j → NameLacking c q xs ms ts ys ns o w std.None
+    pub name-known : {j : ℕ} → v ≡ Ok j → NameLacking c q xs ms ts ys ns us o w std.None
     name-known {j} z = record { is = λ e h k. lacks-known _ _ j (looked-at m e k) (ap result_ok z) }
 
 -- BY THE KIND OF A ROW
-module _ {c q : Bytes} {xs ms ts ys ns : List ℕ} (t : List ℕ) (r : ℕ) (k : Kind) (h : number_of k ≡ kind_at t r) where
+module _ {c q : Bytes} {xs ms ts ys ns us : List ℕ} (t : List ℕ) (r : ℕ) (k : Kind) (h : number_of k ≡ kind_at t r) where
   module _ {a n : ℕ} {x : std.Option ℕ} (ea : a ≡ name_address t r) (en : n ≡ name_length t r) where
-    pub column-plain : k ≡ K.Column → NameLacking c q xs ms ts ys ns (qualifier_of c q std.None) (word_at c q a n) x
-        → ColumnLacking c q xs ms ts ys ns (tree_at c q t r) x
+    pub column-plain : k ≡ K.Column → NameLacking c q xs ms ts ys ns us (qualifier_of c q std.None) (word_at c q a n) x
+        → ColumnLacking c q xs ms ts ys ns us (tree_at c q t r) x
     unfolding lacking_column as_column qualifier_of
     column-plain e f = record {
       is = λ g i j. (rw (ea, en) at (f.is g i j))
-          ∙ sym (ap (λ (b : Expr). lacking_column (scope_from g c q xs ms ts i) (scope_from g c q ys ns ts j) (as_column b))
+          ∙ sym (ap (λ (b : Expr). lacking_column (scope_from g c q xs ms ts i) (scope_from g c q ys ns us j) (as_column b))
           (column-row c q t r k h e));
     }
 
     pub column-qualified : {p : Place} → p.address ≡ qualifier_address t r → p.length ≡ qualifier_length t r → k ≡ K.Qualified
-        → NameLacking c q xs ms ts ys ns (qualifier_of c q (std.Some p)) (word_at c q a n) x
-        → ColumnLacking c q xs ms ts ys ns (tree_at c q t r) x
+        → NameLacking c q xs ms ts ys ns us (qualifier_of c q (std.Some p)) (word_at c q a n) x
+        → ColumnLacking c q xs ms ts ys ns us (tree_at c q t r) x
     unfolding lacking_column as_column qualifier_of
     column-qualified eb em e f = record {
       is = λ g i j. (rw (ea, en, eb, em) at (f.is g i j))
-          ∙ sym (ap (λ (b : Expr). lacking_column (scope_from g c q xs ms ts i) (scope_from g c q ys ns ts j) (as_column b))
+          ∙ sym (ap (λ (b : Expr). lacking_column (scope_from g c q xs ms ts i) (scope_from g c q ys ns us j) (as_column b))
           (qualified-row c q t r k h e));
     }
 
   -- anything else
   pub column-none : (v : Kind) → k ≡ v → as_column (tree_of (tree_at c q t) v c q t r) ≡ none
-      → ColumnLacking c q xs ms ts ys ns (tree_at c q t r) std.None
+      → ColumnLacking c q xs ms ts ys ns us (tree_at c q t r) std.None
   unfolding lacking_column
   column-none v e o =
       let w : tree_at c q t r ≡ tree_of (tree_at c q t) v c q t r =
       row-tree c q t r k h ∙ ap (λ (i : Kind). tree_of (tree_at c q t) i c q t r) e in
       record {
-        is = λ g i j. sym (ap (lacking_column (scope_from g c q xs ms ts i) (scope_from g c q ys ns ts j))
+        is = λ g i j. sym (ap (lacking_column (scope_from g c q xs ms ts i) (scope_from g c q ys ns us j))
             (ap as_column w ∙ o));
       }
 
 -- A MATCH OR ELSE A NAME
-matches-both : (c q : Bytes) (t xs ms ts ys ns : List ℕ) (r h k : ℕ) (o : Option ℕ)
+matches-both : (c q : Bytes) (t xs ms ts ys ns us : List ℕ) (r h k : ℕ) (o : Option ℕ)
     → o ≡ lacking (match_at (matches_of (tree_at c q t) 0 ms) (tree_at c q t r))
     (match_at (matches_of (tree_at c q t) 0 ns) (tree_at c q t r))
-    → lacking (matched (scope_at c q t xs ms ts h) (tree_at c q t r)) (matched (scope_at c q t ys ns ts k) (tree_at c q t r)) ≡ o
-matches-both c q t xs ms ts ys ns r h k o m = rw (
+    → lacking (matched (scope_at c q t xs ms ts h) (tree_at c q t r)) (matched (scope_at c q t ys ns us k) (tree_at c q t r)) ≡ o
+matches-both c q t xs ms ts ys ns us r h k o m = rw (
   matched-from (tree_at c q t) c q xs ms ts h (tree_at c q t r),
-  matched-from (tree_at c q t) c q ys ns ts k (tree_at c q t r),
+  matched-from (tree_at c q t) c q ys ns us k (tree_at c q t r),
 ) (sym m)
 
-module _ {c q : Bytes} {t xs ms ts ys ns : List ℕ} {r : ℕ} where
+module _ {c q : Bytes} {t xs ms ts ys ns us : List ℕ} {r : ℕ} where
   pub lacking-match : {x : std.Option ℕ} {i : ℕ} → option_of x
       ≡ lacking (match_at (matches_of (tree_at c q t) 0 ms) (tree_at c q t r))
       (match_at (matches_of (tree_at c q t) 0 ns) (tree_at c q t r))
-      → x ≡ std.Some i → Lacking c q t xs ms ts ys ns r (std.Some i)
+      → x ≡ std.Some i → Lacking c q t xs ms ts ys ns us r (std.Some i)
   unfolding to_hide
-  lacking-match {x} {i} m g = record { is = λ h k. rw (to_hide, matches-both c q t xs ms ts ys ns r h k (some i) (sym (ap option_of g) ∙ m)) }
+  lacking-match {x} {i} m g = record { is = λ h k. rw (to_hide, matches-both c q t xs ms ts ys ns us r h k (some i) (sym (ap option_of g) ∙ m)) }
 
   pub lacking-column : {x y : std.Option ℕ} → option_of x
       ≡ lacking (match_at (matches_of (tree_at c q t) 0 ms) (tree_at c q t r))
       (match_at (matches_of (tree_at c q t) 0 ns) (tree_at c q t r))
-      → x ≡ std.None → ColumnLacking c q xs ms ts ys ns (tree_at c q t r) y → Lacking c q t xs ms ts ys ns r y
+      → x ≡ std.None → ColumnLacking c q xs ms ts ys ns us (tree_at c q t r) y → Lacking c q t xs ms ts ys ns us r y
   unfolding to_hide
   lacking-column {x} {y} m g f = record {
-    is = λ h k. rw (to_hide, matches-both c q t xs ms ts ys ns r h k none (sym (ap option_of g) ∙ m)) (f.is (tree_at c q t) h k);
+    is = λ h k. rw (to_hide, matches-both c q t xs ms ts ys ns us r h k none (sym (ap option_of g) ∙ m)) (f.is (tree_at c q t) h k);
   }
 
 -- THE COLUMN IS ONE OF THE PARENT'S
@@ -194,8 +194,8 @@ module _ (c q : Bytes) (xs ms ts : List ℕ) (e : ℕ → Expr) (child : rules.S
                 (sym (sym (matched-from e c q xs ms ts 0 a) ∙ lacking-own _ _ j z)) refl,
           )
 
-pub lacking-below : {c q : Bytes} {t xs ms ts ys ns : List ℕ} {r : ℕ} {x : std.Option ℕ} {i : ℕ}
-    → Lacking c q t xs ms ts ys ns r x → x ≡ std.Some i → length ms ≡ length xs → i < length xs
-lacking-below {c} {q} {t} {xs} {ms} {ts} {ys} {ns} {r} k e l =
-    hide-below c q xs ms ts (tree_at c q t) (scope_at c q t ys ns ts 0) (tree_at c q t r) l
+pub lacking-below : {c q : Bytes} {t xs ms ts ys ns us : List ℕ} {r : ℕ} {x : std.Option ℕ} {i : ℕ}
+    → Lacking c q t xs ms ts ys ns us r x → x ≡ std.Some i → length ms ≡ length xs → i < length xs
+lacking-below {c} {q} {t} {xs} {ms} {ts} {ys} {ns} {us} {r} k e l =
+    hide-below c q xs ms ts (tree_at c q t) (scope_at c q t ys ns us 0) (tree_at c q t r) l
     (sym (k.is 0 0) ∙ ap option_of e)

@@ -16,23 +16,20 @@ use Rattle.scope.specs.declared.Scope.{Scope}
 use Rattle.statement.specs.Access.{select_at}
 use Rattle.build_expression.specs.Builds.{scope_at}
 
--- The parent's arrays are as long as its width and its labels of its own tables, the child has nothing hidden and the same
--- tables, and there is a place for each position.
-pub record Passable (cells labels matches : List ℕ) (width : ℕ) (tables : List ℕ) (count : ℕ) (child : Scope)
-    (positions : List ℕ) : Type 0 where
+-- The parent has a match for each label, and labels of its own tables; the child has nothing hidden and the same tables, and
+-- there is a place for each position.
+pub record Passable (cells labels matches tables : List ℕ) (child : Scope) (positions : List ℕ) : Type 0 where
   pub valid : Valid child
   pub shown : child.hidden ≡ 0
-  pub labels-long : width ≤ length labels
-  pub matches-long : width ≤ length matches
-  pub slots : Below count (take width labels)
-  pub same_tables : table_numbers child ≡ take count tables
-  pub same_count : child.count ≡ count
+  pub as_many : length matches ≡ length labels
+  pub slots : Below (length tables) labels
+  pub same_tables : table_numbers child ≡ tables
+  pub same_count : child.count ≡ length tables
   pub places : length positions ≡ most_columns
   pub table : length cells ≡ table_size
 
-pub record Hideable (c q : Bytes) (cells parts labels matches : List ℕ) (width : ℕ) (tables : List ℕ) (count : ℕ)
-    (child : Scope) (positions : List ℕ) : Type 0 where
-  pub passable : Passable cells labels matches width tables count child positions
+pub record Hideable (c q : Bytes) (cells parts labels matches tables : List ℕ) (child : Scope) (positions : List ℕ) : Type 0 where
+  pub passable : Passable cells labels matches tables child positions
   pub few : (froms : List ℕ) → total size (later_of (select_at c q cells froms parts)) ≤ most_cells
 
 -- the hidden columns g of the rules: the scope x has them, and their positions in the parent are the first numbers

@@ -11,9 +11,8 @@ use Rattle.build_hidden.specs.Later.{LaterFit, LaterVisited}
 use Rattle.build_hidden.specs.Hide.{RowsHidden}
 
 -- there are places for all rows
-pub later-fits : {c q : Bytes} {cells parts labels matches : List ℕ} {w : ℕ} {tables : List ℕ} {n : ℕ} {child : Scope}
-    {positions : List ℕ} (rows : List ℕ) → Hideable c q cells parts labels matches w tables n child positions
-    → length rows ≡ most_cells → LaterFit cells parts rows
+pub later-fits : {c q : Bytes} {cells parts labels matches tables : List ℕ} {child : Scope} {positions : List ℕ}
+    (rows : List ℕ) → Hideable c q cells parts labels matches tables child positions → length rows ≡ most_cells → LaterFit cells parts rows
 later-fits {c} {q} rows f e = record {
   c = c;
   q = q;

@@ -8,11 +8,13 @@ ghost use Rattle.sections.specs.Layout.{section_at};
 ghost use Rattle.sections.specs.Access.{name_kind};
 ghost use Rattle.build_insert.specs.Map as map;
 
+use ast::Expressions;
 use numbers::number;
 use numbers::refusals::{Reason, Refusal};
 use schema::column_at;
 use sections::entry;
 use statement::access::name_start;
+use text::places::Place;
 
 // A column's position in its table (the Rust's cindex).
 #[derive(Clone, Copy)]
@@ -53,25 +55,26 @@ fn is_mapped(columns: &[u32], n: u32, column: TablePosition) -> bool
 
 // The column of each name in the i-th table, in order. Refused at the name of no column, and at one that was given before.
 fn map_names(
-    catalog: &[u8],
-    statement: &[u8],
+    exprs: &Expressions,
     tables: &[u32],
     i: u32,
-    cells: &[u32],
     parts: &[u32],
     columns: &mut [u32],
 ) -> Result<Option<u32>, Refusal>
-    requires { length (section_at catalog.now statement.now cells.now parts.now name_kind) ≤ length columns.old }
+    requires { length (section_at exprs.now.texts.catalog.now exprs.now.texts.statement.now exprs.now.table.now parts.now name_kind) ≤ length columns.old }
     ensures { map.Maps
-        (column_map (table_at catalog.now statement.now tables.now i).columns
-        (some (map.names_at catalog.now statement.now cells.now parts.now)))
+        (column_map (table_at exprs.now.texts.catalog.now exprs.now.texts.statement.now tables.now i).columns
+        (some (map.names_at exprs.now.texts.catalog.now exprs.now.texts.statement.now exprs.now.table.now parts.now)))
         columns.old columns.new result }
 {
     let count = entry::count(parts, entry::NAME);
     for v in 0..count {
         let e = entry::entry_at(parts, entry::NAME, v);
-        let a = name_start(e);
-        let found = column_at(catalog, statement, tables, i, a, e.length);
+        let name = Place {
+            address: name_start(e),
+            length: e.length,
+        };
+        let found = column_at(&exprs.texts, tables, i, name);
         let Some(j) = found else {
             return Err(Refusal {
                 reason: Reason::UnknownInsertColumn,
@@ -92,22 +95,20 @@ fn map_names(
 
 // The statement's map into the i-th table: of how many values, or none. A `columns` of no names is not no `columns`.
 pub fn column_map(
-    catalog: &[u8],
-    statement: &[u8],
+    exprs: &Expressions,
     tables: &[u32],
     i: u32,
-    cells: &[u32],
     parts: &[u32],
     columns: &mut [u32],
 ) -> Result<Option<u32>, Refusal>
-    requires { map.NamesFit (map.given_names catalog.now statement.now cells.now parts.now) columns.old }
+    requires { map.NamesFit (map.given_names exprs.now.texts.catalog.now exprs.now.texts.statement.now exprs.now.table.now parts.now) columns.old }
     ensures { map.Maps
-        (column_map (table_at catalog.now statement.now tables.now i).columns
-        (map.given_names catalog.now statement.now cells.now parts.now))
+        (column_map (table_at exprs.now.texts.catalog.now exprs.now.texts.statement.now tables.now i).columns
+        (map.given_names exprs.now.texts.catalog.now exprs.now.texts.statement.now exprs.now.table.now parts.now))
         columns.old columns.new result }
 {
     if entry::count(parts, entry::COLUMNS) == 0 {
         return Ok(None);
     }
-    map_names(catalog, statement, tables, i, cells, parts, columns)
+    map_names(exprs, tables, i, parts, columns)
 }

@@ -92,17 +92,20 @@ module _ {c q : Bytes} {t parts items : List ℕ} {s : Scope} {n m start k : ℕ
 -- THE HIDDEN COLUMNS
 module _ {c q : Bytes} {t parts items : List ℕ} {s : Scope} (f : ItemsReady c q t parts items s) {child : Scope}
     (p : ScopeProjected c q t parts items s child) where
+  tables-many : length (table_numbers s) ≡ s.count
+  tables-many = length-take-le s.count s.tables (omega (arith, f.valid.tables, f.valid.tables-room))
+
   pub hideable : LaterFew c q t parts → (positions : List ℕ) → length positions ≡ most_columns
-      → Hideable c q t parts s.labels s.matches s.width s.tables s.count child positions
+      → Hideable c q t parts (labels_of s) (take s.width s.matches) (table_numbers s) child positions
   hideable h positions l = record {
     passable = record {
       valid = p.valid;
       shown = p.shown;
-      labels-long = omega (arith, f.valid.width, f.valid.labels-room);
-      matches-long = omega (arith, f.valid.width, f.valid.matches-room);
-      slots = f.valid.slots;
+      as_many = length-take-le s.width s.matches (omega (arith, f.valid.width, f.valid.matches-room))
+          ∙ sym (length-take-le s.width s.labels (omega (arith, f.valid.width, f.valid.labels-room)));
+      slots = rw tables-many f.valid.slots;
       same_tables = rw (p.count, p.tables);
-      same_count = p.count;
+      same_count = p.count ∙ sym tables-many;
       places = l;
       table = f.table;
     };

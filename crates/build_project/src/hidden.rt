@@ -7,24 +7,26 @@ ghost use Rattle.build_project.specs.Hidden.{ColumnsPut};
 ghost use Rattle.build_project.specs.Ends.{EndReady, ProjectionEnded};
 
 use super::projected::project_scope;
+use ast::Expressions;
 use build_hidden::build_select_hidden;
 use numbers::refusals::Refusal;
 use plan::cells::column;
 use plan::parts::{end, item};
+use plan::steps::Part;
 use scope::{COLUMNS, Scope};
 use stage::Stage;
 
 // The columns at some positions: their cells from the n-th on, and their parts of a record behind k numbers of the nodes.
 // Gives how many numbers are in use then.
-fn put_columns(positions: &[u32], area: &mut [u32], n: u32, nodes: &mut [u32], k: usize) -> usize
-    requires room { Room n (length positions.now) area.old }
-    requires positions_in_bounds { k + item_size * length positions.now ≤ length nodes.old }
-    ensures { ColumnsPut positions.now n area.old area.new k nodes.old
+fn put_columns(positions: &[u32], area: &mut [u32], nodes: &mut [u32], at: Part) -> usize
+    requires room { Room at.cell (length positions.now) area.old }
+    requires positions_in_bounds { at.used + item_size * length positions.now ≤ length nodes.old }
+    ensures { ColumnsPut positions.now at.cell area.old area.new at.used nodes.old
         nodes.new result }
 {
-    let mut j = k;
+    let mut j = at.used;
     for (i, &x) in positions.iter().enumerate() {
-        let at = n + i as u32;
+        let at = at.cell + i as u32;
         column(area, at, x);
         j = item(nodes, j, at, None);
     }
@@ -33,10 +35,8 @@ fn put_columns(positions: &[u32], area: &mut [u32], n: u32, nodes: &mut [u32], k
 
 // The projection that starts at a place, its items pushed, by their labels: with its hidden columns it ends. Refused where
 // they are too many.
-pub fn end_projection<'t>(
-    catalog: &'t [u8],
-    statement: &'t [u8],
-    cells: &[u32],
+pub fn end_projection(
+    exprs: &Expressions,
     parts: &[u32],
     items: &[u32],
     labels: &[u32],
@@ -48,30 +48,23 @@ pub fn end_projection<'t>(
     start: usize,
     k: usize,
 ) -> Result<Stage, Refusal>
-    requires end_ready { EndReady catalog.now statement.now cells.now parts.now items.now scope n m start k area.old
+    requires end_ready { EndReady exprs.now.texts.catalog.now exprs.now.texts.statement.now exprs.now.table.now parts.now items.now scope n m start k area.old
         nodes.old }
-    requires labels_value { labels.now ≡ item_labels catalog.now statement.now cells.now parts.now scope items.now }
-    ensures { ProjectionEnded catalog.now statement.now cells.now parts.now
+    requires labels_value { labels.now ≡ item_labels exprs.now.texts.catalog.now exprs.now.texts.statement.now exprs.now.table.now parts.now scope items.now }
+    ensures { ProjectionEnded exprs.now.texts.catalog.now exprs.now.texts.statement.now exprs.now.table.now parts.now
         items.now scope n m start k area.old nodes.old area.new
         nodes.new result }
 {
-    let child = project_scope(catalog, statement, cells, parts, items, labels, scope);
+    let child = project_scope(exprs, parts, items, labels, scope);
     let mut positions = [0u32; COLUMNS];
-    let widened = build_select_hidden(
-        catalog,
-        statement,
-        cells,
-        parts,
-        &scope.labels,
-        &scope.matches,
-        scope.width,
-        &scope.tables,
-        scope.count,
-        child,
-        &mut positions,
-    )?;
+    let widened = build_select_hidden(exprs, parts, &scope.view(), child, &mut positions)?;
     let hidden = widened.hidden;
-    let j = put_columns(&positions[..hidden as usize], area, n, nodes, k);
+    let j = put_columns(
+        &positions[..hidden as usize],
+        area,
+        nodes,
+        Part { cell: n, used: k },
+    );
     end(nodes, start, j);
     Ok(Stage {
         scope: widened,

@@ -10,79 +10,71 @@ mod rows; // rows.rt: the rows of the items
 ghost use Rattle.std.specs.Prelude.{List, map, ℕ};
 ghost use Rattle.rules.specs.BuildSelect.{later_of, build_projection};
 ghost use Rattle.appends.specs.From.Laid.{stage_of};
-ghost use Rattle.ast.specs.Table.{tree_at};
+ghost use Rattle.ast.specs.Expressions.{tree_in};
 ghost use Rattle.scope.specs.Scopes.{scope_of};
 ghost use Rattle.statement.specs.Access.{select_at};
 ghost use Rattle.stage.specs.Stages.{StageBuilt};
 ghost use Rattle.build_projection.specs.Items.{item_of};
 ghost use Rattle.build_project.specs.Ready.{ProjectionReady};
 
+use ast::Expressions;
 use build_projection::projection::put_items;
 use hidden::end_projection;
 use lone::is_lone;
 use numbers::refusals::Refusal;
 use plan::nodes::Kind;
 use plan::parts::begin;
+use plan::steps::{Part, Step};
 use scope::{COLUMNS, Scope};
 use stage::Stage;
 
 // The items by their numbers over the node before, which stands in n cells, m nodes and k numbers of the nodes: nothing for
 // a lone star.
-pub fn build_projection<'t>(
-    catalog: &'t [u8],
-    statement: &'t [u8],
-    cells: &[u32],
+pub fn build_projection(
+    exprs: &Expressions,
     parts: &[u32],
     items: &[u32],
     scope: Scope,
     area: &mut [u32],
-    n: u32,
     nodes: &mut [u32],
-    m: u32,
-    k: usize,
+    at: Step,
 ) -> Result<Stage, Refusal>
-    requires { ProjectionReady catalog.now statement.now cells.now parts.now items.now scope n m k area.old
+    requires { ProjectionReady exprs.now.texts.catalog.now exprs.now.texts.statement.now exprs.now.table.now parts.now items.now scope at.cell at.node at.used area.old
         nodes.old }
-    ensures { (froms : List ℕ) → StageBuilt catalog.now statement.now cells.now
+    ensures { (froms : List ℕ) → StageBuilt exprs.now.texts.catalog.now exprs.now.texts.statement.now exprs.now.table.now
         (λ d. build_projection
-        (stage_of d (scope_of (tree_at catalog.now statement.now cells.now)
-        catalog.now statement.now scope))
-        (map (item_of catalog.now statement.now cells.now parts.now)
+        (stage_of d (scope_of (tree_in exprs.now)
+        exprs.now.texts.catalog.now exprs.now.texts.statement.now scope))
+        (map (item_of exprs.now.texts.catalog.now exprs.now.texts.statement.now exprs.now.table.now parts.now)
         items.now)
-        (later_of (select_at catalog.now statement.now cells.now froms
-        parts.now))) n m k area.old nodes.old area.new nodes.new result }
+        (later_of (select_at exprs.now.texts.catalog.now exprs.now.texts.statement.now exprs.now.table.now froms
+        parts.now))) at.cell at.node at.used area.old nodes.old area.new nodes.new result }
 {
-    if is_lone(cells, parts, items) {
+    if is_lone(exprs.table, parts, items) {
         return Ok(Stage {
             scope,
-            cell: n,
-            node: m,
-            used: k,
+            cell: at.cell,
+            node: at.node,
+            used: at.used,
         });
     }
-    let j = begin(nodes, k, Kind::Project, m - 1);
+    let j = begin(nodes, at.used, Kind::Project, at.node - 1);
     let mut labels = [0u32; COLUMNS];
     let part = put_items(
-        catalog,
-        statement,
-        cells,
+        exprs,
         parts,
         items,
-        &scope.labels,
-        &scope.matches,
-        scope.width,
-        &scope.tables,
-        scope.count,
+        &scope.view(),
         area,
-        n,
         nodes,
-        j,
+        Part {
+            cell: at.cell,
+            used: j,
+        },
         &mut labels,
     )?;
     end_projection(
-        catalog,
-        statement,
-        cells,
+        exprs,
         parts,
         items,
         &labels[..items.len()],
@@ -90,8 +82,8 @@ pub fn build_projection<'t>(
         area,
         part.cell,
         nodes,
-        m,
-        k,
+        at.node,
+        at.used,
         part.used,
     )
 }

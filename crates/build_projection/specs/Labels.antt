@@ -136,10 +136,10 @@ module _ {c q : Bytes} {t parts xs ms ts : List ℕ} {x n : ℕ} {area : List �
   passed-cell (binary l o a b) h = refl
   passed-cell (is l a v) h = refl
 
-  pub label-cell : {k r l : ℕ} {ys : List ℕ} → k ≡ alias_length c q parts x → k ≡ 0 → r ≡ row_of parts x → ys ≡ xs
-      → l ≡ cell_label ys area n (tree_at c q t r) → l ≡ label_number c q t parts xs ms ts x
-  label-cell {k} {r} {l} {ys} e h f d g =
-      let y : l ≡ cell_label xs area n (tree_at c q t (row_of parts x)) = rw (f, d) at g in
+  pub label-cell : {k r l : ℕ} → k ≡ alias_length c q parts x → k ≡ 0 → r ≡ row_of parts x
+      → l ≡ cell_label xs area n (tree_at c q t r) → l ≡ label_number c q t parts xs ms ts x
+  label-cell {k} {r} {l} e h f g =
+      let y : l ≡ cell_label xs area n (tree_at c q t (row_of parts x)) = rw f at g in
       y ∙ passed-cell (tree_at c q t (row_of parts x)) s.is ∙ sym (number_passed c q t parts xs ms ts x (sym e ∙ h))
 
 pub none-used : (us ms : List ℕ) → us ≡ used_matches ms → length us ≡ 0 → used_matches ms ≡ []

@@ -53,10 +53,9 @@ pub record ItemPut (c q : Bytes) (t parts xs ms ts : List ℕ) (x n : ℕ) (area
 
 -- the matches us are those that ms has, or none where nothing is matched
 pub used-put : {c q : Bytes} {t parts xs us ts : List ℕ} {x n : ℕ} {area area' : List ℕ} {k : ℕ} {nodes nodes' : List ℕ}
-    {r : Result Part Refusal} (w : ℕ) (ms : List ℕ) → us ≡ used_matches (take w ms)
-    → ItemPut c q t parts xs (take w us) ts x n area area' k nodes nodes' r
-    → ItemPut c q t parts xs (take w ms) ts x n area area' k nodes nodes' r
-used-put {c} {q} {t} {xs = xs} {us} {ts} w ms e p = record { is = λ h. rw (used-at c q t xs us ts w ms h e) at (p.is h) }
+    {r : Result Part Refusal} (ms : List ℕ) → us ≡ used_matches ms → ItemPut c q t parts xs us ts x n area area' k nodes nodes' r
+    → ItemPut c q t parts xs ms ts x n area area' k nodes nodes' r
+used-put {c} {q} {t} {xs = xs} {us} {ts} ms e p = record { is = λ h. rw (used-at c q t xs us ts ms h e) at (p.is h) }
 
 -- all items
 pub record All (a : Answer (Entries (ℕ × Option Word))) (n : ℕ) (area area' : List ℕ) (k : ℕ) (nodes nodes' : List ℕ)

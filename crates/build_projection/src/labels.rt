@@ -7,12 +7,14 @@ ghost use Rattle.scope.specs.UsedMatches.{used_matches};
 ghost use Rattle.build_projection.specs.Labels.{label_number, cell_label, ItemStands};
 
 use crate::projection::{alias_address, alias_length, item_row};
+use ast::Expressions;
 use ast::row::{Kind, kind_of};
 use numbers::number;
 use plan::{CELL_SIZE, HEADER_SIZE};
 use scope::expressions::label_of;
 use scope::labels::label;
-use scope::lookup::first;
+use scope::view::View;
+use text::places::Place;
 
 // The position of the column that cell n of a plan is.
 fn position(area: &[u32], n: u32) -> usize
@@ -38,40 +40,34 @@ fn cell_label(table: &[u32], r: usize, labels: &[u32], area: &[u32], n: u32) -> 
     }
 }
 
-// The label of item x, which stands in the plan from the n-th cell on: its alias, or what its expression passes on. `used` are
-// the matches, none where nothing is matched: then a column was looked up by its name, and its position stands in its cell.
-pub fn item_label<'t, 'a>(
-    catalog: &'t [u8],
-    statement: &'t [u8],
-    cells: &[u32],
+// The label of item x, which stands in the plan from the n-th cell on: its alias, or what its expression passes on. `used` has
+// no matches where nothing is matched: then a column was looked up by its name, and its position stands in its cell.
+pub fn item_label(
+    exprs: &Expressions,
     parts: &[u32],
     x: u32,
-    labels: &'a [u32],
-    matches: &'a [u16],
-    used: &[u16],
-    width: u32,
-    tables: &'a [u32],
-    count: u32,
+    scope: &View,
+    used: &View,
     area: &[u32],
     n: u32,
 ) -> u32
-    requires used_value { used.now ≡ used_matches (take width matches.now) }
-    requires item_stands { ItemStands catalog.now statement.now cells.now parts.now (take width labels.now) (take width matches.now)
-        (take count tables.now) x n area.now }
-    ensures { result ≡ label_number catalog.now statement.now cells.now parts.now
-        (take width labels.now) (take width matches.now) (take count tables.now) x }
+    requires used_value { used.now.matches.now ≡ used_matches scope.now.matches.now }
+    requires item_stands { ItemStands exprs.now.texts.catalog.now exprs.now.texts.statement.now exprs.now.table.now parts.now scope.now.labels.now scope.now.matches.now
+        scope.now.tables.now x n area.now }
+    ensures { result ≡ label_number exprs.now.texts.catalog.now exprs.now.texts.statement.now exprs.now.table.now parts.now
+        scope.now.labels.now scope.now.matches.now scope.now.tables.now x }
 {
-    let size = alias_length(catalog, statement, parts, x);
+    let size = alias_length(&exprs.texts, parts, x);
     if size != 0 {
-        let a = alias_address(parts, x);
-        return label(0, a, size);
+        let alias = Place {
+            address: alias_address(parts, x),
+            length: size,
+        };
+        return label(0, alias);
     }
     let r = item_row(parts, x);
-    if used.len() == 0 {
-        let columns = first(labels, width as usize);
-        return cell_label(cells, r, columns, area, n);
+    if used.matches.len() == 0 {
+        return cell_label(exprs.table, r, scope.labels, area, n);
     }
-    label_of(
-        catalog, statement, cells, labels, matches, width, tables, count, r,
-    )
+    label_of(exprs, scope, r)
 }

@@ -5,7 +5,7 @@ ghost use Rattle.build_projection.specs.Stars.{table_of, with_column, with_colum
 
 use numbers::number;
 use read_expression::starred::put_starred;
-use scope::labels::{address, size, slot};
+use scope::labels::{place, slot};
 
 // The name of the table that a label's column comes from.
 fn table_of(tables: &[u32], x: u32) -> u32
@@ -23,7 +23,7 @@ fn put_column(cells: &mut [u32], tables: &[u32], k: u32, line: u32, x: u32)
     ensures { cells.new ≡ with_column cells.old tables.now k line x }
 {
     let t = table_of(tables, x);
-    put_starred(cells, k, line, address(t), size(t), address(x), size(x));
+    put_starred(cells, k, line, place(t), place(x));
 }
 
 // The starred columns from k on: all labels.

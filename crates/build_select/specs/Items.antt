@@ -38,11 +38,6 @@ use Rattle.build_select.specs.Held.{plans-refused, plans-after}
 use Rattle.build_select.specs.States.{clause-read, read_kept, FromState, ItemsState, WhereState}
 
 -- THE ITEMS
--- over the same numbers
-pub built-as : {cells cells' parts ts ts' ls ls' items' : List ℕ} {r : Result ℕ Refusal} → ts ≡ ts' → ls ≡ ls'
-    → ItemsBuilt cells cells' parts ts ls items' r → ItemsBuilt cells cells' parts ts' ls' items' r
-built-as e f b = rw (← e, ← f) b
-
 -- what an answer gave, by its numbers
 pub record Listed (a : Answer (List Item)) (n : ℕ) : Type 0 where
   pub items : List Item

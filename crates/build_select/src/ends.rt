@@ -4,28 +4,22 @@ ghost use Rattle.appends.specs.Select.Stages.{select_offset, select_limit, selec
 ghost use Rattle.build_statement.specs.Plans.{Plans};
 ghost use Rattle.build_select.specs.States.{OrderState, OffsetState, LimitState};
 
+use ast::Expressions;
 use build_clauses::remaps::build_remap;
 use build_clauses::rows::{build_limit, build_offset};
 use numbers::refusals::Refusal;
 use plan::finish::{Kind, finish};
+use plan::steps::Step;
 use sections::entry::{LIMIT, OFFSET};
 use statement::access::clause_at;
 
 // The remap that drops hidden columns, and the end.
-fn select_remap(
-    width: u32,
-    hidden: u32,
-    area: &mut [u32],
-    n: u32,
-    nodes: &mut [u32],
-    m: u32,
-    k: usize,
-) -> u32
-    requires { LimitState width hidden n m k area.old nodes.old }
-    ensures { (h : LimitState width hidden n m k area.old nodes.old)
+fn select_remap(width: u32, hidden: u32, area: &mut [u32], nodes: &mut [u32], at: Step) -> u32
+    requires { LimitState width hidden at.cell at.node at.used area.old nodes.old }
+    ensures { (h : LimitState width hidden at.cell at.node at.used area.old nodes.old)
         → Plans (select_remap h.select h.stage h.node) area.old area.new (Ok result) }
 {
-    let remapped = build_remap(width, hidden, nodes, n, m, k);
+    let remapped = build_remap(width, hidden, nodes, at);
     finish(
         area,
         nodes,
@@ -40,68 +34,40 @@ fn select_remap(
 
 // LIMIT behind OFFSET, and all that follows.
 fn select_limit(
-    catalog: &[u8],
-    statement: &[u8],
-    cells: &[u32],
+    exprs: &Expressions,
     parts: &[u32],
     width: u32,
     hidden: u32,
     area: &mut [u32],
-    n: u32,
     nodes: &mut [u32],
-    m: u32,
-    k: usize,
+    at: Step,
 ) -> Result<u32, Refusal>
-    requires { OffsetState catalog.now statement.now cells.now parts.now width hidden n m k area.old nodes.old }
-    ensures { (h : OffsetState catalog.now statement.now cells.now parts.now
-        width hidden n m k area.old nodes.old)
+    requires { OffsetState exprs.now.texts.catalog.now exprs.now.texts.statement.now exprs.now.table.now parts.now width hidden at.cell at.node at.used area.old nodes.old }
+    ensures { (h : OffsetState exprs.now.texts.catalog.now exprs.now.texts.statement.now exprs.now.table.now parts.now
+        width hidden at.cell at.node at.used area.old nodes.old)
         → Plans (select_limit h.select h.stage h.node) area.old area.new result }
 {
     let clause = clause_at(parts, LIMIT);
-    let limited = build_limit(catalog, statement, cells, clause, nodes, n, m, k)?;
-    Ok(select_remap(
-        width,
-        hidden,
-        area,
-        limited.cell,
-        nodes,
-        limited.node,
-        limited.used,
-    ))
+    let limited = build_limit(exprs, clause, nodes, at)?;
+    Ok(select_remap(width, hidden, area, nodes, limited))
 }
 
 // OFFSET behind ORDER, and all that follows.
 pub fn select_offset(
-    catalog: &[u8],
-    statement: &[u8],
-    cells: &[u32],
+    exprs: &Expressions,
     parts: &[u32],
     width: u32,
     hidden: u32,
     area: &mut [u32],
-    n: u32,
     nodes: &mut [u32],
-    m: u32,
-    k: usize,
+    at: Step,
 ) -> Result<u32, Refusal>
-    requires { OrderState catalog.now statement.now cells.now parts.now width hidden n m k area.old nodes.old }
-    ensures { (h : OrderState catalog.now statement.now cells.now parts.now
-        width hidden n m k area.old nodes.old)
+    requires { OrderState exprs.now.texts.catalog.now exprs.now.texts.statement.now exprs.now.table.now parts.now width hidden at.cell at.node at.used area.old nodes.old }
+    ensures { (h : OrderState exprs.now.texts.catalog.now exprs.now.texts.statement.now exprs.now.table.now parts.now
+        width hidden at.cell at.node at.used area.old nodes.old)
         → Plans (select_offset h.select h.stage h.node) area.old area.new result }
 {
     let clause = clause_at(parts, OFFSET);
-    let skipped = build_offset(catalog, statement, cells, clause, nodes, n, m, k)?;
-    select_limit(
-        catalog,
-        statement,
-        cells,
-        parts,
-        width,
-        hidden,
-        area,
-        skipped.cell,
-        nodes,
-        skipped.node,
-        skipped.used,
-    )
+    let skipped = build_offset(exprs, clause, nodes, at)?;
+    select_limit(exprs, parts, width, hidden, area, nodes, skipped)
 }

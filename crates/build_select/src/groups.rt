@@ -6,58 +6,54 @@ ghost use Rattle.build_projection.specs.Items.{item_of};
 ghost use Rattle.build_select.specs.States.{WhereState};
 
 use super::later::select_later;
+use ast::Expressions;
 use build_groups::build_groups;
 use build_project::build_projection;
 use numbers::refusals::Refusal;
+use plan::steps::Step;
 use scope::Scope;
 
 // Groups behind WHERE, then the projection, and all that follows.
-pub fn select_groups<'t>(
-    catalog: &'t [u8],
-    statement: &'t [u8],
-    cells: &[u32],
+pub fn select_groups(
+    exprs: &Expressions,
     parts: &[u32],
     items: &[u32],
     scope: Scope,
     area: &mut [u32],
-    n: u32,
     nodes: &mut [u32],
-    m: u32,
-    k: usize,
+    at: Step,
 ) -> Result<u32, Refusal>
-    requires { WhereState catalog.now statement.now cells.now parts.now items.now scope n m k area.old nodes.old }
-    ensures { (h : WhereState catalog.now statement.now cells.now parts.now
-        items.now scope n m k area.old nodes.old)
+    requires { WhereState exprs.now.texts.catalog.now exprs.now.texts.statement.now exprs.now.table.now parts.now items.now scope at.cell at.node at.used area.old nodes.old }
+    ensures { (h : WhereState exprs.now.texts.catalog.now exprs.now.texts.statement.now exprs.now.table.now parts.now
+        items.now scope at.cell at.node at.used area.old nodes.old)
         → Plans (select_groups h.select
-        (map (item_of catalog.now statement.now cells.now parts.now) items.now)
+        (map (item_of exprs.now.texts.catalog.now exprs.now.texts.statement.now exprs.now.table.now parts.now) items.now)
         h.stage) area.old area.new result }
 {
-    let grouped = build_groups(
-        catalog, statement, cells, parts, scope, area, n, nodes, m, k,
-    )?;
+    let grouped = build_groups(exprs, parts, scope, area, nodes, at)?;
     let projected = build_projection(
-        catalog,
-        statement,
-        cells,
+        exprs,
         parts,
         items,
         grouped.scope,
         area,
-        grouped.cell,
         nodes,
-        grouped.node,
-        grouped.used,
+        Step {
+            cell: grouped.cell,
+            node: grouped.node,
+            used: grouped.used,
+        },
     )?;
     select_later(
-        catalog,
-        statement,
-        cells,
+        exprs,
         parts,
         projected.scope,
         area,
-        projected.cell,
         nodes,
-        projected.node,
-        projected.used,
+        Step {
+            cell: projected.cell,
+            node: projected.node,
+            used: projected.used,
+        },
     )
 }

@@ -10,121 +10,74 @@ ghost use Rattle.build_projection.specs.Terms.{ItemsBuilt};
 ghost use Rattle.build_select.specs.States.{FromState, ItemsState};
 
 use super::groups::select_groups;
+use ast::Expressions;
 use build_clauses::filters::build_where;
 use build_projection::items::build_items;
 use numbers::refusals::Refusal;
-use scope::lookup::first;
+use plan::steps::Step;
+use scope::view::first;
 use scope::{COLUMNS, Scope};
 use sections::entry::WHERE;
 use statement::access::clause_at;
-
-// The items over the columns of a scope whose arrays are lent.
-fn list_items<'a>(
-    cells: &mut [u32],
-    parts: &[u32],
-    labels: &'a [u32],
-    width: u32,
-    tables: &'a [u32],
-    count: u32,
-    items: &mut [u32],
-) -> Result<u32, Refusal>
-    requires { (length cells.old ≡ table_size) × (length items.old ≡ most_columns) }
-    ensures { ItemsBuilt cells.old cells.new parts.now (take count tables.now)
-        (take width labels.now) items.new result }
-{
-    let names = first(tables, count as usize);
-    let columns = first(labels, width as usize);
-    build_items(cells, parts, names, columns, items)
-}
+use text::places::Texts;
 
 // WHERE behind FROM and the items, which are the first w of those listed, and all that follows.
-fn select_where<'t>(
-    catalog: &'t [u8],
-    statement: &'t [u8],
-    cells: &[u32],
+fn select_where(
+    exprs: &Expressions,
     parts: &[u32],
     listed: &[u32],
     w: u32,
     scope: Scope,
     area: &mut [u32],
-    n: u32,
     nodes: &mut [u32],
-    m: u32,
-    k: usize,
+    at: Step,
 ) -> Result<u32, Refusal>
-    requires { ItemsState catalog.now statement.now cells.now parts.now (take w listed.now) scope n m k area.old
+    requires { ItemsState exprs.now.texts.catalog.now exprs.now.texts.statement.now exprs.now.table.now parts.now (take w listed.now) scope at.cell at.node at.used area.old
         nodes.old }
-    ensures { (h : ItemsState catalog.now statement.now cells.now parts.now
-        (take w listed.now) scope n m k area.old nodes.old)
+    ensures { (h : ItemsState exprs.now.texts.catalog.now exprs.now.texts.statement.now exprs.now.table.now parts.now
+        (take w listed.now) scope at.cell at.node at.used area.old nodes.old)
         → Plans (select_where h.select h.stage
-        (map (item_of catalog.now statement.now cells.now parts.now)
+        (map (item_of exprs.now.texts.catalog.now exprs.now.texts.statement.now exprs.now.table.now parts.now)
         (take w listed.now)))
         area.old area.new result }
 {
     let clause = clause_at(parts, WHERE);
-    let filtered = build_where(
-        catalog,
-        statement,
-        cells,
-        clause,
-        &scope.labels,
-        &scope.matches,
-        scope.width,
-        &scope.tables,
-        scope.count,
-        area,
-        n,
-        nodes,
-        m,
-        k,
-    )?;
+    let filtered = build_where(exprs, clause, &scope.view(), area, nodes, at)?;
     let items = first(listed, w as usize);
-    select_groups(
-        catalog,
-        statement,
-        cells,
-        parts,
-        items,
-        scope,
-        area,
-        filtered.cell,
-        nodes,
-        filtered.node,
-        filtered.used,
-    )
+    select_groups(exprs, parts, items, scope, area, nodes, filtered)
 }
 
 // The items behind FROM, stars expanded, and all that follows.
-pub fn select_items<'t>(
-    catalog: &'t [u8],
-    statement: &'t [u8],
+pub fn select_items(
+    texts: &Texts,
     cells: &mut [u32],
     parts: &[u32],
     scope: Scope,
     area: &mut [u32],
-    n: u32,
     nodes: &mut [u32],
-    m: u32,
-    k: usize,
+    at: Step,
 ) -> Result<u32, Refusal>
-    requires { FromState catalog.now statement.now cells.old parts.now scope n m k area.old nodes.old }
-    ensures { (h : FromState catalog.now statement.now cells.old parts.now
-        scope n m k area.old nodes.old)
+    requires { FromState texts.now.catalog.now texts.now.statement.now cells.old parts.now scope at.cell at.node at.used area.old nodes.old }
+    ensures { (h : FromState texts.now.catalog.now texts.now.statement.now cells.old parts.now
+        scope at.cell at.node at.used area.old nodes.old)
         → Plans (select_items
-        (select_at catalog.now statement.now cells.old h.froms parts.now)
+        (select_at texts.now.catalog.now texts.now.statement.now cells.old h.froms parts.now)
         h.stage) area.old area.new result }
 {
     let mut items = [0u32; COLUMNS];
-    let listed = list_items(
-        cells,
-        parts,
-        &scope.labels,
-        scope.width,
-        &scope.tables,
-        scope.count,
-        &mut items,
-    )?;
+    let view = scope.view();
+    let listed = build_items(cells, parts, view.tables, view.labels, &mut items)?;
     select_where(
-        catalog, statement, cells, parts, &items, listed, scope, area, n, nodes, m, k,
+        &Expressions {
+            texts: *texts,
+            table: cells,
+        },
+        parts,
+        &items,
+        listed,
+        scope,
+        area,
+        nodes,
+        at,
     )
 }

@@ -4,75 +4,32 @@ ghost use Rattle.build_statement.specs.Plans.{Plans};
 ghost use Rattle.build_select.specs.States.{ProjectionState};
 
 use super::ends::select_offset;
+use ast::Expressions;
 use build_clauses::filters::build_having;
 use build_clauses::orders::build_order;
 use numbers::refusals::Refusal;
+use plan::steps::Step;
 use scope::Scope;
 use sections::entry::HAVING;
 use statement::access::clause_at;
 
 // HAVING behind the projection, then ORDER, and all that follows.
-pub fn select_later<'t>(
-    catalog: &'t [u8],
-    statement: &'t [u8],
-    cells: &[u32],
+pub fn select_later(
+    exprs: &Expressions,
     parts: &[u32],
     scope: Scope,
     area: &mut [u32],
-    n: u32,
     nodes: &mut [u32],
-    m: u32,
-    k: usize,
+    at: Step,
 ) -> Result<u32, Refusal>
-    requires { ProjectionState catalog.now statement.now cells.now parts.now scope n m k area.old nodes.old }
-    ensures { (h : ProjectionState catalog.now statement.now cells.now
-        parts.now scope n m k area.old nodes.old)
+    requires { ProjectionState exprs.now.texts.catalog.now exprs.now.texts.statement.now exprs.now.table.now parts.now scope at.cell at.node at.used area.old nodes.old }
+    ensures { (h : ProjectionState exprs.now.texts.catalog.now exprs.now.texts.statement.now exprs.now.table.now
+        parts.now scope at.cell at.node at.used area.old nodes.old)
         → Plans (select_having h.select h.stage) area.old area.new result }
 {
     let clause = clause_at(parts, HAVING);
-    let having = build_having(
-        catalog,
-        statement,
-        cells,
-        clause,
-        &scope.labels,
-        &scope.matches,
-        scope.width,
-        &scope.tables,
-        scope.count,
-        area,
-        n,
-        nodes,
-        m,
-        k,
-    )?;
-    let order = build_order(
-        catalog,
-        statement,
-        cells,
-        parts,
-        &scope.labels,
-        &scope.matches,
-        scope.width,
-        &scope.tables,
-        scope.count,
-        area,
-        having.cell,
-        nodes,
-        having.node,
-        having.used,
-    )?;
-    select_offset(
-        catalog,
-        statement,
-        cells,
-        parts,
-        scope.width,
-        scope.hidden,
-        area,
-        order.cell,
-        nodes,
-        order.node,
-        order.used,
-    )
+    let view = scope.view();
+    let having = build_having(exprs, clause, &view, area, nodes, at)?;
+    let order = build_order(exprs, parts, &view, area, nodes, having)?;
+    select_offset(exprs, parts, scope.width, scope.hidden, area, nodes, order)
 }

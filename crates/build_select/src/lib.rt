@@ -13,18 +13,20 @@ ghost use Rattle.rules.specs.BuildSelect.{build_select};
 ghost use Rattle.build_statement.specs.Plans.{Plans};
 ghost use Rattle.build_select.specs.Sources.{SelectReady};
 
+use ast::Expressions;
 use build_from::clause::build_from_clause;
 use items::select_items;
 use numbers::refusals::Refusal;
+use plan::steps::Step;
 use statement::access::from_rows;
+use text::places::Texts;
 
 // Numbers that are enough for the nodes of a SELECT over at most one table.
 pub const ONE_TABLE_SIZE: usize = 1702;
 
 // FROM, and all that follows.
-pub fn build_select<'t>(
-    catalog: &'t [u8],
-    statement: &'t [u8],
+pub fn build_select(
+    texts: &Texts,
     tables: &[u32],
     cells: &mut [u32],
     froms: &[u32],
@@ -32,25 +34,36 @@ pub fn build_select<'t>(
     area: &mut [u32],
     nodes: &mut [u32],
 ) -> Result<u32, Refusal>
-    requires { SelectReady catalog.now statement.now tables.now cells.old froms.now parts.now area.old
+    requires { SelectReady texts.now.catalog.now texts.now.statement.now tables.now cells.old froms.now parts.now area.old
         nodes.old }
     ensures { Plans
-        (build_select (catalog_at catalog.now statement.now tables.now)
-        (select_at catalog.now statement.now cells.old froms.now parts.now))
+        (build_select (catalog_at texts.now.catalog.now texts.now.statement.now tables.now)
+        (select_at texts.now.catalog.now texts.now.statement.now cells.old froms.now parts.now))
         area.old area.new result }
 {
     let rows = from_rows(parts);
-    let source = build_from_clause(catalog, statement, tables, cells, froms, rows, area, nodes)?;
+    let source = build_from_clause(
+        &Expressions {
+            texts: *texts,
+            table: cells,
+        },
+        tables,
+        froms,
+        rows,
+        area,
+        nodes,
+    )?;
     select_items(
-        catalog,
-        statement,
+        texts,
         cells,
         parts,
         source.scope,
         area,
-        source.cell,
         nodes,
-        source.node,
-        source.used,
+        Step {
+            cell: source.cell,
+            node: source.node,
+            used: source.used,
+        },
     )
 }

@@ -5,32 +5,26 @@ ghost use Rattle.statement.specs.EntryAccess.{clause_of};
 ghost use Rattle.plan.specs.Cells.{Room};
 ghost use Rattle.build_statement.specs.Clauses.{Filters};
 
+use ast::Expressions;
 use build_expression::build_expression;
 use numbers::refusals::Refusal;
+use scope::view::View;
 use statement::access::Clause;
 
 // Its cells are the plan's first ones. The next cell is also the number of its root: one more than it, or 0.
-pub fn build_where<'t, 'a>(
-    catalog: &'t [u8],
-    statement: &'t [u8],
-    cells: &[u32],
+pub fn build_where(
+    exprs: &Expressions,
     clause: Option<Clause>,
-    labels: &'a [u32],
-    matches: &'a [u16],
-    width: u32,
-    tables: &'a [u32],
-    count: u32,
+    scope: &View,
     area: &mut [u32],
 ) -> Result<u32, Refusal>
-    requires { Room 0 (3 * clause_size (clause_of catalog.now statement.now cells.now clause)) area.old }
-    ensures { Filters catalog.now statement.now cells.now
-        (take width labels.now) (take width matches.now) (take count tables.now)
+    requires { Room 0 (3 * clause_size (clause_of exprs.now.texts.catalog.now exprs.now.texts.statement.now exprs.now.table.now clause)) area.old }
+    ensures { Filters exprs.now.texts.catalog.now exprs.now.texts.statement.now exprs.now.table.now
+        scope.now.labels.now scope.now.matches.now scope.now.tables.now
         clause area.old area.new result }
 {
     match clause {
         None => Ok(0),
-        Some(clause) => build_expression(
-            catalog, statement, cells, clause.row, labels, matches, width, tables, count, area, 0,
-        ),
+        Some(clause) => build_expression(exprs, clause.row, scope, area, 0),
     }
 }

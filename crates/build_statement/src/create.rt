@@ -19,6 +19,7 @@ ghost use Rattle.build_statement.specs.Plans.{Plans};
 ghost use Rattle.build_statement.specs.Pushes.{Pushes};
 ghost use Rattle.build_statement.specs.Create as create;
 
+use ast::Expressions;
 use expression::Constant;
 use expression::constants::build_constant_value;
 use expression::planned::of_value;
@@ -29,8 +30,7 @@ use plan::{finish, own};
 use sections::entry;
 use sections::entry::Entry;
 use statement::access;
-use text::lengths::length_at;
-use text::places::Place;
+use text::places::{Place, Texts};
 use value;
 
 // The position of the first column from position k on that is given as primary key.
@@ -82,62 +82,55 @@ fn is_indexed(e: Entry) -> bool
 }
 
 // The name of the table that a column refers to.
-fn reference(catalog: &[u8], statement: &[u8], e: Entry) -> Option<Place>
-    ensures { result ≡ create.reference_of catalog.now statement.now e }
+fn reference(texts: &Texts, e: Entry) -> Option<Place>
+    ensures { result ≡ create.reference_of texts.now.catalog.now texts.now.statement.now e }
 {
     if e.extent == 0 {
         return None;
     }
     Some(Place {
         address: e.reference,
-        length: length_at(catalog, statement, e.reference, e.extent),
+        length: texts.length_at(Place {
+            address: e.reference,
+            length: e.extent,
+        }),
     })
 }
 
 // A column's default: the value of its expression; where there is none, a null if it may be null.
-fn default_of(
-    catalog: &[u8],
-    statement: &[u8],
-    cells: &[u32],
-    e: Entry,
-    nullable: bool,
-) -> Result<Option<Literal>, Refusal>
+fn default_of(exprs: &Expressions, e: Entry, nullable: bool) -> Result<Option<Literal>, Refusal>
     ensures { create.default_of result ≡ map_answer default_numbers
-        (default_value nullable (given_of catalog.now statement.now cells.now e)) }
+        (default_value nullable (given_of exprs.now.texts.catalog.now exprs.now.texts.statement.now exprs.now.table.now e)) }
 {
     if e.expressions == 0 {
         if nullable {
-            return Ok(Some(of_value(catalog, statement, value::Value::Null)));
+            return Ok(Some(of_value(&exprs.texts, value::Value::Null)));
         }
         return Ok(None);
     }
-    let constant = build_constant_value(catalog, statement, cells, entry::first_row(e))?;
+    let constant = build_constant_value(exprs, entry::first_row(e))?;
     match constant {
-        Constant::Literal(literal) => Ok(Some(in_plan(catalog, statement, literal))),
-        Constant::Value(v) => Ok(Some(of_value(catalog, statement, v))),
+        Constant::Literal(literal) => Ok(Some(in_plan(&exprs.texts, literal))),
+        Constant::Value(v) => Ok(Some(of_value(&exprs.texts, v))),
     }
 }
 
 // A column but for its default.
-fn put_column(
-    catalog: &[u8],
-    statement: &[u8],
-    e: Entry,
-    nullable: bool,
-    nodes: &mut [u32],
-    k: usize,
-) -> usize
+fn put_column(texts: &Texts, e: Entry, nullable: bool, nodes: &mut [u32], k: usize) -> usize
     requires { k + column_size ≤ length nodes.old }
     ensures { (d : Option Value) → Appended
-        (column_numbers (create.made_of catalog.now statement.now e nullable d))
+        (column_numbers (create.made_of texts.now.catalog.now texts.now.statement.now e nullable d))
         k nodes.old result nodes.new }
 {
     let a = access::name_start(e);
     let name = Place {
         address: a,
-        length: length_at(catalog, statement, a, e.length),
+        length: texts.length_at(Place {
+            address: a,
+            length: e.length,
+        }),
     };
-    let reference = reference(catalog, statement, e);
+    let reference = reference(texts, e);
     let code = access::type_code(e);
     let unique = is_unique(e);
     let index = is_indexed(e);
@@ -145,106 +138,89 @@ fn put_column(
 }
 
 // A column and its default.
-fn column(
-    catalog: &[u8],
-    statement: &[u8],
-    cells: &[u32],
-    e: Entry,
-    nodes: &mut [u32],
-    k: usize,
-) -> Result<usize, Refusal>
+fn column(exprs: &Expressions, e: Entry, nodes: &mut [u32], k: usize) -> Result<usize, Refusal>
     requires { k + column_size + cell_size ≤ length nodes.old }
     ensures { Pushes made_numbers
-        (made_column (create.column_of catalog.now statement.now cells.now e))
+        (made_column (create.column_of exprs.now.texts.catalog.now exprs.now.texts.statement.now exprs.now.table.now e))
         k nodes.old nodes.new result }
 {
     let nullable = is_nullable(e);
-    let default = default_of(catalog, statement, cells, e, nullable)?;
-    let j = put_column(catalog, statement, e, nullable, nodes, k);
+    let default = default_of(exprs, e, nullable)?;
+    let j = put_column(&exprs.texts, e, nullable, nodes, k);
     Ok(own::default_value(nodes, j, default))
 }
 
 // All columns.
 fn columns(
-    catalog: &[u8],
-    statement: &[u8],
-    cells: &[u32],
+    exprs: &Expressions,
     parts: &[u32],
     nodes: &mut [u32],
     k: usize,
 ) -> Result<usize, Refusal>
     requires { k + (column_size + cell_size) * length
-        (section_at catalog.now statement.now cells.now parts.now column_kind) ≤ length nodes.old }
+        (section_at exprs.now.texts.catalog.now exprs.now.texts.statement.now exprs.now.table.now parts.now column_kind) ≤ length nodes.old }
     ensures { Pushes create.columns_numbers
-        (each made_column (create.columns_at catalog.now statement.now cells.now parts.now))
+        (each made_column (create.columns_at exprs.now.texts.catalog.now exprs.now.texts.statement.now exprs.now.table.now parts.now))
         k nodes.old nodes.new result }
 {
     let count = entry::count(parts, entry::COLUMN);
     let mut j = k;
     for i in 0..count {
         let e = entry::entry_at(parts, entry::COLUMN, i);
-        j = column(catalog, statement, cells, e, nodes, j)?;
+        j = column(exprs, e, nodes, j)?;
     }
     Ok(j)
 }
 
 // The table's name, the key's position and how many columns there are, then the columns.
-fn table(
-    catalog: &[u8],
-    statement: &[u8],
-    cells: &[u32],
-    parts: &[u32],
-    key: u32,
-    nodes: &mut [u32],
-) -> Result<usize, Refusal>
+fn table(exprs: &Expressions, parts: &[u32], key: u32, nodes: &mut [u32]) -> Result<usize, Refusal>
     requires { own_head + (column_size + cell_size) * length
-        (section_at catalog.now statement.now cells.now parts.now column_kind) ≤ length nodes.old }
-    ensures { Pushes (create.table_numbers (name_word catalog.now statement.now cells.now [] parts.now) key)
-        (each made_column (create.columns_at catalog.now statement.now cells.now parts.now))
+        (section_at exprs.now.texts.catalog.now exprs.now.texts.statement.now exprs.now.table.now parts.now column_kind) ≤ length nodes.old }
+    ensures { Pushes (create.table_numbers (name_word exprs.now.texts.catalog.now exprs.now.texts.statement.now exprs.now.table.now [] parts.now) key)
+        (each made_column (create.columns_at exprs.now.texts.catalog.now exprs.now.texts.statement.now exprs.now.table.now parts.now))
         0 nodes.old nodes.new result }
 {
     let a = access::name_address(parts);
     let name = Place {
         address: a,
-        length: length_at(catalog, statement, a, access::name_length(parts)),
+        length: exprs.texts.length_at(Place {
+            address: a,
+            length: access::name_length(parts),
+        }),
     };
     let count = entry::count(parts, entry::COLUMN);
     let k = own::create(nodes, 0, name, key, count);
-    columns(catalog, statement, cells, parts, nodes, k)
+    columns(exprs, parts, nodes, k)
 }
 
 // The plan of a table with its one key.
 fn create_table(
-    catalog: &[u8],
-    statement: &[u8],
-    cells: &[u32],
+    exprs: &Expressions,
     parts: &[u32],
     key: u32,
     area: &mut [u32],
     nodes: &mut [u32],
 ) -> Result<u32, Refusal>
-    requires { create.CreateReady catalog.now statement.now cells.now parts.now area.old nodes.old }
+    requires { create.CreateReady exprs.now.texts.catalog.now exprs.now.texts.statement.now exprs.now.table.now parts.now area.old nodes.old }
     ensures { Plans
-        (create.with_key catalog.now statement.now cells.now parts.now key)
+        (create.with_key exprs.now.texts.catalog.now exprs.now.texts.statement.now exprs.now.table.now parts.now key)
         area.old area.new result }
 {
-    let end = table(catalog, statement, cells, parts, key, nodes)?;
+    let end = table(exprs, parts, key, nodes)?;
     finish::finish(area, nodes, finish::Kind::Create, 0, 0, 0, end);
     Ok(0)
 }
 
 // Refused at the statement's line without a primary key, and at the line of a second one.
 pub fn build_create_table(
-    catalog: &[u8],
-    statement: &[u8],
-    cells: &[u32],
+    exprs: &Expressions,
     parts: &[u32],
     area: &mut [u32],
     nodes: &mut [u32],
 ) -> Result<u32, Refusal>
-    requires { create.CreateReady catalog.now statement.now cells.now parts.now area.old nodes.old }
+    requires { create.CreateReady exprs.now.texts.catalog.now exprs.now.texts.statement.now exprs.now.table.now parts.now area.old nodes.old }
     ensures { Plans
-        (build_create (create.create_at catalog.now statement.now cells.now parts.now))
+        (build_create (create.create_at exprs.now.texts.catalog.now exprs.now.texts.statement.now exprs.now.table.now parts.now))
         area.old area.new result }
 {
     let Some(key) = key_column(parts, 0) else {
@@ -259,5 +235,5 @@ pub fn build_create_table(
             line: entry::entry_at(parts, entry::COLUMN, j).line,
         });
     }
-    create_table(catalog, statement, cells, parts, key, area, nodes)
+    create_table(exprs, parts, key, area, nodes)
 }

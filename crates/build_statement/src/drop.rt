@@ -10,27 +10,22 @@ ghost use Rattle.build_statement.specs.Kinds.{Free, name_of};
 use plan::finish::{Kind, finish};
 use plan::own;
 use statement::access;
-use text::lengths::length_at;
-use text::places::Place;
+use text::places::{Place, Texts};
 
-pub fn build_drop_table(
-    catalog: &[u8],
-    statement: &[u8],
-    parts: &[u32],
-    area: &mut [u32],
-    nodes: &mut [u32],
-)
+pub fn build_drop_table(texts: &Texts, parts: &[u32], area: &mut [u32], nodes: &mut [u32])
     requires { Free area.old nodes.old }
     ensures { Plans
-        (ok (plan.drop (name_of catalog.now statement.now parts.now)
+        (ok (plan.drop (name_of texts.now.catalog.now texts.now.statement.now parts.now)
         (is_one (drop_flag parts.now))))
         area.old area.new (Ok 0) }
 {
-    let a = access::name_address(parts);
-    let n = access::name_length(parts);
     let name = Place {
-        address: a,
-        length: length_at(catalog, statement, a, n),
+        address: access::name_address(parts),
+        length: access::name_length(parts),
+    };
+    let name = Place {
+        address: name.address,
+        length: texts.length_at(name),
     };
     let exists = access::if_exists(parts);
     let e = own::drop(nodes, 0, name, exists);

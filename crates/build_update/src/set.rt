@@ -8,16 +8,18 @@ ghost use Rattle.plan.specs.Cells.{Room};
 ghost use Rattle.plan.specs.Emits.{Emits};
 ghost use Rattle.build_update.specs.Sets.{default_step, Values};
 
+use ast::Expressions;
 use build_expression::build_expression;
 use numbers::refusals::{Reason, Refusal};
 use plan::cells::constant;
 use schema::default_at;
+use scope::view::View;
 use sections::entry::{Entry, first_row};
+use text::places::Texts;
 
 // The default of the j-th column of the i-th table; refused at a line where there is none.
 fn build_default(
-    catalog: &[u8],
-    statement: &[u8],
+    texts: &Texts,
     tables: &[u32],
     i: u32,
     j: u32,
@@ -28,44 +30,36 @@ fn build_default(
     requires { Room n 1 area.old }
     ensures { Emits
         (default_step n line
-        (default_at (table_at catalog.now statement.now tables.now i).columns j))
+        (default_at (table_at texts.now.catalog.now texts.now.statement.now tables.now i).columns j))
         n area.old area.new result }
 {
     let Some(default) = default_at(tables, i, j) else {
         return Err(Reason::NoDefault.at(line));
     };
-    constant(catalog, statement, area, n, default);
+    constant(texts, area, n, default);
     Ok(n + 1)
 }
 
 // The set of the entry e, of the j-th column of the i-th table, over a scope whose arrays are lent.
-pub fn build_set<'t, 'a>(
-    catalog: &'t [u8],
-    statement: &'t [u8],
+pub fn build_set(
+    exprs: &Expressions,
     tables: &[u32],
-    cells: &[u32],
     i: u32,
     j: u32,
     e: Entry,
-    labels: &'a [u32],
-    matches: &'a [u16],
-    width: u32,
-    names: &'a [u32],
-    count: u32,
+    scope: &View,
     area: &mut [u32],
     n: u32,
 ) -> Result<u32, Refusal>
-    requires { Room n (3 * option_size (given_of catalog.now statement.now cells.now e) + 1) area.old }
-    ensures { Values catalog.now statement.now cells.now
-        (take width labels.now) (take width matches.now) (take count names.now)
-        (table_at catalog.now statement.now tables.now i).columns
+    requires { Room n (3 * option_size (given_of exprs.now.texts.catalog.now exprs.now.texts.statement.now exprs.now.table.now e) + 1) area.old }
+    ensures { Values exprs.now.texts.catalog.now exprs.now.texts.statement.now exprs.now.table.now
+        scope.now.labels.now scope.now.matches.now scope.now.tables.now
+        (table_at exprs.now.texts.catalog.now exprs.now.texts.statement.now tables.now i).columns
         j e n area.old area.new result }
 {
     if e.expressions == 0 {
-        return build_default(catalog, statement, tables, i, j, e.line, area, n);
+        return build_default(&exprs.texts, tables, i, j, e.line, area, n);
     }
     let r = first_row(e);
-    build_expression(
-        catalog, statement, cells, r, labels, matches, width, names, count, area, n,
-    )
+    build_expression(exprs, r, scope, area, n)
 }

@@ -13,106 +13,77 @@ ghost use Rattle.build_update.specs.Writes.{Writes, set_of};
 ghost use Rattle.build_update.specs.SoFar.{sets_at};
 
 use crate::set::build_set;
+use ast::Expressions;
 use build_expression::position::position_of;
 use numbers::refusals::Refusal;
 use plan::own;
 use plan::steps::Part;
-use scope::lookup::lookup;
+use scope::view::View;
 use sections::entry;
 use sections::entry::Entry;
 use statement::access::name_start;
+use text::places::Place;
 
 // The set of the entry e in the i-th table: its column is looked up before its value is built.
-fn write_set<'t, 'a>(
-    catalog: &'t [u8],
-    statement: &'t [u8],
+fn write_set(
+    exprs: &Expressions,
     tables: &[u32],
-    cells: &[u32],
     i: u32,
     e: Entry,
-    labels: &'a [u32],
-    matches: &'a [u16],
-    width: u32,
-    names: &'a [u32],
-    count: u32,
+    scope: &View,
     area: &mut [u32],
-    n: u32,
     nodes: &mut [u32],
-    k: usize,
+    at: Part,
 ) -> Result<Part, Refusal>
-    requires room { Room n (3 * option_size (given_of catalog.now statement.now cells.now e) + 1) area.old }
-    requires set_size_in_bounds { k + set_size ≤ length nodes.old }
+    requires room { Room at.cell (3 * option_size (given_of exprs.now.texts.catalog.now exprs.now.texts.statement.now exprs.now.table.now e) + 1) area.old }
+    requires set_size_in_bounds { at.used + set_size ≤ length nodes.old }
     ensures { (h : ℕ) → Writes
         (emit_seconds (set_built
-        (scope_at catalog.now statement.now cells.now
-        (take width labels.now) (take width matches.now) (take count names.now) h)
-        (table_at catalog.now statement.now tables.now i).columns)
-        n (set_of catalog.now statement.now cells.now e ∷ []))
-        n k area.old area.new nodes.old nodes.new result }
+        (scope_at exprs.now.texts.catalog.now exprs.now.texts.statement.now exprs.now.table.now
+        scope.now.labels.now scope.now.matches.now scope.now.tables.now h)
+        (table_at exprs.now.texts.catalog.now exprs.now.texts.statement.now tables.now i).columns)
+        at.cell (set_of exprs.now.texts.catalog.now exprs.now.texts.statement.now exprs.now.table.now e ∷ []))
+        at.cell at.used area.old area.new nodes.old nodes.new result }
 {
-    let a = name_start(e);
-    let found = lookup(
-        catalog, statement, labels, matches, width, names, count, None, a, e.length,
-    );
+    let name = Place {
+        address: name_start(e),
+        length: e.length,
+    };
+    let found = scope.lookup(&exprs.texts, None, name);
     let j = position_of(found, e.line)?;
-    let cell = build_set(
-        catalog, statement, tables, cells, i, j, e, labels, matches, width, names, count, area, n,
-    )?;
-    let used = own::set(nodes, k, j, cell - 1);
+    let cell = build_set(exprs, tables, i, j, e, scope, area, at.cell)?;
+    let used = own::set(nodes, at.used, j, cell - 1);
     Ok(Part { cell, used })
 }
 
 // All sets, from the n-th cell and behind the k numbers of the nodes.
-pub fn write_sets<'t, 'a>(
-    catalog: &'t [u8],
-    statement: &'t [u8],
+pub fn write_sets(
+    exprs: &Expressions,
     tables: &[u32],
-    cells: &[u32],
     parts: &[u32],
     i: u32,
-    labels: &'a [u32],
-    matches: &'a [u16],
-    width: u32,
-    names: &'a [u32],
-    count: u32,
+    scope: &View,
     area: &mut [u32],
-    n: u32,
     nodes: &mut [u32],
-    k: usize,
+    at: Part,
 ) -> Result<Part, Refusal>
-    requires room { Room n
-        (3 * sets_size (sets_at catalog.now statement.now cells.now parts.now)
-        + length (sets_at catalog.now statement.now cells.now parts.now)) area.old }
-    requires parts_in_bounds { k + set_size * length (sets_at catalog.now statement.now cells.now parts.now) ≤ length nodes.old }
+    requires room { Room at.cell
+        (3 * sets_size (sets_at exprs.now.texts.catalog.now exprs.now.texts.statement.now exprs.now.table.now parts.now)
+        + length (sets_at exprs.now.texts.catalog.now exprs.now.texts.statement.now exprs.now.table.now parts.now)) area.old }
+    requires parts_in_bounds { at.used + set_size * length (sets_at exprs.now.texts.catalog.now exprs.now.texts.statement.now exprs.now.table.now parts.now) ≤ length nodes.old }
     ensures { (h : ℕ) → Writes
         (emit_seconds (set_built
-        (scope_at catalog.now statement.now cells.now
-        (take width labels.now) (take width matches.now) (take count names.now) h)
-        (table_at catalog.now statement.now tables.now i).columns)
-        n (sets_at catalog.now statement.now cells.now parts.now))
-        n k area.old area.new nodes.old nodes.new result }
+        (scope_at exprs.now.texts.catalog.now exprs.now.texts.statement.now exprs.now.table.now
+        scope.now.labels.now scope.now.matches.now scope.now.tables.now h)
+        (table_at exprs.now.texts.catalog.now exprs.now.texts.statement.now tables.now i).columns)
+        at.cell (sets_at exprs.now.texts.catalog.now exprs.now.texts.statement.now exprs.now.table.now parts.now))
+        at.cell at.used area.old area.new nodes.old nodes.new result }
 {
     let sets = entry::count(parts, entry::SET);
-    let mut written = Part { cell: n, used: k };
+    let mut written = at;
     for v in 0..sets {
         let e = entry::entry_at(parts, entry::SET, v);
-        written = write_set(
-            catalog,
-            statement,
-            tables,
-            cells,
-            i,
-            e,
-            labels,
-            matches,
-            width,
-            names,
-            count,
-            area,
-            written.cell,
-            nodes,
-            written.used,
-        )?;
+        written = write_set(exprs, tables, i, e, scope, area, nodes, written)?;
     }
     Ok(written)
 }

@@ -12,120 +12,94 @@ ghost use Rattle.build_update.specs.SoFar.{sets_at};
 ghost use Rattle.build_update.specs.Updates.{FewSets, UpdateEnds};
 
 use crate::sets::write_sets;
+use ast::Expressions;
 use build_statement::clause::build_where;
 use numbers::refusals::{Reason, Refusal};
 use plan::finish::{Kind, finish};
 use plan::nodes::scan;
 use plan::own;
+use plan::steps::Part;
 use schema::{get_table, key};
 use scope::Scope;
+use scope::view::View;
 use sections::entry;
 use statement::access;
-use text::lengths::length_at;
 use text::places::Place;
 
-// The plan behind the m cells of its filter, of the i-th table, which is named by the n bytes at a: the scan, the sets and
+// The plan behind the m cells of its filter, of the i-th table, which is named by the bytes at a place: the scan, the sets and
 // the end.
-fn end_update<'t, 'a>(
-    catalog: &'t [u8],
-    statement: &'t [u8],
+fn end_update(
+    exprs: &Expressions,
     tables: &[u32],
-    cells: &[u32],
     parts: &[u32],
     i: u32,
-    a: u32,
-    n: u32,
-    labels: &'a [u32],
-    matches: &'a [u16],
-    width: u32,
-    names: &'a [u32],
-    count: u32,
+    name: Place,
+    scope: &View,
     area: &mut [u32],
     nodes: &mut [u32],
     m: u32,
 ) -> Result<u32, Refusal>
     requires free { Free area.old nodes.old }
-    requires few_sets { FewSets m (sets_at catalog.now statement.now cells.now parts.now) }
+    requires few_sets { FewSets m (sets_at exprs.now.texts.catalog.now exprs.now.texts.statement.now exprs.now.table.now parts.now) }
     ensures { (h : ℕ) → UpdateEnds
         (emit_seconds (set_built
-        (scope_at catalog.now statement.now cells.now
-        (take width labels.now) (take width matches.now) (take count names.now) h)
-        (table_at catalog.now statement.now tables.now i).columns)
-        m (sets_at catalog.now statement.now cells.now parts.now))
-        (table_named catalog.now statement.now tables.now i a n)
+        (scope_at exprs.now.texts.catalog.now exprs.now.texts.statement.now exprs.now.table.now
+        scope.now.labels.now scope.now.matches.now scope.now.tables.now h)
+        (table_at exprs.now.texts.catalog.now exprs.now.texts.statement.now tables.now i).columns)
+        m (sets_at exprs.now.texts.catalog.now exprs.now.texts.statement.now exprs.now.table.now parts.now))
+        (table_named exprs.now.texts.catalog.now exprs.now.texts.statement.now tables.now i name.address name.length)
         m area.old area.new result }
 {
     let name = Place {
-        address: a,
-        length: length_at(catalog, statement, a, n),
+        address: name.address,
+        length: exprs.texts.length_at(name),
     };
     let k = scan(nodes, 0, name, None, m);
     let key = key(tables, i);
     let sets = entry::count(parts, entry::SET);
     let j = own::update(nodes, k, name, key, sets);
     let written = write_sets(
-        catalog, statement, tables, cells, parts, i, labels, matches, width, names, count, area, m,
-        nodes, j,
+        exprs,
+        tables,
+        parts,
+        i,
+        scope,
+        area,
+        nodes,
+        Part { cell: m, used: j },
     )?;
     finish(area, nodes, Kind::Update, written.cell, 1, k, written.used);
     Ok(written.cell)
 }
 
-pub fn build_update<'t>(
-    catalog: &'t [u8],
-    statement: &'t [u8],
+pub fn build_update(
+    exprs: &Expressions,
     tables: &[u32],
-    cells: &[u32],
     parts: &[u32],
     area: &mut [u32],
     nodes: &mut [u32],
 ) -> Result<u32, Refusal>
-    requires { ReadyFor catalog.now statement.now tables.now
-        (ast.update (update_at catalog.now statement.now cells.now parts.now)) area.old nodes.old }
+    requires { ReadyFor exprs.now.texts.catalog.now exprs.now.texts.statement.now tables.now
+        (ast.update (update_at exprs.now.texts.catalog.now exprs.now.texts.statement.now exprs.now.table.now parts.now)) area.old nodes.old }
     ensures { Plans
-        (build_update (catalog_at catalog.now statement.now tables.now)
-        (update_at catalog.now statement.now cells.now parts.now))
+        (build_update (catalog_at exprs.now.texts.catalog.now exprs.now.texts.statement.now tables.now)
+        (update_at exprs.now.texts.catalog.now exprs.now.texts.statement.now exprs.now.table.now parts.now))
         area.old area.new result }
 {
-    let a = access::name_address(parts);
-    let n = access::name_length(parts);
-    let found = get_table(catalog, statement, tables, a, n);
+    let name = Place {
+        address: access::name_address(parts),
+        length: access::name_length(parts),
+    };
+    let found = get_table(&exprs.texts, tables, name);
     let Some(i) = found else {
         return Err(Refusal {
             reason: Reason::UnknownTable,
             line: access::line(parts),
         });
     };
-    let scope = Scope::from_table(tables, i, a, n);
+    let scope = Scope::from_table(tables, i, name);
     let clause = access::clause_at(parts, entry::WHERE);
-    let m = build_where(
-        catalog,
-        statement,
-        cells,
-        clause,
-        &scope.labels,
-        &scope.matches,
-        scope.width,
-        &scope.tables,
-        scope.count,
-        area,
-    )?;
-    end_update(
-        catalog,
-        statement,
-        tables,
-        cells,
-        parts,
-        i,
-        a,
-        n,
-        &scope.labels,
-        &scope.matches,
-        scope.width,
-        &scope.tables,
-        scope.count,
-        area,
-        nodes,
-        m,
-    )
+    let view = scope.view();
+    let m = build_where(exprs, clause, &view, area)?;
+    end_update(exprs, tables, parts, i, name, &view, area, nodes, m)
 }

@@ -5,15 +5,16 @@ ghost use Rattle.rules.specs.Lists.{Bytes};
 ghost use Rattle.rules.specs.Refusals.{refuse_if, unknown_function, invalid_is};
 ghost use Rattle.rules.specs.Ast as rule;
 ghost use Rattle.rules.specs.BuildExpression.{is_null_or_nan, constant};
-ghost use Rattle.ast.specs.Table.{at, arguments_at, tree_by, tree_at};
+ghost use Rattle.ast.specs.Table.{at, arguments_at, tree_by};
+ghost use Rattle.ast.specs.Expressions.{tree_in};
 ghost use Rattle.numbers.specs.Values.{value_at};
 ghost use Rattle.ast.specs.Operands.{operands_at};
 ghost use Rattle.expression.specs.Answers.{constant_of};
 ghost use Rattle.expression.specs.Constants.{checked_of, check, check_all, is_root_call};
 
 use crate::{Constant, evaluate_constant};
-use ast::row::{Kind, kind_of};
-use ast::{row, rows};
+use ast::row::{Kind, kind_of, name};
+use ast::{Expressions, row, rows};
 use numbers::refusals::{Reason, Refusal};
 
 // `is` takes a null or a NaN.
@@ -27,75 +28,57 @@ fn check_is(table: &[u32], r: usize) -> Result<(), Refusal>
 }
 
 // The one function is `sqrt`, of one argument.
-fn check_call(catalog: &[u8], statement: &[u8], table: &[u32], r: usize) -> Result<(), Refusal>
-    ensures { checked_of result ≡ refuse_if (not (is_root_call catalog.now statement.now table.now r)) unknown_function (at table.now r 1) }
+fn check_call(exprs: &Expressions, r: usize) -> Result<(), Refusal>
+    ensures { checked_of result ≡ refuse_if (not (is_root_call exprs.now.texts.catalog.now exprs.now.texts.statement.now exprs.now.table.now r)) unknown_function (at exprs.now.table.now r 1) }
 {
-    let line = rows::at(table, r, 1);
-    if rows::at(table, r, 3) != 1 {
+    let line = rows::at(exprs.table, r, 1);
+    if rows::at(exprs.table, r, 3) != 1 {
         return Err(Reason::UnknownFunction.at(line));
     }
-    let a = rows::at(table, r, 4);
-    let n = rows::at(table, r, 5);
-    if text::places::holds_at(catalog, statement, a, n, b"sqrt") {
+    if exprs.texts.holds_at(name(exprs.table, r), b"sqrt") {
         return Ok(());
     }
     Err(Reason::UnknownFunction.at(line))
 }
 
 // A record, the first refusal of its operands given: an unknown function comes before that, an invalid `is` after it.
-fn check_record(
-    catalog: &[u8],
-    statement: &[u8],
-    table: &[u32],
-    r: usize,
-    operands: Result<(), Refusal>,
-) -> Result<(), Refusal>
-    ensures { (f : ℕ → rule.Expr) → checked_of operands ≡ check_all (arguments_at f table.now (operands_at table.now r) (suc r)) → checked_of result ≡ check (tree_by f catalog.now statement.now table.now r) }
+fn check_record(exprs: &Expressions, r: usize, operands: Result<(), Refusal>) -> Result<(), Refusal>
+    ensures { (f : ℕ → rule.Expr) → checked_of operands ≡ check_all (arguments_at f exprs.now.table.now (operands_at exprs.now.table.now r) (suc r)) → checked_of result ≡ check (tree_by f exprs.now.texts.catalog.now exprs.now.texts.statement.now exprs.now.table.now r) }
 {
-    let line = rows::at(table, r, 1);
-    match kind_of(table, r) {
+    let line = rows::at(exprs.table, r, 1);
+    match kind_of(exprs.table, r) {
         Kind::Column | Kind::Qualified => Err(Reason::ConstantOnly.at(line)),
-        Kind::Call => check_call(catalog, statement, table, r).and(operands),
+        Kind::Call => check_call(exprs, r).and(operands),
         Kind::Unary | Kind::Binary => operands,
-        Kind::Is => operands.and(check_is(table, r)),
+        Kind::Is => operands.and(check_is(exprs.table, r)),
         Kind::Literal => Ok(()),
         Kind::Star => Err(Reason::UnsupportedStar.at(line)),
     }
 }
 
 // The first refusal of building the tree at a row over the empty scope, its operands left to right.
-pub fn check_constant(
-    catalog: &[u8],
-    statement: &[u8],
-    table: &[u32],
-    r: usize,
-) -> Result<(), Refusal>
-    ensures { checked_of result ≡ check (tree_at catalog.now statement.now table.now r) }
+pub fn check_constant(exprs: &Expressions, r: usize) -> Result<(), Refusal>
+    ensures { checked_of result ≡ check (tree_in exprs.now r) }
 {
-    let count = rows::operands(table, r);
+    let count = rows::operands(exprs.table, r);
     if count == 0 {
-        return check_record(catalog, statement, table, r, Ok(()));
+        return check_record(exprs, r, Ok(()));
     }
     let mut p = r + 1;
     for _ in 0..count {
-        let operand = check_constant(catalog, statement, table, p);
+        let operand = check_constant(exprs, p);
         let Ok(()) = operand else {
-            return check_record(catalog, statement, table, r, operand);
+            return check_record(exprs, r, operand);
         };
-        p = rows::next(table, p);
+        p = rows::next(exprs.table, p);
     }
-    check_record(catalog, statement, table, r, Ok(()))
+    check_record(exprs, r, Ok(()))
 }
 
 // The value of the tree at a row, or its first refusal: of building before any of working out.
-pub fn build_constant_value(
-    catalog: &[u8],
-    statement: &[u8],
-    table: &[u32],
-    r: usize,
-) -> Result<Constant, Refusal>
-    ensures { constant_of catalog.now statement.now result ≡ constant (tree_at catalog.now statement.now table.now r) }
+pub fn build_constant_value(exprs: &Expressions, r: usize) -> Result<Constant, Refusal>
+    ensures { constant_of exprs.now.texts.catalog.now exprs.now.texts.statement.now result ≡ constant (tree_in exprs.now r) }
 {
-    check_constant(catalog, statement, table, r)?;
-    evaluate_constant(catalog, statement, table, r)
+    check_constant(exprs, r)?;
+    evaluate_constant(exprs, r)
 }

@@ -10,12 +10,13 @@ ghost use Rattle.rules.specs.Lists.{Bytes};
 ghost use Rattle.rules.specs.Ast as ast;
 ghost use Rattle.rules.specs.Evaluate.{evaluate};
 ghost use Rattle.value.specs.Values.{held};
-ghost use Rattle.ast.specs.Table.{rows_at, tree_by, tree_at};
+ghost use Rattle.ast.specs.Table.{rows_at, tree_by};
+ghost use Rattle.ast.specs.Expressions.{tree_in};
 ghost use Rattle.ast.specs.Operands.{kind_at, operands_at};
 ghost use Rattle.expression.specs.Answers.{map_answer, answer_of, Evaluates, constant_of};
 
 use ast::row::{Kind, kind_of};
-use ast::{row, rows};
+use ast::{Expressions, row, rows};
 use numbers::literals::Literal;
 use numbers::refusals::{Reason, Refusal};
 use value::{Value, arithmetic, literals};
@@ -59,50 +60,38 @@ fn first_operand(table: &[u32], r: usize, a: Value) -> Result<Value, Refusal>
 }
 
 // A binary operator whose operands have the values a and b.
-fn both_operands(
-    catalog: &[u8],
-    statement: &[u8],
-    table: &[u32],
-    r: usize,
-    a: Value,
-    b: Value,
-) -> Result<Value, Refusal>
-    requires { kind_at table.now r ≡ 6 }
-    ensures { (f : ℕ → ast.Expr) → Evaluates catalog.now statement.now (Ok a) (f (suc r)) → Evaluates catalog.now statement.now (Ok b) (f (suc r + rows_at table.now (suc r))) → Evaluates catalog.now statement.now result (tree_by f catalog.now statement.now table.now r) }
+fn both_operands(exprs: &Expressions, r: usize, a: Value, b: Value) -> Result<Value, Refusal>
+    requires { kind_at exprs.now.table.now r ≡ 6 }
+    ensures { (f : ℕ → ast.Expr) → Evaluates exprs.now.texts.catalog.now exprs.now.texts.statement.now (Ok a) (f (suc r)) → Evaluates exprs.now.texts.catalog.now exprs.now.texts.statement.now (Ok b) (f (suc r + rows_at exprs.now.table.now (suc r))) → Evaluates exprs.now.texts.catalog.now exprs.now.texts.statement.now result (tree_by f exprs.now.texts.catalog.now exprs.now.texts.statement.now exprs.now.table.now r) }
 {
-    let operator = row::binary_operator(table, r);
-    let w = value::operators::binary(catalog, statement, operator, a, b);
-    operators::worked_at(w, rows::at(table, r, 1))
+    let operator = row::binary_operator(exprs.table, r);
+    let w = value::operators::binary(&exprs.texts, operator, a, b);
+    operators::worked_at(w, rows::at(exprs.table, r, 1))
 }
 
 // The value of the tree at a row: both operands are worked out, the left one first.
-pub fn evaluate(catalog: &[u8], statement: &[u8], table: &[u32], r: usize) -> Result<Value, Refusal>
-    ensures { answer_of catalog.now statement.now result ≡ map_answer held (evaluate (tree_at catalog.now statement.now table.now r)) }
+pub fn evaluate(exprs: &Expressions, r: usize) -> Result<Value, Refusal>
+    ensures { answer_of exprs.now.texts.catalog.now exprs.now.texts.statement.now result ≡ map_answer held (evaluate (tree_in exprs.now r)) }
 {
-    if rows::operands(table, r) == 0 {
-        return leaf(table, r);
+    if rows::operands(exprs.table, r) == 0 {
+        return leaf(exprs.table, r);
     }
     let left = r + 1;
-    let right = rows::next(table, left);
-    let a = evaluate(catalog, statement, table, left)?;
-    if kind_of(table, r) != Kind::Binary {
-        return first_operand(table, r, a);
+    let right = rows::next(exprs.table, left);
+    let a = evaluate(exprs, left)?;
+    if kind_of(exprs.table, r) != Kind::Binary {
+        return first_operand(exprs.table, r, a);
     }
-    let b = evaluate(catalog, statement, table, right)?;
-    both_operands(catalog, statement, table, r, a, b)
+    let b = evaluate(exprs, right)?;
+    both_operands(exprs, r, a, b)
 }
 
 // The value of a constant: a bare literal keeps its bits, a NaN's too.
-pub fn evaluate_constant(
-    catalog: &[u8],
-    statement: &[u8],
-    table: &[u32],
-    r: usize,
-) -> Result<Constant, Refusal>
-    ensures { constant_of catalog.now statement.now result ≡ evaluate (tree_at catalog.now statement.now table.now r) }
+pub fn evaluate_constant(exprs: &Expressions, r: usize) -> Result<Constant, Refusal>
+    ensures { constant_of exprs.now.texts.catalog.now exprs.now.texts.statement.now result ≡ evaluate (tree_in exprs.now r) }
 {
-    if kind_of(table, r) == Kind::Literal {
-        return Ok(Constant::Literal(row::literal(table, r)));
+    if kind_of(exprs.table, r) == Kind::Literal {
+        return Ok(Constant::Literal(row::literal(exprs.table, r)));
     }
-    evaluate(catalog, statement, table, r).map(Constant::Value)
+    evaluate(exprs, r).map(Constant::Value)
 }

@@ -13,7 +13,7 @@ ghost use Rattle.expression.specs.Numbers.{natural_of};
 use crate::Constant;
 use numbers::halves::{high, low};
 use numbers::literals::{Literal, LiteralKind};
-use text::lengths::length_at;
+use text::places::{Place, Texts};
 use value::Value;
 
 #[tactic(auto, unfolding(crate::specs::Numbers::natural_of, rules::specs::BuildSelect::natural, value::specs::Values::value_of))]
@@ -51,8 +51,8 @@ fn halves(kind: LiteralKind, n: u64) -> Literal
 
 // A value that was worked out, as the literal that it is in the plan.
 #[tactic(auto, unfolding(numbers::specs::Literals::kind_number, rules::specs::Area::value_numbers, rules::specs::Area::flag, rules::specs::Area::span, rules::specs::Places::word_at, value::specs::Values::value_of))]
-pub fn of_value(catalog: &[u8], statement: &[u8], v: Value) -> Literal
-    ensures { literal_numbers result ≡ value_numbers (value_of catalog.now statement.now v) }
+pub fn of_value(texts: &Texts, v: Value) -> Literal
+    ensures { literal_numbers result ≡ value_numbers (value_of texts.now.catalog.now texts.now.statement.now v) }
 {
     match v {
         Value::Null => Literal {
@@ -70,7 +70,10 @@ pub fn of_value(catalog: &[u8], statement: &[u8], v: Value) -> Literal
         Value::Text(a, n) => Literal {
             kind: LiteralKind::Text,
             first: a,
-            second: length_at(catalog, statement, a, n),
+            second: texts.length_at(Place {
+                address: a,
+                length: n,
+            }),
         },
     }
 }

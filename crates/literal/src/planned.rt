@@ -4,11 +4,11 @@ ghost use Rattle.rules.specs.Area.{value_numbers};
 ghost use Rattle.numbers.specs.Literals.{literal_of, literal_value, literal_numbers};
 
 use numbers::literals::{Literal, LiteralKind};
-use text::lengths::length_at;
+use text::places::{Place, Texts};
 
 // By the kind and the numbers: of a struct's fields a proof does not know that they have 32 bits.
-fn cell(catalog: &[u8], statement: &[u8], kind: LiteralKind, first: u32, second: u32) -> Literal
-    ensures { literal_numbers result ≡ value_numbers (literal_of kind catalog.now statement.now first second) }
+fn cell(texts: &Texts, kind: LiteralKind, first: u32, second: u32) -> Literal
+    ensures { literal_numbers result ≡ value_numbers (literal_of kind texts.now.catalog.now texts.now.statement.now first second) }
 {
     match kind {
         LiteralKind::Null => Literal {
@@ -29,20 +29,17 @@ fn cell(catalog: &[u8], statement: &[u8], kind: LiteralKind, first: u32, second:
         LiteralKind::Text => Literal {
             kind,
             first,
-            second: length_at(catalog, statement, first, second),
+            second: texts.length_at(Place {
+                address: first,
+                length: second,
+            }),
         },
     }
 }
 
 // A literal with the numbers of its cell: a flag is 0 or 1, and a text has as many bytes as there are.
-pub fn in_plan(catalog: &[u8], statement: &[u8], literal: Literal) -> Literal
-    ensures { literal_numbers result ≡ value_numbers (literal_value catalog.now statement.now literal) }
+pub fn in_plan(texts: &Texts, literal: Literal) -> Literal
+    ensures { literal_numbers result ≡ value_numbers (literal_value texts.now.catalog.now texts.now.statement.now literal) }
 {
-    cell(
-        catalog,
-        statement,
-        literal.kind,
-        literal.first,
-        literal.second,
-    )
+    cell(texts, literal.kind, literal.first, literal.second)
 }

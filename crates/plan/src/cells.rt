@@ -15,6 +15,7 @@ use literal::planned::in_plan;
 use numbers::literals::{Literal, LiteralKind};
 use numbers::operators::{Binary, Unary};
 use numbers::put_four;
+use text::places::Texts;
 
 // The kinds of cells that are neither a literal's nor an operator's: docs/PLAN.md.
 const COLUMN: u32 = 6;
@@ -41,13 +42,13 @@ pub fn column(area: &mut [u32], n: u32, i: u32)
 }
 
 // A literal, its bits kept. Of a text, as many bytes as there are.
-pub fn constant(catalog: &[u8], statement: &[u8], area: &mut [u32], n: u32, literal: Literal)
+pub fn constant(texts: &Texts, area: &mut [u32], n: u32, literal: Literal)
     requires { Room n 1 area.old }
     ensures { Puts n
-        (rules.constant (literal_value catalog.now statement.now literal) ∷ [])
+        (rules.constant (literal_value texts.now.catalog.now texts.now.statement.now literal) ∷ [])
         area.old area.new }
 {
-    let x = in_plan(catalog, statement, literal);
+    let x = in_plan(texts, literal);
     put_cell(area, n, x.kind.number(), x.first, x.second, 0);
 }
 

@@ -9,6 +9,7 @@ ghost use Rattle.build_statement.specs.Plans.{Plans};
 ghost use Rattle.build_statement.specs.Kinds.{Free};
 ghost use Rattle.planner.specs.Kinds.{StatementReady, has_one_table};
 
+use ast::Expressions;
 use build_insert::insert::build_insert;
 use build_select::{ONE_TABLE_SIZE, build_select};
 use build_statement::create::build_create_table;
@@ -18,37 +19,29 @@ use build_update::update::build_update;
 use numbers::refusals::{Reason, Refusal};
 use plan::NODES_SIZE;
 use statement::access::{Kind, from_rows, kind_of, line};
+use text::places::Texts;
 
 // By its kind, with room for the nodes of any statement.
-fn build_kind<'t>(
-    catalog: &'t [u8],
-    statement: &'t [u8],
-    tables: &[u32],
-    cells: &mut [u32],
-    froms: &[u32],
-    parts: &[u32],
-    area: &mut [u32],
-    nodes: &mut [u32],
-) -> Result<u32, Refusal>
-    requires statement_ready { StatementReady catalog.now statement.now tables.now cells.old froms.now parts.now }
+fn build_kind(texts: &Texts, tables: &[u32], cells: &mut [u32], froms: &[u32], parts: &[u32], area: &mut [u32], nodes: &mut [u32]) -> Result<u32, Refusal>
+    requires statement_ready { StatementReady texts.now.catalog.now texts.now.statement.now tables.now cells.old froms.now parts.now }
     requires cells_len { length cells.old ≡ table_size }
     requires free { Free area.old nodes.old }
     ensures { Plans (build_statement
-        (catalog_at catalog.now statement.now tables.now)
-        (statement_at catalog.now statement.now cells.old froms.now parts.now))
+        (catalog_at texts.now.catalog.now texts.now.statement.now tables.now)
+        (statement_at texts.now.catalog.now texts.now.statement.now cells.old froms.now parts.now))
         area.old area.new result }
 {
     let kind = kind_of(parts);
     match kind {
-        Kind::Select => build_select(catalog, statement, tables, cells, froms, parts, area, nodes),
-        Kind::Create => build_create_table(catalog, statement, cells, parts, area, nodes),
+        Kind::Select => build_select(texts, tables, cells, froms, parts, area, nodes),
+        Kind::Create => build_create_table(&Expressions { texts: *texts, table: cells }, parts, area, nodes),
         Kind::Drop => {
-            build_drop_table(catalog, statement, parts, area, nodes);
+            build_drop_table(texts, parts, area, nodes);
             Ok(0)
         }
-        Kind::Delete => build_delete(catalog, statement, tables, cells, parts, area, nodes),
-        Kind::Insert => build_insert(catalog, statement, tables, cells, parts, area, nodes),
-        Kind::Update => build_update(catalog, statement, tables, cells, parts, area, nodes),
+        Kind::Delete => build_delete(&Expressions { texts: *texts, table: cells }, tables, parts, area, nodes),
+        Kind::Insert => build_insert(&Expressions { texts: *texts, table: cells }, tables, parts, area, nodes),
+        Kind::Update => build_update(&Expressions { texts: *texts, table: cells }, tables, parts, area, nodes),
         Kind::Other => Err(Refusal {
             reason: Reason::OtherStatement,
             line: line(parts),
@@ -73,30 +66,18 @@ fn has_one_table(parts: &[u32]) -> bool
 }
 
 // In as many numbers for its nodes as it may need: those of a SELECT over at most one table are few.
-pub fn build<'t>(
-    catalog: &'t [u8],
-    statement: &'t [u8],
-    tables: &[u32],
-    cells: &mut [u32],
-    froms: &[u32],
-    parts: &[u32],
-    area: &mut [u32],
-) -> Result<u32, Refusal>
-    requires statement_ready { StatementReady catalog.now statement.now tables.now cells.old froms.now parts.now }
+pub fn build(texts: &Texts, tables: &[u32], cells: &mut [u32], froms: &[u32], parts: &[u32], area: &mut [u32]) -> Result<u32, Refusal>
+    requires statement_ready { StatementReady texts.now.catalog.now texts.now.statement.now tables.now cells.old froms.now parts.now }
     requires cells_len { (length cells.old ≡ table_size) × (least_area ≤ length area.old) }
     ensures { Plans (build_statement
-        (catalog_at catalog.now statement.now tables.now)
-        (statement_at catalog.now statement.now cells.old froms.now parts.now))
+        (catalog_at texts.now.catalog.now texts.now.statement.now tables.now)
+        (statement_at texts.now.catalog.now texts.now.statement.now cells.old froms.now parts.now))
         area.old area.new result }
 {
     if has_one_table(parts) {
         let mut few = [0u32; ONE_TABLE_SIZE];
-        return build_select(
-            catalog, statement, tables, cells, froms, parts, area, &mut few,
-        );
+        return build_select(texts, tables, cells, froms, parts, area, &mut few);
     }
     let mut nodes = [0u32; NODES_SIZE];
-    build_kind(
-        catalog, statement, tables, cells, froms, parts, area, &mut nodes,
-    )
+    build_kind(texts, tables, cells, froms, parts, area, &mut nodes)
 }

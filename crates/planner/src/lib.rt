@@ -21,6 +21,7 @@ use reader::{Text, read_texts};
 use schema::NUMBERS;
 use schema::read::{SMALL_NUMBERS, numbers_for};
 use statement::{CELL_NUMBERS, FROM_NUMBERS, PART_NUMBERS};
+use text::places::Texts;
 
 // The least numbers of an area.
 pub const LEAST_AREA: usize = 16384;
@@ -49,23 +50,15 @@ fn refuse(area: &mut [u32], number: u32, text: u32, line: u32) -> Outcome
 }
 
 // The plan of a statement that was read.
-fn plan_read<'t>(
-    catalog: &'t [u8],
-    statement: &'t [u8],
-    tables: &[u32],
-    cells: &mut [u32; CELL_NUMBERS],
-    froms: &[u32; FROM_NUMBERS],
-    parts: &[u32; PART_NUMBERS],
-    area: &mut [u32],
-) -> Outcome
-    requires statement_ready { StatementReady catalog.now statement.now tables.now cells.old froms.now parts.now }
+fn plan_read(texts: &Texts, tables: &[u32], cells: &mut [u32; CELL_NUMBERS], froms: &[u32; FROM_NUMBERS], parts: &[u32; PART_NUMBERS], area: &mut [u32]) -> Outcome
+    requires statement_ready { StatementReady texts.now.catalog.now texts.now.statement.now tables.now cells.old froms.now parts.now }
     requires least_area_in_bounds { least_area ≤ length area.old }
     ensures { Answers (outcome area.old (build_statement
-        (catalog_at catalog.now statement.now tables.now)
-        (statement_at catalog.now statement.now cells.old froms.now parts.now)))
+        (catalog_at texts.now.catalog.now texts.now.statement.now tables.now)
+        (statement_at texts.now.catalog.now texts.now.statement.now cells.old froms.now parts.now)))
         result area.new }
 {
-    match build(catalog, statement, tables, cells, froms, parts, area) {
+    match build(texts, tables, cells, froms, parts, area) {
         Ok(n) => Outcome {
             number: 0,
             text: 0,
@@ -77,31 +70,31 @@ fn plan_read<'t>(
 }
 
 // Both texts read and planned; `tables` has enough numbers for the catalog.
-fn plan_with<'t>(
-    catalog: &'t [u8],
-    statement: &'t [u8],
-    tables: &mut [u32],
-    area: &mut [u32],
-) -> Outcome
-    requires catalog_in_bounds { numbers_for (length catalog.now) ≤ length tables.old }
+fn plan_with(texts: &Texts, tables: &mut [u32], area: &mut [u32]) -> Outcome
+    requires catalog_in_bounds { numbers_for (length texts.now.catalog.now) ≤ length tables.old }
     requires least_area_in_bounds { least_area ≤ length area.old }
-    ensures { Answers (outcome area.old (built_of catalog.now statement.now)) result
+    ensures { Answers (outcome area.old (built_of texts.now.catalog.now texts.now.statement.now)) result
         area.new }
 {
     let mut cells = [0u32; CELL_NUMBERS];
     let mut froms = [0u32; FROM_NUMBERS];
     let mut parts = [0u32; PART_NUMBERS];
-    let texts = read_texts(
-        catalog, statement, tables, &mut cells, &mut froms, &mut parts,
+    let read = read_texts(
+        texts.catalog,
+        texts.statement,
+        tables,
+        &mut cells,
+        &mut froms,
+        &mut parts,
     );
-    match texts {
+    match read {
         Err(w) => refuse(area, w.reason.number(), w.text.number(), w.line),
-        Ok(_) => plan_read(catalog, statement, tables, &mut cells, &froms, &parts, area),
+        Ok(_) => plan_read(texts, tables, &mut cells, &froms, &parts, area),
     }
 }
 
 // The plan of the statement over the catalog, in the area: whatever the texts are, and whatever the area holds.
-pub fn planner_plan<'t>(catalog: &'t [u8], statement: &'t [u8], area: &mut [u32]) -> Outcome
+pub fn planner_plan(catalog: &[u8], statement: &[u8], area: &mut [u32]) -> Outcome
     ensures { Answers (plan catalog.now statement.now area.old) result area.new }
 {
     if area.len() < LEAST_AREA {
@@ -112,12 +105,16 @@ pub fn planner_plan<'t>(catalog: &'t [u8], statement: &'t [u8], area: &mut [u32]
             count: 0,
         };
     }
+    let texts = Texts {
+        catalog: catalog,
+        statement: statement,
+    };
     if numbers_for(catalog.len()) <= SMALL_NUMBERS {
         let mut small = [0u32; SMALL_NUMBERS];
-        return plan_with(catalog, statement, &mut small, area);
+        return plan_with(&texts, &mut small, area);
     }
     let mut tables = [0u32; NUMBERS];
-    plan_with(catalog, statement, &mut tables, area)
+    plan_with(&texts, &mut tables, area)
 }
 
 // The number of the area's layout, which is the first of a plan's numbers.

@@ -14,6 +14,7 @@ ghost use Rattle.schema.specs.Search.{table_from, found_of, found_table, start_o
 
 use numbers::literals::{Literal, LiteralKind};
 use numbers::number;
+use text::places::{Place, Texts};
 
 // The most numbers that a catalog takes: how many tables, 32 tables of five numbers, 2,048 columns of eight.
 pub const NUMBERS: usize = 16545;
@@ -35,21 +36,18 @@ pub struct Name {
     pub length: u32,
 }
 
-// The position of the table of a name, which is the n bytes at an address.
-pub fn get_table(catalog: &[u8], statement: &[u8], tables: &[u32], a: u32, n: u32) -> Option<u32>
-    ensures { found_table catalog.now statement.now tables.now result ≡ table_from 0 (catalog_at catalog.now statement.now tables.now) (bytes_at catalog.now statement.now a n) }
+// The position of the table of the name at a place.
+pub fn get_table(texts: &Texts, tables: &[u32], name: Place) -> Option<u32>
+    ensures { found_table texts.now.catalog.now texts.now.statement.now tables.now result ≡ table_from 0 (catalog_at texts.now.catalog.now texts.now.statement.now tables.now) (bytes_at texts.now.catalog.now texts.now.statement.now name.address name.length) }
 {
     let count = number(tables, 0);
     for i in 0..count {
         let t = TABLES + TABLE_SIZE * (i as usize);
-        if text::places::same_bytes(
-            catalog,
-            statement,
-            number(tables, t),
-            number(tables, t + 1),
-            a,
-            n,
-        ) {
+        let own = Place {
+            address: number(tables, t),
+            length: number(tables, t + 1),
+        };
+        if texts.same_bytes(own, name) {
             return Some(i);
         }
     }
@@ -57,29 +55,19 @@ pub fn get_table(catalog: &[u8], statement: &[u8], tables: &[u32], a: u32, n: u3
 }
 
 // The position of the first column of a name in the i-th table.
-pub fn column_at(
-    catalog: &[u8],
-    statement: &[u8],
-    tables: &[u32],
-    i: u32,
-    a: u32,
-    n: u32,
-) -> Option<u32>
-    ensures { found_of result ≡ column_at 0 (table_at catalog.now statement.now tables.now i).columns (bytes_at catalog.now statement.now a n) }
+pub fn column_at(texts: &Texts, tables: &[u32], i: u32, name: Place) -> Option<u32>
+    ensures { found_of result ≡ column_at 0 (table_at texts.now.catalog.now texts.now.statement.now tables.now i).columns (bytes_at texts.now.catalog.now texts.now.statement.now name.address name.length) }
 {
     let t = TABLES + TABLE_SIZE * (i as usize);
     let first = number(tables, t + 3) as usize;
     let count = number(tables, t + 4);
     for j in 0..count {
         let k = COLUMNS + COLUMN_SIZE * (first + j as usize);
-        if text::places::same_bytes(
-            catalog,
-            statement,
-            number(tables, k),
-            number(tables, k + 1),
-            a,
-            n,
-        ) {
+        let own = Place {
+            address: number(tables, k),
+            length: number(tables, k + 1),
+        };
+        if texts.same_bytes(own, name) {
             return Some(j);
         }
     }

@@ -14,6 +14,7 @@ use numbers::literals::Literal;
 use numbers::number;
 use numbers::refusals::{Reason, Refusal};
 use text::Line;
+use text::places::{Place, Texts};
 
 // A column's record: its name, its type, 1 if it is nullable, and the position behind the line.
 #[derive(Clone, Copy)]
@@ -66,20 +67,21 @@ pub fn column_record(catalog: &[u8], at: usize, line: u32) -> Result<Option<Colu
     }))
 }
 
-// Whether one of the first n tables has the name that is the m bytes at an address.
-fn is_taken(catalog: &[u8], tables: &[u32], n: u32, a: u32, m: u32) -> bool
-    ensures { result ≡ any (same (bytes_at catalog.now catalog.now a m)) (names catalog.now tables.now n) }
+// Whether one of the first n tables has the name at a place.
+fn is_taken(catalog: &[u8], tables: &[u32], n: u32, name: Place) -> bool
+    ensures { result ≡ any (same (bytes_at catalog.now catalog.now name.address name.length)) (names catalog.now tables.now n) }
 {
+    let texts = Texts {
+        catalog: catalog,
+        statement: catalog,
+    };
     for i in (0..n as usize).rev() {
         let t = TABLES + TABLE_SIZE * i;
-        if text::places::same_bytes(
-            catalog,
-            catalog,
-            a,
-            m,
-            number(tables, t),
-            number(tables, t + 1),
-        ) {
+        let own = Place {
+            address: number(tables, t),
+            length: number(tables, t + 1),
+        };
+        if texts.same_bytes(name, own) {
             return true;
         }
     }
@@ -102,15 +104,17 @@ pub fn table_record(catalog: &[u8], tables: &[u32], n: u32, at: usize) -> Option
         return None;
     }
     let k = text::count(catalog, f.starts[2], f.lens[2])?;
-    let a = f.starts[1] as u32;
-    let m = f.lens[1] as u32;
-    if is_taken(catalog, tables, n, a, m) {
+    let name = Place {
+        address: f.starts[1] as u32,
+        length: f.lens[1] as u32,
+    };
+    if is_taken(catalog, tables, n, name) {
         return None;
     }
     Some(TableRecord {
         name: Name {
-            address: a,
-            length: m,
+            address: name.address,
+            length: name.length,
         },
         key: k as u32,
         next: f.next,

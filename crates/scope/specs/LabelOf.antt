@@ -1,10 +1,9 @@
 -- The label that an expression passes on: that of a column name which is found, else none.
 use Rattle.std.specs.Prelude.{ℕ, ◌≤◌, ◌<◌, ◌≡◌, refl, List, length, get_or, take, Result, Ok, Err}
 use Rattle.std.specs.Prelude as std
-use Rattle.std.proofs.Common.{arith, ◌∙◌, get_or-take}
+use Rattle.std.proofs.Common.{arith, ◌∙◌}
 use Rattle.std.proofs.Math.Path.{ap, sym}
 use Rattle.std.proofs.Math.Option.{Option, none, some}
-use Rattle.std.proofs.Math.ListN.{length-take}
 use Rattle.rules.specs.Lists.{Bytes}
 use Rattle.rules.specs.Lines.{Word}
 use Rattle.rules.specs.Places.{word_at}
@@ -22,7 +21,7 @@ use Rattle.ast.specs.declared.row.Kind.TheVariants as K
 use Rattle.scope.specs.Labels.{slot_of, packed, Fits, label_at, label-nameless, label-alias}
 use Rattle.scope.specs.Slots.{Below, below_at}
 use Rattle.scope.specs.Scopes.{scope_from}
-use Rattle.scope.specs.Lookup.{found_of, qualifier_of, Looked, found_below}
+use Rattle.scope.specs.Lookup.{found_of, qualifier_of, Looked}
 use Rattle.scope.specs.Project.{label-found}
 use Rattle.numbers.specs.declared.refusals.Reason.{Reason}
 use Rattle.text.specs.declared.places.Place.{Place}
@@ -96,17 +95,14 @@ unfolding item_label
 item-alias c q s ts x a n f l = sym (label-alias c q ts a n f l)
 
 -- WHAT WAS FOUND
-module _ {c q : Bytes} (n : ℕ) (ls : List ℕ) {ms ts : List ℕ} {o : Option Word} {w : Word} {r : Result ℕ Reason}
-    (k : Looked c q (take n ls) ms ts o w r) where
-  pub found_at : {i x : ℕ} → r ≡ Ok i → x ≡ get_or ls i 0 → LabelFound c q (take n ls) ms ts o w x
+module _ {c q : Bytes} {ls ms ts : List ℕ} {o : Option Word} {w : Word} {r : Result ℕ Reason} (k : Looked c q ls ms ts o w r) where
+  pub found_at : {i x : ℕ} → r ≡ Ok i → x ≡ get_or ls i 0 → LabelFound c q ls ms ts o w x
   unfolding found_number found_of
-  found_at {i} {x} e g =
-      let l : i < n = omega (arith, found_below i k e, length-take n ls) in
-      record { is = λ f h. g ∙ sym (get_or-take n ls i 0 l) ∙ sym (ap (found_number (take n ls)) (k.is f h ∙ ap found_of e)) }
+  found_at e g = record { is = λ f h. g ∙ sym (ap (found_number ls) (k.is f h ∙ ap found_of e)) }
 
-  pub found_none : {reason : Reason} → r ≡ Err reason → LabelFound c q (take n ls) ms ts o w 0
+  pub found_none : {reason : Reason} → r ≡ Err reason → LabelFound c q ls ms ts o w 0
   unfolding found_number found_of
-  found_none e = record { is = λ f h. sym (ap (found_number (take n ls)) (k.is f h ∙ ap found_of e)) }
+  found_none e = record { is = λ f h. sym (ap (found_number ls) (k.is f h ∙ ap found_of e)) }
 
 -- BY THE KIND OF A ROW
 module _ {c q : Bytes} {xs ms ts : List ℕ} (t : List ℕ) (r : ℕ) (k : Kind) (h : number_of k ≡ kind_at t r) where

@@ -5,7 +5,9 @@ use Rattle.std.proofs.Common.{add-one, ◌∙◌}
 use Rattle.std.specs.List.{position_from, position_or_len}
 use Rattle.std.proofs.lemmas.Iterator.Adapters.{position_from-zero}
 use Rattle.std.proofs.lemmas.Bool.{ne_eqb}
-use Rattle.std.specs.Prelude.{◌≡◌, refl, cond, ltb, Some, not, ◌&&◌, nat_eq, Bool, true, false, List, [], ◌∷◌, length}
+use Rattle.std.proofs.Math.Decide.{dec_lt}
+use borrow.Author.Tests.{lt-ltb, le-ltb}
+use Rattle.std.specs.Prelude.{◌≡◌, refl, cond, IfSome, ltb, Some, not, ◌&&◌, nat_eq, Bool, true, false, List, [], ◌∷◌, length}
 use Rattle.std.specs.Prelude as std
 use Rattle.std.proofs.Math.Path.{ap, sym}
 use Rattle.std.proofs.Math.Option.{Option, none, some}
@@ -38,11 +40,17 @@ match-position e x i (suc r ∷ ms) =
     go false h = h
 
 -- as `position` tells it
-pub match-first : (e : ℕ → Expr) (x : Expr) {ms ns : List ℕ} {r : std.Option ℕ} → ns ≡ ms
-    → r ≡ cond (ltb (position_or_len (is_match_of e x) ns) (length ns)) (Some (position_or_len (is_match_of e x) ns)) std.None
+pub match-first : (e : ℕ → Expr) (x : Expr) (ms : List ℕ) {r : std.Option ℕ}
+    → r ≡ cond (ltb (position_or_len (is_match_of e x) ms) (length ms)) (Some (position_or_len (is_match_of e x) ms)) std.None
     → option_of r ≡ match_at (matches_of e 0 ms) x
-match-first e x {ms} {ns} h g =
-    ap option_of (g ∙ position_from-zero (is_match_of e x) ns) ∙ rw (← h) (match-position e x 0 ns)
+match-first e x ms g = ap option_of (g ∙ position_from-zero (is_match_of e x) ms) ∙ match-position e x 0 ms
+
+-- below the number of matches
+pub position-below : (a n : ℕ) {r : std.Option ℕ} → r ≡ cond (ltb a n) (Some a) std.None → IfSome r (λ i. i < n)
+position-below a n e = elim (dec_lt a n) [
+  | yes y ↦ rw (e, lt-ltb a n y) y
+  | no y ↦ rw (e, le-ltb a n (omega (arith, y))) tt
+]
 
 -- what is matched in a scope
 pub matched-from : (e : ℕ → Expr) (c q : Bytes) (xs ms ts : List ℕ) (h : ℕ) (x : Expr)

@@ -37,11 +37,10 @@ module _ (s : rules.Scope) (f : Source) where
     unfolding merge_into merging_of reason_of refuse_if refuse ◌>>=◌
     merge-fits g = rw (merge_into, h, le-ltb most_columns (rules.width s + rules.width f.scope) g)
 
-module _ (c q : Bytes) {ts us ts' us' : List ℕ} {b : Bool} (et : ts' ≡ ts) (eu : us' ≡ us)
-    (e : b ≡ shares (tables_of c q ts') (tables_of c q us')) (n m : ℕ) where
+module _ (c q : Bytes) (ts us : List ℕ) {b : Bool} (e : b ≡ shares (tables_of c q ts) (tables_of c q us)) (n m : ℕ) where
   sharing-is : (s : rules.Scope) (f : Source) → s.tables ≡ tables_of c q ts → f.scope.tables ≡ tables_of c q us
       → shares s.tables f.scope.tables ≡ b
-  sharing-is s f x y = rw (x, y, ← et, ← eu) (sym e)
+  sharing-is s f x y = rw (x, y) (sym e)
 
   pub may-taken : b ≡ true → MayMerge c q ts n us m (Err Re.DuplicateTable)
   may-taken g = record { is = λ s f x v y w. merge-taken s f (sharing-is s f x y ∙ g) }

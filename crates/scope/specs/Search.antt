@@ -191,7 +191,7 @@ some-columns c q [] ts h = absurd (h refl)
 some-columns c q (x ∷ xs) ts h = refl
 
 module _ (c q : Bytes) (xs ms ts : List ℕ) (w : Word) where
-  looked-empty : (o : Option Word) → length xs ≡ 0 → Looked c q xs ms ts o w (Err Re.ConstantOnly)
+  pub looked-empty : (o : Option Word) → length xs ≡ 0 → Looked c q xs ms ts o w (Err Re.ConstantOnly)
   unfolding rules.lookup is_empty found_of reason_of scope_from
   looked-empty o h = record { is = λ e k. rw (rules.lookup, no-columns c q xs ts h) }
 
@@ -217,15 +217,6 @@ module _ (c q : Bytes) (xs ms ts : List ℕ) (w : Word) where
     looked-last {v} g j = record {
       is = λ e k. some-named (some v) e k ∙ rw (lookup_named, g) (j.is (scope_from e c q xs ms ts k) e refl);
     }
-
--- of labels, matches and tables that are xs, ms and ts
-module _ (c q : Bytes) {xs ms : List ℕ} (ts ys : List ℕ) (w : Word) (d : std.Option Place) (ex : ys ≡ xs) where
-  pub look-empty : length ys ≡ 0 → Looked c q xs ms ts (qualifier_of c q d) w (Err Re.ConstantOnly)
-  look-empty h = rw (← ex) (looked-empty c q ys ms ts w (qualifier_of c q d) h)
-
-  pub look-as : {us ns : List ℕ} {r : Result ℕ Reason} → ns ≡ ms → us ≡ ts → Looked c q ys ns us (qualifier_of c q d) w r
-      → Looked c q xs ms ts (qualifier_of c q d) w r
-  look-as en eu k = rw (← ex, ← en, ← eu) k
 
 -- under a qualifier
 module _ {c q : Bytes} {xs ms ts : List ℕ} {w : Word} {r : Result ℕ Reason} {d : std.Option Place} where

@@ -1,9 +1,9 @@
 -- The matches of a scope, none where no column is matched: the rules cannot tell the difference.
 use Prim.Native.Nat.{ℕ, zero, suc}
-use Rattle.std.proofs.Common.{arith, sym, ◌∙◌, length-take, take_all, lt-ltb}
+use Rattle.std.proofs.Common.{arith, sym, ◌∙◌, lt-ltb}
 use Rattle.std.proofs.lemmas.Bool.{ne_eqb}
 use Rattle.std.specs.List.{list_any}
-use Rattle.std.specs.Prelude.{◌≡◌, nat_eq, Bool, false, not, List, [], ◌∷◌, ltb, length, take}
+use Rattle.std.specs.Prelude.{◌≡◌, nat_eq, Bool, false, not, List, [], ◌∷◌, ltb, length}
 use Rattle.std.proofs.Math.Path.{refl}
 use Rattle.std.proofs.Math.Bool.{true}
 use Rattle.rules.specs.Lists.{Bytes, any, is_empty}
@@ -59,14 +59,6 @@ pub used-scope : (e : ℕ → Expr) (c q : Bytes) (xs ms ts : List ℕ) (h : ℕ
     → scope_from e c q xs (used_matches ms) ts h ≡ scope_from e c q xs ms ts h
 unfolding scope_from
 used-scope e c q xs ms ts h = rw (same-matches e ms)
-
-pub used-again : (n : ℕ) (ms : List ℕ) → take n (used_matches (take n ms)) ≡ used_matches (take n ms)
-unfolding used_matches
-used-again n ms = go (some_match (take n ms))
-  where
-    go : (b : Bool) → take {A = ℕ} n (elim b [ true ↦ take n ms | false ↦ [] ]) ≡ elim b [ true ↦ take n ms | false ↦ [] ]
-    go true = take_all n (take n ms) (omega (arith, length-take n ms))
-    go false = take_all n [] (omega arith)
 
 -- IN THE CODE
 pub some-match : (ms : List ℕ) → list_any (λ m. not (nat_eq m 0)) ms ≡ some_match ms

@@ -3,7 +3,7 @@ ghost use Rattle.std.specs.Prelude.{◌≡◌, ◌≤◌, min, length};
 ghost use Rattle.rules.specs.Limits.{most_bytes};
 ghost use Rattle.scope.specs.Endings.{ending_of, may_end};
 
-use super::labels::{address, size};
+use super::labels::place;
 use text::MOST_BYTES;
 
 // The last byte of a name that is sought. Only labels whose names end at `limit` or before, in the catalog, are held to it.
@@ -38,7 +38,8 @@ pub fn may_end(catalog: &[u8], ending: Ending, x: u32) -> bool
     requires { ending.limit ≤ length catalog.now }
     ensures { result ≡ may_end catalog.now ending x }
 {
-    let end = address(x) + size(x);
+    let name = place(x);
+    let end = name.address + name.length;
     if ending.limit < end || end == 0 {
         return true;
     }

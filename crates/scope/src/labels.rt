@@ -6,7 +6,7 @@ ghost use Rattle.rules.specs.Lines.{Word};
 ghost use Rattle.scope.specs.Labels.{packed, slot_count, slot_of, address_of, length_of, name_at};
 ghost use Rattle.scope.specs.Slots.{shifted};
 
-use text::places::holds_at;
+use text::places::{Place, Texts};
 
 // What one slot counts, and one address; how many addresses there are.
 const SLOT: u32 = 16777216;
@@ -16,11 +16,11 @@ const ADDRESS: u32 = 128;
 const ADDRESSES: u32 = 131072;
 
 // The label of a name in a slot.
-pub fn label(slot: u32, a: u32, n: u32) -> u32
+pub fn label(slot: u32, name: Place) -> u32
     requires { slot ≤ most_from_tables }
-    ensures { result ≡ packed slot a n }
+    ensures { result ≡ packed slot name.address name.length }
 {
-    slot * SLOT + a.min(ADDRESSES - 1) * ADDRESS + n.min(ADDRESS - 1)
+    slot * SLOT + name.address.min(ADDRESSES - 1) * ADDRESS + name.length.min(ADDRESS - 1)
 }
 
 // The slot of its table, 0 for none.
@@ -30,17 +30,15 @@ pub fn slot(x: u32) -> u32
     x / SLOT
 }
 
-// The address and the length of the name.
-pub fn address(x: u32) -> u32
-    ensures { result ≡ address_of x }
+// The place of the name.
+pub fn place(x: u32) -> Place
+    ensures address { result.address ≡ address_of x }
+    ensures length { result.length ≡ length_of x }
 {
-    x / ADDRESS % ADDRESSES
-}
-
-pub fn size(x: u32) -> u32
-    ensures { result ≡ length_of x }
-{
-    x % ADDRESS
+    Place {
+        address: x / ADDRESS % ADDRESSES,
+        length: x % ADDRESS,
+    }
 }
 
 // A label behind t tables more.
@@ -55,9 +53,9 @@ pub fn behind(x: u32, t: u32) -> u32
 }
 
 // Whether the name of a label or a table has these bytes.
-pub fn has_name(catalog: &[u8], statement: &[u8], x: u32, name: &[u8]) -> bool
+pub fn has_name(texts: &Texts, x: u32, name: &[u8]) -> bool
     ensures { (w : Word) → w.bytes ≡ name.now
-        → result ≡ same_name (name_at catalog.now statement.now x) w }
+        → result ≡ same_name (name_at texts.now.catalog.now texts.now.statement.now x) w }
 {
-    holds_at(catalog, statement, address(x), size(x), name)
+    texts.holds_at(place(x), name)
 }

@@ -6,9 +6,11 @@ pub mod expressions;
 pub mod hidden;
 pub mod labels;
 pub mod lookup;
+pub mod matched;
 pub mod matches;
 pub mod merging;
 pub mod retain;
+pub mod view;
 
 ghost use Rattle.std.specs.Prelude.{◌≡◌, ◌+◌, ◌≤◌, ◌++◌, length, take, drop};
 ghost use Rattle.scope.specs.AddAggregates.{Aggregable, AggregatesAdded};
@@ -20,10 +22,13 @@ ghost use Rattle.scope.specs.New.{New};
 ghost use Rattle.scope.specs.Project.{Projectable, Projected};
 ghost use Rattle.scope.specs.Swap.{Swappable, Swapped};
 
+use ast::Expressions;
 use expressions::label_of;
 use labels::{behind, label};
 use matches::{match_number, new_match, pass_match};
 use schema::{column_count, column_name};
+use text::places::Place;
+use view::{View, first};
 
 // The most columns of a scope, and the most tables.
 pub const COLUMNS: usize = 256;
@@ -74,17 +79,21 @@ impl Scope {
     }
 
     // The columns of the catalog's i-th table, under a name.
-    pub fn from_table(catalog: &[u32], i: u32, a: u32, n: u32) -> Scope
-        ensures { FromTable catalog.now i a n result }
+    pub fn from_table(catalog: &[u32], i: u32, name: Place) -> Scope
+        ensures { FromTable catalog.now i name.address name.length result }
     {
         let count = column_count(catalog, i);
         let width = count.min(COLUMNS as u32);
         let mut labels = [0u32; COLUMNS];
         let mut tables = [0u32; TABLES];
-        tables[0] = label(0, a, n);
+        tables[0] = label(0, name);
         for j in 0..width {
-            let name = column_name(catalog, i, j);
-            labels[j as usize] = label(1, name.address, name.length);
+            let column = column_name(catalog, i, j);
+            let place = Place {
+                address: column.address,
+                length: column.length,
+            };
+            labels[j as usize] = label(1, place);
         }
         Scope {
             labels: labels,
@@ -98,32 +107,17 @@ impl Scope {
 
     // A child scope of at most 256 groups and aggregates, by the rows of their expressions: each is matched to its row,
     // and has the label that it passes on.
-    pub fn add_aggregates<'t>(
-        self,
-        catalog: &'t [u8],
-        statement: &'t [u8],
-        table: &[u32],
-        rows: &[usize],
-    ) -> Scope
-        requires { Aggregable self table.now rows.now }
-        ensures { AggregatesAdded catalog.now statement.now table.now self
+    pub fn add_aggregates(self, exprs: &Expressions, rows: &[usize]) -> Scope
+        requires { Aggregable self exprs.now.table.now rows.now }
+        ensures { AggregatesAdded exprs.now.texts.catalog.now exprs.now.texts.statement.now exprs.now.table.now self
             rows.now result }
     {
+        let view = self.view();
         let mut labels = [0u32; COLUMNS];
         let mut matches = [0u16; COLUMNS];
         for j in 0..rows.len() {
             let r = rows[j];
-            labels[j] = label_of(
-                catalog,
-                statement,
-                table,
-                &self.labels,
-                &self.matches,
-                self.width,
-                &self.tables,
-                self.count,
-                r,
-            );
+            labels[j] = label_of(exprs, &view, r);
             matches[j] = match_number(r);
         }
         Scope {
@@ -133,6 +127,19 @@ impl Scope {
             width: rows.len() as u32,
             count: self.count,
             hidden: 0,
+        }
+    }
+
+    // What of it is in use.
+    pub fn view(&self) -> View<'_>
+        ensures labels { result.labels.now ≡ take self.now.width self.now.labels }
+        ensures matches { result.matches.now ≡ take self.now.width self.now.matches }
+        ensures tables { result.tables.now ≡ take self.now.count self.now.tables }
+    {
+        View {
+            labels: first(&self.labels, self.width as usize),
+            matches: first(&self.matches, self.width as usize),
+            tables: first(&self.tables, self.count as usize),
         }
     }
 
@@ -174,28 +181,14 @@ impl Scope {
     }
 
     // A projection over groups and aggregates: its columns by their labels, the first of equal items matched to its row.
-    pub fn project_items(
-        mut self,
-        catalog: &[u8],
-        statement: &[u8],
-        table: &[u32],
-        labels: &[u32],
-        rows: &[usize],
-    ) -> Scope
-        requires { ItemsFit catalog.now statement.now table.now self labels.now rows.now }
-        ensures { ItemsProjected catalog.now statement.now table.now self
+    pub fn project_items(mut self, exprs: &Expressions, labels: &[u32], rows: &[usize]) -> Scope
+        requires { ItemsFit exprs.now.texts.catalog.now exprs.now.texts.statement.now exprs.now.table.now self labels.now rows.now }
+        ensures { ItemsProjected exprs.now.texts.catalog.now exprs.now.texts.statement.now exprs.now.table.now self
             labels.now rows.now result }
     {
         overwrite(&mut self.labels, 0, labels);
         for j in 0..rows.len() {
-            self.matches[j] = new_match(
-                catalog,
-                statement,
-                table,
-                &self.matches,
-                j as u32,
-                rows[j],
-            );
+            self.matches[j] = new_match(exprs, &self.matches, j as u32, rows[j]);
         }
         self.width = rows.len() as u32;
         self.hidden = 0;
@@ -203,19 +196,12 @@ impl Scope {
     }
 
     // A column of the scope that was projected, with its label x and its match m, passed on behind the others and hidden.
-    pub fn add_hidden(
-        mut self,
-        catalog: &[u8],
-        statement: &[u8],
-        table: &[u32],
-        x: u32,
-        m: u16,
-    ) -> Scope
-        requires { HiddenFits self table.now x }
-        ensures { HiddenAdded catalog.now statement.now table.now self x m result }
+    pub fn add_hidden(mut self, exprs: &Expressions, x: u32, m: u16) -> Scope
+        requires { HiddenFits self exprs.now.table.now x }
+        ensures { HiddenAdded exprs.now.texts.catalog.now exprs.now.texts.statement.now exprs.now.table.now self x m result }
     {
         let w = self.width as usize;
-        let passed = pass_match(catalog, statement, table, &self.matches, self.width, m);
+        let passed = pass_match(exprs, &self.matches, self.width, m);
         self.labels[w] = x;
         self.matches[w] = passed;
         self.width += 1;

@@ -1,33 +1,33 @@
 // The columns that hold a whole expression: groups, aggregates, items (planner.rs, Scope::lookup_aggregate).
-ghost use Rattle.std.specs.Prelude.{◌≡◌, take};
+ghost use Rattle.std.specs.Prelude.{◌≡◌, ◌<◌, IfSome, length, take};
 ghost use Rattle.rules.specs.Scope.{match_at};
-ghost use Rattle.ast.specs.Table.{tree_at};
+ghost use Rattle.ast.specs.Expressions.{tree_in};
 ghost use Rattle.scope.specs.Scopes.{matches_of};
 ghost use Rattle.numbers.specs.Options.{option_of};
 ghost use Rattle.scope.specs.NewMatch.{match_number, new_match, pass_match};
 
-use super::lookup::first;
+use super::view::{View, first};
+use ast::Expressions;
 use ast::equality::equal;
 
-// The first column whose match is equal to the expression at row r, in a scope whose matches are lent. Where the rows
-// are of two kinds, `equal` goes no further.
-pub fn lookup_aggregate(
-    catalog: &[u8],
-    statement: &[u8],
-    table: &[u32],
-    matches: &[u16],
-    width: u32,
-    r: usize,
-) -> Option<u32>
-    ensures { option_of result ≡ match_at
-        (matches_of (tree_at catalog.now statement.now table.now) 0
-        (take width matches.now))
-        (tree_at catalog.now statement.now table.now r) }
+// The first match that is equal to the expression at row r. Where the rows are of two kinds, `equal` goes no further.
+fn matched(exprs: &Expressions, matches: &[u16], r: usize) -> Option<usize>
+    ensures value { option_of result ≡ match_at (matches_of (tree_in exprs.now) 0 matches.now) (tree_in exprs.now r) }
+    ensures below { IfSome result (λ i. i < length matches.now) }
 {
-    let ms = first(matches, width as usize);
-    let i = ms.iter().position(|m| *m != 0
-        && equal(catalog, statement, table, *m as usize - 1, r))?;
-    Some(i as u32)
+    matches
+        .iter()
+        .position(|m| *m != 0 && equal(exprs, *m as usize - 1, r))
+}
+
+impl View<'_> {
+    // The first column whose match is equal to the expression at row r.
+    pub fn lookup_aggregate(&self, exprs: &Expressions, r: usize) -> Option<u32>
+        ensures { option_of result ≡ match_at (matches_of (tree_in exprs.now) 0 self.now.matches.now) (tree_in exprs.now r) }
+    {
+        let i = matched(exprs, self.matches, r)?;
+        Some(i as u32)
+    }
 }
 
 // The last row that a match has room for.
@@ -41,18 +41,11 @@ pub fn match_number(r: usize) -> u16
 }
 
 // What is matched to a column behind the first n: row r, or nothing where an equal expression is matched before.
-pub fn new_match(
-    catalog: &[u8],
-    statement: &[u8],
-    table: &[u32],
-    matches: &[u16],
-    n: u32,
-    r: usize,
-) -> u16
-    ensures { result ≡ new_match (tree_at catalog.now statement.now table.now)
+pub fn new_match(exprs: &Expressions, matches: &[u16], n: u32, r: usize) -> u16
+    ensures { result ≡ new_match (tree_in exprs.now)
         (take n matches.now) r }
 {
-    match lookup_aggregate(catalog, statement, table, matches, n, r) {
+    match matched(exprs, first(matches, n as usize), r) {
         Some(_) => 0,
         None => match_number(r),
     }
@@ -60,19 +53,12 @@ pub fn new_match(
 
 // What is matched to a column that is passed on behind the first n: its match, or nothing where an equal expression is
 // matched before.
-pub fn pass_match(
-    catalog: &[u8],
-    statement: &[u8],
-    table: &[u32],
-    matches: &[u16],
-    n: u32,
-    m: u16,
-) -> u16
-    ensures { result ≡ pass_match (tree_at catalog.now statement.now table.now)
+pub fn pass_match(exprs: &Expressions, matches: &[u16], n: u32, m: u16) -> u16
+    ensures { result ≡ pass_match (tree_in exprs.now)
         (take n matches.now) m }
 {
     if m == 0 {
         return 0;
     }
-    new_match(catalog, statement, table, matches, n, m as usize - 1)
+    new_match(exprs, matches, n, m as usize - 1)
 }

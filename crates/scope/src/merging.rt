@@ -1,5 +1,5 @@
 // Whether two scopes may be merged.
-ghost use Rattle.std.specs.Prelude.{◌≡◌, take};
+ghost use Rattle.std.specs.Prelude.{◌≡◌, length};
 ghost use Rattle.rules.specs.Equality.{same_name};
 ghost use Rattle.rules.specs.Lists.{any};
 ghost use Rattle.rules.specs.Places.{word_at};
@@ -8,55 +8,42 @@ ghost use Rattle.scope.specs.Labels.{tables_of};
 ghost use Rattle.scope.specs.Merging.{MayMerge};
 
 use super::COLUMNS;
-use super::labels::{address, size};
-use super::lookup::{first, has_table};
+use super::labels::place;
+use super::lookup::has_table;
+use super::view::View;
 use numbers::refusals::Reason;
-use text::{MOST_BYTES, part};
+use text::places::{Place, Texts};
 
 // Whether one of the tables has the name at a place.
-fn has_table_at(catalog: &[u8], statement: &[u8], tables: &[u32], a: u32, n: u32) -> bool
+fn has_table_at(texts: &Texts, tables: &[u32], name: Place) -> bool
     ensures { result ≡ any
-        (same_name (word_at catalog.now statement.now a n))
-        (tables_of catalog.now statement.now tables.now) }
+        (same_name (word_at texts.now.catalog.now texts.now.statement.now name.address name.length))
+        (tables_of texts.now.catalog.now texts.now.statement.now tables.now) }
 {
-    if a < MOST_BYTES {
-        let name = part(catalog, a as usize, n as usize);
-        return has_table(catalog, statement, tables, name);
-    }
-    let b = a - MOST_BYTES;
-    let name = part(statement, b as usize, n as usize);
-    has_table(catalog, statement, tables, name)
+    has_table(texts, tables, texts.bytes_at(name))
 }
 
 // Whether a table name is held by both.
-fn shares_name(catalog: &[u8], statement: &[u8], tables: &[u32], others: &[u32]) -> bool
+fn shares_name(texts: &Texts, tables: &[u32], others: &[u32]) -> bool
     ensures { result ≡ shares
-        (tables_of catalog.now statement.now tables.now)
-        (tables_of catalog.now statement.now others.now) }
+        (tables_of texts.now.catalog.now texts.now.statement.now tables.now)
+        (tables_of texts.now.catalog.now texts.now.statement.now others.now) }
 {
-    others.iter().any(|y| has_table_at(catalog, statement, tables, address(*y), size(*y)))
+    others
+        .iter()
+        .any(|y| has_table_at(texts, tables, place(*y)))
 }
 
 // Of a scope with these tables and this width, and another whose columns would come behind its own.
-pub fn may_merge(
-    catalog: &[u8],
-    statement: &[u8],
-    tables: &[u32],
-    count: u32,
-    width: u32,
-    other_tables: &[u32],
-    other_count: u32,
-    other_width: u32,
-) -> Result<(), Reason>
-    ensures { MayMerge catalog.now statement.now
-        (take count tables.now) width (take other_count other_tables.now) other_width result }
+pub fn may_merge(texts: &Texts, scope: &View, other: &View) -> Result<(), Reason>
+    ensures { MayMerge texts.now.catalog.now texts.now.statement.now
+        scope.now.tables.now (length scope.now.labels.now) other.now.tables.now
+        (length other.now.labels.now) result }
 {
-    let ts = first(tables, count as usize);
-    let us = first(other_tables, other_count as usize);
-    if shares_name(catalog, statement, ts, us) {
+    if shares_name(texts, scope.tables, other.tables) {
         return Err(Reason::DuplicateTable);
     }
-    if COLUMNS < width as usize + other_width as usize {
+    if COLUMNS < scope.labels.len() + other.labels.len() {
         return Err(Reason::LimitPassed);
     }
     Ok(())

@@ -15,7 +15,6 @@ ghost use Rattle.text.specs.Order.{order_of};
 
 use std::cmp::Ordering;
 
-pub mod lengths;
 pub mod places; // places.rt: places in both texts
 pub mod words; // words.rt: keywords as numbers
 
@@ -121,7 +120,6 @@ fn any_fields(t: &[u8], at: usize) -> Line
     }
 }
 
-// A line of at most four fields, by their starts and lengths.
 fn few(s: [usize; 4], l: [usize; 4], count: usize, next: usize) -> Line
     ensures { result ≡ few_fields s l count next }
 {

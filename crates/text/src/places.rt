@@ -1,6 +1,6 @@
-// Places in both texts: an address and a length. The catalog's bytes have the addresses from 0 on, the statement's those from
-// 65,536 on.
-ghost use Rattle.std.specs.Prelude.{◌≡◌, ◌+◌, ◌≤◌};
+// Both texts, and places in them: an address and a length. The catalog's bytes have the addresses from 0 on, the statement's
+// those from 65,536 on.
+ghost use Rattle.std.specs.Prelude.{◌≡◌, ◌+◌, ◌≤◌, length};
 ghost use Rattle.rules.specs.Limits.{most_bytes};
 ghost use Rattle.rules.specs.Lists.{same};
 ghost use Rattle.rules.specs.Places.{bytes_at};
@@ -16,6 +16,12 @@ pub struct Place {
     pub length: u32,
 }
 
+#[derive(Clone, Copy)]
+pub struct Texts<'t> {
+    pub catalog: &'t [u8],
+    pub statement: &'t [u8],
+}
+
 // The address of a position in the statement.
 pub fn address(a: usize) -> u32
     requires { a ≤ 65536 }
@@ -24,39 +30,43 @@ pub fn address(a: usize) -> u32
     MOST_BYTES + a as u32
 }
 
-// The n bytes at an address, or as many of them as there are.
-pub fn bytes_at<'a>(catalog: &'a [u8], statement: &'a [u8], a: u32, n: u32) -> &'a [u8]
-    ensures { result.now ≡ bytes_at catalog.now statement.now a n }
-{
-    if a < MOST_BYTES {
-        return part(catalog, a as usize, n as usize);
+impl<'t> Texts<'t> {
+    // The bytes at a place, or as many of them as there are.
+    pub fn bytes_at(&self, place: Place) -> &'t [u8]
+        ensures { result.now ≡ bytes_at self.now.catalog.now self.now.statement.now place.address place.length }
+    {
+        let n = place.length as usize;
+        if place.address < MOST_BYTES {
+            return part(self.catalog, place.address as usize, n);
+        }
+        part(self.statement, (place.address - MOST_BYTES) as usize, n)
     }
-    part(statement, (a - MOST_BYTES) as usize, n as usize)
-}
 
-// Whether the n bytes at an address, or as many of them as there are, are x.
-pub fn holds_at(catalog: &[u8], statement: &[u8], a: u32, n: u32, x: &[u8]) -> bool
-    ensures { result ≡ same (bytes_at catalog.now statement.now a n) x.now }
-{
-    equal(bytes_at(catalog, statement, a, n), x)
-}
+    // How many of its bytes there are.
+    pub fn length_at(&self, place: Place) -> u32
+        ensures { result ≡ length (bytes_at self.now.catalog.now self.now.statement.now place.address place.length) }
+    {
+        self.bytes_at(place).len() as u32
+    }
 
-// Whether the bytes at two places, or as many of them as there are, are the same.
-pub fn same_bytes(catalog: &[u8], statement: &[u8], a: u32, n: u32, b: u32, m: u32) -> bool
-    ensures { result ≡ same (bytes_at catalog.now statement.now a n) (bytes_at catalog.now statement.now b m) }
-{
-    equal(
-        bytes_at(catalog, statement, a, n),
-        bytes_at(catalog, statement, b, m),
-    )
-}
+    // Whether they are x.
+    pub fn holds_at(&self, place: Place, x: &[u8]) -> bool
+        ensures { result ≡ same (bytes_at self.now.catalog.now self.now.statement.now place.address place.length) x.now }
+    {
+        equal(self.bytes_at(place), x)
+    }
 
-// The order of the bytes at two places.
-pub fn order_texts(catalog: &[u8], statement: &[u8], a: u32, n: u32, b: u32, m: u32) -> Ordering
-    ensures { result ≡ order_of (bytes_at catalog.now statement.now a n) (bytes_at catalog.now statement.now b m) }
-{
-    compare(
-        bytes_at(catalog, statement, a, n),
-        bytes_at(catalog, statement, b, m),
-    )
+    // Whether those at two places are the same.
+    pub fn same_bytes(&self, a: Place, b: Place) -> bool
+        ensures { result ≡ same (bytes_at self.now.catalog.now self.now.statement.now a.address a.length) (bytes_at self.now.catalog.now self.now.statement.now b.address b.length) }
+    {
+        equal(self.bytes_at(a), self.bytes_at(b))
+    }
+
+    // The order of those at two places.
+    pub fn order_texts(&self, a: Place, b: Place) -> Ordering
+        ensures { result ≡ order_of (bytes_at self.now.catalog.now self.now.statement.now a.address a.length) (bytes_at self.now.catalog.now self.now.statement.now b.address b.length) }
+    {
+        compare(self.bytes_at(a), self.bytes_at(b))
+    }
 }

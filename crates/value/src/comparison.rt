@@ -15,6 +15,7 @@ use crate::Value;
 use numbers::refusals::Reason;
 use std::cmp::Ordering;
 use std::num::nearest_i64_to_f64;
+use text::places::{Place, Texts};
 
 // How two values compare: their order, which a NaN has with no float; unknown where one is a null; or not at all.
 // An enum, as the rules have it: a Result of two Options is no plainer.
@@ -25,8 +26,8 @@ pub enum Compared {
     Incomparable,
 }
 
-pub fn compare(catalog: &[u8], statement: &[u8], a: Value, b: Value) -> Compared
-    ensures { compared_of result ≡ order.compare (value_of catalog.now statement.now a) (value_of catalog.now statement.now b) }
+pub fn compare(texts: &Texts, a: Value, b: Value) -> Compared
+    ensures { compared_of result ≡ order.compare (value_of texts.now.catalog.now texts.now.statement.now a) (value_of texts.now.catalog.now texts.now.statement.now b) }
 {
     match (a, b) {
         (Value::Null, _) | (_, Value::Null) => Compared::Unknown,
@@ -42,8 +43,15 @@ pub fn compare(catalog: &[u8], statement: &[u8], a: Value, b: Value) -> Compared
         }
         (Value::Float(x), Value::Float(y)) => Compared::Ordered(x.partial_cmp(&y)),
         (Value::Text(s, n), Value::Text(t, m)) => {
-            let o = text::places::order_texts(catalog, statement, s, n, t, m);
-            Compared::Ordered(Some(o))
+            let x = Place {
+                address: s,
+                length: n,
+            };
+            let y = Place {
+                address: t,
+                length: m,
+            };
+            Compared::Ordered(Some(texts.order_texts(x, y)))
         }
         _ => Compared::Incomparable,
     }
@@ -61,58 +69,40 @@ fn holds<F: FnOnce(Option<Ordering>) -> bool>(k: Compared, test: F) -> Result<Va
     }
 }
 
-pub fn eq(catalog: &[u8], statement: &[u8], a: Value, b: Value) -> Result<Value, Reason>
-    ensures { worked_of catalog.now statement.now result ≡ binary_of (ast.plain ast.eq) (value_of catalog.now statement.now a) (value_of catalog.now statement.now b) }
+pub fn eq(texts: &Texts, a: Value, b: Value) -> Result<Value, Reason>
+    ensures { worked_of texts.now.catalog.now texts.now.statement.now result ≡ binary_of (ast.plain ast.eq) (value_of texts.now.catalog.now texts.now.statement.now a) (value_of texts.now.catalog.now texts.now.statement.now b) }
 {
-    holds(
-        compare(catalog, statement, a, b),
-        |o| o == Some(Ordering::Equal),
-    )
+    holds(compare(texts, a, b), |o| o == Some(Ordering::Equal))
 }
 
-pub fn gt(catalog: &[u8], statement: &[u8], a: Value, b: Value) -> Result<Value, Reason>
-    ensures { worked_of catalog.now statement.now result ≡ binary_of (ast.plain ast.gt) (value_of catalog.now statement.now a) (value_of catalog.now statement.now b) }
+pub fn gt(texts: &Texts, a: Value, b: Value) -> Result<Value, Reason>
+    ensures { worked_of texts.now.catalog.now texts.now.statement.now result ≡ binary_of (ast.plain ast.gt) (value_of texts.now.catalog.now texts.now.statement.now a) (value_of texts.now.catalog.now texts.now.statement.now b) }
 {
-    holds(
-        compare(catalog, statement, a, b),
-        |o| o == Some(Ordering::Greater),
-    )
+    holds(compare(texts, a, b), |o| o == Some(Ordering::Greater))
 }
 
-pub fn lt(catalog: &[u8], statement: &[u8], a: Value, b: Value) -> Result<Value, Reason>
-    ensures { worked_of catalog.now statement.now result ≡ binary_of (ast.plain ast.lt) (value_of catalog.now statement.now a) (value_of catalog.now statement.now b) }
+pub fn lt(texts: &Texts, a: Value, b: Value) -> Result<Value, Reason>
+    ensures { worked_of texts.now.catalog.now texts.now.statement.now result ≡ binary_of (ast.plain ast.lt) (value_of texts.now.catalog.now texts.now.statement.now a) (value_of texts.now.catalog.now texts.now.statement.now b) }
 {
-    holds(
-        compare(catalog, statement, a, b),
-        |o| o == Some(Ordering::Less),
-    )
+    holds(compare(texts, a, b), |o| o == Some(Ordering::Less))
 }
 
-pub fn ge(catalog: &[u8], statement: &[u8], a: Value, b: Value) -> Result<Value, Reason>
-    ensures { worked_of catalog.now statement.now result ≡ binary_of ast.ge (value_of catalog.now statement.now a) (value_of catalog.now statement.now b) }
+pub fn ge(texts: &Texts, a: Value, b: Value) -> Result<Value, Reason>
+    ensures { worked_of texts.now.catalog.now texts.now.statement.now result ≡ binary_of ast.ge (value_of texts.now.catalog.now texts.now.statement.now a) (value_of texts.now.catalog.now texts.now.statement.now b) }
 {
-    holds(
-        compare(catalog, statement, a, b),
-        |o| o.is_some_and(Ordering::is_ge),
-    )
+    holds(compare(texts, a, b), |o| o.is_some_and(Ordering::is_ge))
 }
 
-pub fn le(catalog: &[u8], statement: &[u8], a: Value, b: Value) -> Result<Value, Reason>
-    ensures { worked_of catalog.now statement.now result ≡ binary_of ast.le (value_of catalog.now statement.now a) (value_of catalog.now statement.now b) }
+pub fn le(texts: &Texts, a: Value, b: Value) -> Result<Value, Reason>
+    ensures { worked_of texts.now.catalog.now texts.now.statement.now result ≡ binary_of ast.le (value_of texts.now.catalog.now texts.now.statement.now a) (value_of texts.now.catalog.now texts.now.statement.now b) }
 {
-    holds(
-        compare(catalog, statement, a, b),
-        |o| o.is_some_and(Ordering::is_le),
-    )
+    holds(compare(texts, a, b), |o| o.is_some_and(Ordering::is_le))
 }
 
-pub fn ne(catalog: &[u8], statement: &[u8], a: Value, b: Value) -> Result<Value, Reason>
-    ensures { worked_of catalog.now statement.now result ≡ binary_of ast.ne (value_of catalog.now statement.now a) (value_of catalog.now statement.now b) }
+pub fn ne(texts: &Texts, a: Value, b: Value) -> Result<Value, Reason>
+    ensures { worked_of texts.now.catalog.now texts.now.statement.now result ≡ binary_of ast.ne (value_of texts.now.catalog.now texts.now.statement.now a) (value_of texts.now.catalog.now texts.now.statement.now b) }
 {
-    holds(
-        compare(catalog, statement, a, b),
-        |o| o != Some(Ordering::Equal),
-    )
+    holds(compare(texts, a, b), |o| o != Some(Ordering::Equal))
 }
 
 pub fn is_null(a: Value) -> Result<Value, Reason>

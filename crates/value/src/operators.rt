@@ -8,6 +8,7 @@ ghost use Rattle.value.specs.Values.{value_of, worked_of};
 use crate::{Value, arithmetic, comparison, logic};
 use numbers::operators::{Binary, Unary};
 use numbers::refusals::Reason;
+use text::places::Texts;
 
 #[tactic(auto, unfolding(numbers::specs::Operators::unary_operator))]
 pub fn unary(operator: Unary, a: Value) -> Result<Value, Reason>
@@ -24,21 +25,15 @@ pub fn unary(operator: Unary, a: Value) -> Result<Value, Reason>
 
 // Each operand is worked out once, before: `>=`, `<=` and `!=` are one comparison.
 #[tactic(auto, unfolding(numbers::specs::Operators::binary_operator, rules::specs::Operators::binary_of))]
-pub fn binary(
-    catalog: &[u8],
-    statement: &[u8],
-    operator: Binary,
-    a: Value,
-    b: Value,
-) -> Result<Value, Reason>
-    ensures { worked_of catalog.now statement.now result ≡ binary_of (binary_operator operator) (value_of catalog.now statement.now a) (value_of catalog.now statement.now b) }
+pub fn binary(texts: &Texts, operator: Binary, a: Value, b: Value) -> Result<Value, Reason>
+    ensures { worked_of texts.now.catalog.now texts.now.statement.now result ≡ binary_of (binary_operator operator) (value_of texts.now.catalog.now texts.now.statement.now a) (value_of texts.now.catalog.now texts.now.statement.now b) }
 {
     match operator {
         Binary::And => logic::and(a, b),
         Binary::Or => logic::or(a, b),
-        Binary::Equal => comparison::eq(catalog, statement, a, b),
-        Binary::GreaterThan => comparison::gt(catalog, statement, a, b),
-        Binary::LessThan => comparison::lt(catalog, statement, a, b),
+        Binary::Equal => comparison::eq(texts, a, b),
+        Binary::GreaterThan => comparison::gt(texts, a, b),
+        Binary::LessThan => comparison::lt(texts, a, b),
         Binary::Add => arithmetic::add(a, b),
         Binary::Divide => arithmetic::div(a, b),
         Binary::Exponentiate => arithmetic::pow(a, b),
@@ -46,8 +41,8 @@ pub fn binary(
         Binary::Remainder => arithmetic::rem(a, b),
         Binary::Subtract => arithmetic::sub(a, b),
         Binary::Like => logic::like(a, b),
-        Binary::GreaterThanOrEqual => comparison::ge(catalog, statement, a, b),
-        Binary::LessThanOrEqual => comparison::le(catalog, statement, a, b),
-        Binary::NotEqual => comparison::ne(catalog, statement, a, b),
+        Binary::GreaterThanOrEqual => comparison::ge(texts, a, b),
+        Binary::LessThanOrEqual => comparison::le(texts, a, b),
+        Binary::NotEqual => comparison::ne(texts, a, b),
     }
 }

@@ -13,6 +13,7 @@ use numbers::halves::{high, low};
 use numbers::literals::{Literal, LiteralKind};
 use numbers::operators::{Binary, Unary};
 use numbers::refusals::Reason;
+use text::places::Texts;
 use value::{Value, comparison, literals, operators};
 
 // The number of a text's kind.
@@ -100,13 +101,13 @@ fn unary(op: u32, a: Value) -> Result<Value, Reason>
     operators::unary(operator, a)
 }
 
-fn binary(catalog: &[u8], statement: &[u8], op: u32, a: Value, b: Value) -> Result<Value, Reason>
-    ensures { worked_of catalog.now statement.now result ≡ binary_worked op (value_of catalog.now statement.now a) (value_of catalog.now statement.now b) }
+fn binary(texts: &Texts, op: u32, a: Value, b: Value) -> Result<Value, Reason>
+    ensures { worked_of texts.now.catalog.now texts.now.statement.now result ≡ binary_worked op (value_of texts.now.catalog.now texts.now.statement.now a) (value_of texts.now.catalog.now texts.now.statement.now b) }
 {
     let Some(operator) = Binary::of_code(op) else {
         return Err(Reason::NotWorkedOut);
     };
-    operators::binary(catalog, statement, operator, a, b)
+    operators::binary(texts, operator, a, b)
 }
 
 #[unsafe(no_mangle)]
@@ -118,20 +119,16 @@ pub extern "C" fn value_unary(op: u32, kind: u32, n: u64) -> Answer
 
 // Kind k and bits m with kind l and bits n. Texts stand in the catalog's and the statement's bytes.
 #[unsafe(no_mangle)]
-pub extern "C" fn value_binary(
-    catalog: &[u8],
-    statement: &[u8],
-    op: u32,
-    k: u32,
-    m: u64,
-    l: u32,
-    n: u64,
-) -> Answer
+pub extern "C" fn value_binary(catalog: &[u8], statement: &[u8], op: u32, k: u32, m: u64, l: u32, n: u64) -> Answer
     ensures { result ≡ answer_of (binary_worked op (value_by catalog.now statement.now k m) (value_by catalog.now statement.now l n)) }
 {
     let a = value_at(k, m);
     let b = value_at(l, n);
-    answered(binary(catalog, statement, op, a, b))
+    let texts = Texts {
+        catalog: catalog,
+        statement: statement,
+    };
+    answered(binary(&texts, op, a, b))
 }
 
 #[unsafe(no_mangle)]

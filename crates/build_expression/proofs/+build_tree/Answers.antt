@@ -10,7 +10,7 @@ use Rattle.build_expression.specs.Operands.{second-some, both-room, binary-built
 use Rattle.build_expression.proofs.+build_tree.Goals as goal
 
 pub begin-requires : goal.begin-requires
-begin-requires t c = leaf_room (tree_at c.args.catalog.now c.args.statement.now c.args.table.now
+begin-requires t c = leaf_room (tree_at c.args.exprs.now.texts.catalog.now c.args.exprs.now.texts.statement.now c.args.exprs.now.table.now
     c.args.r) _ _ c.requires
 
 pub overflow_add-left : goal.overflow_add-left

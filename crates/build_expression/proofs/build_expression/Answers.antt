@@ -3,5 +3,4 @@ use Rattle.build_expression.specs.Builds.{used-builds}
 use Rattle.build_expression.proofs.build_expression.Goals as goal
 
 pub returns : goal.returns
-returns c = used-builds c.args.width c.args.matches.now c.used_matches-used.ensures
-    c.build_tree.ensures
+returns c = used-builds _ c.used.ensures.matches (rw (c.used.ensures.labels, c.used.ensures.tables) at c.build_tree.ensures)

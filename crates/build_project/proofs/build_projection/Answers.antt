@@ -17,20 +17,20 @@ pub slice_bounds-labels-end : goal.slice_bounds-labels-end
 slice_bounds-labels-end c = omega (arith, c.requires.items-ready.few)
 
 pub slice_bounds-end_projection-end : goal.slice_bounds-end_projection-end
-slice_bounds-end_projection-end c = labels_length c.args.catalog.now c.args.statement.now c.args.cells.now c.args.parts.now c.args.scope c.args.items.now c.in_ok-part.ensures.labelled.is
+slice_bounds-end_projection-end c = labels_length c.args.exprs.now.texts.catalog.now c.args.exprs.now.texts.statement.now c.args.exprs.now.table.now c.args.parts.now c.args.scope c.args.items.now (rw (c.view.ensures.labels, c.view.ensures.matches, c.view.ensures.tables) at c.in_ok-part.ensures.labelled.is)
 
 pub end_projection-requires : goal.end_projection-requires
 end_projection-requires c = record {
   end_ready = end-ready c.requires (opened-project c.begin-j.ensures) (λ a b. sym c.if-is_lone.false ∙ c.is_lone.ensures a b)
-      c.in_ok-part.ensures.items_put c.put_items.auto.area;
-  labels_value = c.in_ok-part.ensures.labelled.is;
+      (rw (c.view.ensures.labels, c.view.ensures.matches, c.view.ensures.tables) at c.in_ok-part.ensures.items_put) c.put_items.auto.area;
+  labels_value = (rw (c.view.ensures.labels, c.view.ensures.matches, c.view.ensures.tables) at c.in_ok-part.ensures.labelled.is);
 }
 
 pub returns-in_err-part : goal.returns-in_err-part
 returns-in_err-part c = let p = err_from_is_err_and c.from_residual.result c.from_residual.ensures.1 in rw (p.1, p.2)
     (stage-refused c.requires (opened-project c.begin-j.ensures) (λ a b. sym c.if-is_lone.false ∙ c.is_lone.ensures a b)
-    c.in_err-part.ensures.items_put c.put_items.auto.area c.put_items.auto.nodes)
+    (rw (c.view.ensures.labels, c.view.ensures.matches, c.view.ensures.tables) at c.in_err-part.ensures.items_put) c.put_items.auto.area c.put_items.auto.nodes)
 
 pub returns : goal.returns
 returns c = stage-ended c.requires (opened-project c.begin-j.ensures) (λ a b. sym c.if-is_lone.false ∙ c.is_lone.ensures a b)
-    c.in_ok-part.ensures.items_put c.put_items.auto.area _ c.end_projection.ensures
+    (rw (c.view.ensures.labels, c.view.ensures.matches, c.view.ensures.tables) at c.in_ok-part.ensures.items_put) c.put_items.auto.area _ c.end_projection.ensures

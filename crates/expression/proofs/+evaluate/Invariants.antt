@@ -4,4 +4,4 @@ use lib.ListN.{length}
 use Rattle.expression.proofs.+evaluate.Given as goal
 
 abbrev pub decreases-evaluate : goal.decreases-evaluate
-decreases-evaluate l = length l.table.now - l.r
+decreases-evaluate l = length l.exprs.now.table.now - l.r

@@ -4,4 +4,4 @@ use Rattle.schema.specs.Search.{ColumnSearch}
 use Rattle.schema.proofs.column_at.Given as goal
 
 abbrev pub invariant-loop-j : goal.invariant-loop-j
-invariant-loop-j l = ColumnSearch l.catalog l.statement l.tables (bytes_at l.catalog l.statement l.a l.n) l.i l.first l.count l.j
+invariant-loop-j l = ColumnSearch l.texts.catalog.now l.texts.statement.now l.tables (bytes_at l.texts.catalog.now l.texts.statement.now l.name.address l.name.length) l.i l.first l.count l.j

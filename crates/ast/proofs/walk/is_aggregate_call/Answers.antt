@@ -14,4 +14,4 @@ returns-then-ne c = sym (no_call _ _ _ _ (eqb-false _ _ (sym (same-kinds _ K.Cal
 
 pub returns : goal.returns
 unfolding number_of
-returns c = c.is_some.ensures ∙ named-some _ ∙ rw (call-named _ _ _ _ (one-kind _ K.Call c.kind_of.ensures refl (sym c.ne.ensures ∙ c.if-ne.false)), ← c.at-address.ensures, ← c.at-length.ensures, c.is_aggregate.ensures)
+returns c = c.is_some.ensures ∙ named-some _ ∙ rw (call-named _ _ _ _ (one-kind _ K.Call c.kind_of.ensures refl (sym c.ne.ensures ∙ c.if-ne.false)), ← c.name.ensures.address, ← c.name.ensures.length, c.is_aggregate.ensures)

@@ -7,10 +7,10 @@ use Rattle.build_aggregate.specs.Functions.{operand-constant, operand-built}
 use Rattle.build_aggregate.proofs.function.argument.Goals as goal
 
 pub constant-requires : goal.constant-requires
-constant-requires c = leaf_room (tree_at c.args.catalog.now c.args.statement.now c.args.table.now c.args.r) _ _ c.requires
+constant-requires c = leaf_room (tree_at c.args.exprs.now.texts.catalog.now c.args.exprs.now.texts.statement.now c.args.exprs.now.table.now c.args.r) _ _ c.requires
 
 pub overflow_add-result : goal.overflow_add-result
-overflow_add-result c = let room = leaf_room (tree_at c.args.catalog.now c.args.statement.now c.args.table.now c.args.r) _ _ c.requires in record
+overflow_add-result c = let room = leaf_room (tree_at c.args.exprs.now.texts.catalog.now c.args.exprs.now.texts.statement.now c.args.exprs.now.table.now c.args.r) _ _ c.requires in record
     { fits = omega (arith, room.counted) }
 
 pub returns-then-takes_star : goal.returns-then-takes_star

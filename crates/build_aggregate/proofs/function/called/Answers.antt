@@ -9,4 +9,4 @@ unfolding named_of
 returns-then-kind-ne-CALL c = called-none _ _ _ _ (λ e. c.if-kind-ne-CALL.true (c.kind.ensures ∙ e))
 
 pub returns : goal.returns
-returns c = called-some _ _ _ _ _ _ _ (sym c.kind.ensures ∙ c.if-kind-ne-CALL.false) c.name_address-a.ensures c.name_length-n.ensures c.is_aggregate.ensures
+returns c = called-some _ _ _ _ _ _ _ (sym c.kind.ensures ∙ c.if-kind-ne-CALL.false) c.name.ensures.address c.name.ensures.length c.is_aggregate.ensures

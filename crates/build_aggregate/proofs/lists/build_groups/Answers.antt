@@ -16,8 +16,8 @@ loop-i-init c = (
       )),
 )
 
-pub overflow_add-k : goal.overflow_add-k
-overflow_add-k c = omega (
+pub overflow_add-at : goal.overflow_add-at
+overflow_add-at c = omega (
   arith,
   rows_all c.loop-i.invariant.2,
   c.loop-i.invariant.1,

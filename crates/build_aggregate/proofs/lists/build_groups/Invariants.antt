@@ -8,6 +8,6 @@ use Rattle.build_aggregate.proofs.lists.build_groups.Given as goal
 
 abbrev pub invariant-loop-i : goal.invariant-loop-i
 invariant-loop-i l =
-    (l.i ≤ length l.rows) × (l.k + length l.rows ≤ length l.initial.nodes) × RowLoop
-    (groups_listing l.catalog l.statement l.table (take l.width l.labels) (take l.width l.matches) (take l.count l.tables))
-    (tree_at l.catalog l.statement l.table) l.rows l.n l.k l.initial.area l.initial.nodes l.i l.m l.area l.nodes
+    (l.i ≤ length l.rows) × (l.at.used + length l.rows ≤ length l.initial.nodes) × RowLoop
+    (groups_listing l.exprs.texts.catalog.now l.exprs.texts.statement.now l.exprs.table.now l.scope.labels.now l.scope.matches.now l.scope.tables.now)
+    (tree_at l.exprs.texts.catalog.now l.exprs.texts.statement.now l.exprs.table.now) l.rows l.at.cell l.at.used l.initial.area l.initial.nodes l.i l.m l.area l.nodes

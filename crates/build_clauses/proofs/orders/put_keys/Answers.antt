@@ -7,17 +7,17 @@ use Rattle.build_clauses.proofs.orders.put_keys.Goals as goal
 pub loop-i-init : goal.loop-i-init
 loop-i-init c = putting-begin _ _ _ c.requires.room c.requires.parts_in_bounds
 
-pub overflow_add-k : goal.overflow_add-k
-overflow_add-k c = let l = keys_below c.args.catalog.now c.args.statement.now c.args.cells.now c.args.parts.now (c.count-keys.ensures c.args.catalog.now c.args.statement.now c.args.cells.now) c.loop-i-test.true in record { fits = omega (arith, l, c.loop-i.invariant.space, c.loop-i.invariant.nodes-kept, c.well_formed.1.1.1.1.1.1.1.1.1.1.1.0.1) }
+pub overflow_add-at : goal.overflow_add-at
+overflow_add-at c = let l = keys_below c.args.exprs.now.texts.catalog.now c.args.exprs.now.texts.statement.now c.args.exprs.now.table.now c.args.parts.now (c.count-keys.ensures c.args.exprs.now.texts.catalog.now c.args.exprs.now.texts.statement.now c.args.exprs.now.table.now) c.loop-i-test.true in record { fits = omega (arith, l, c.loop-i.invariant.space, c.loop-i.invariant.nodes-kept, c.well_formed.1.1.1.1.0.1) }
 
 pub put_key-requires : goal.put_key-requires
-put_key-requires c = let l = keys_below c.args.catalog.now c.args.statement.now c.args.cells.now c.args.parts.now (c.count-keys.ensures c.args.catalog.now c.args.statement.now c.args.cells.now) c.loop-i-test.true in record { room = room-here c.loop-i.invariant c.requires.cells_len l _ c.entry_at-e.ensures; key_size_in_bounds = space-here c.loop-i.invariant c.requires.cells_len l _ c.entry_at-e.ensures }
+put_key-requires c = let l = keys_below c.args.exprs.now.texts.catalog.now c.args.exprs.now.texts.statement.now c.args.exprs.now.table.now c.args.parts.now (c.count-keys.ensures c.args.exprs.now.texts.catalog.now c.args.exprs.now.texts.statement.now c.args.exprs.now.table.now) c.loop-i-test.true in record { room = room-here c.loop-i.invariant c.requires.cells_len l _ c.entry_at-e.ensures; key_size_in_bounds = space-here c.loop-i.invariant c.requires.cells_len l _ c.entry_at-e.ensures }
 
 pub returns-in_err-p : goal.returns-in_err-p
-returns-in_err-p c = rw (exit c.from_residual.result c.from_residual.ensures.1) (putting-refused c.loop-i.invariant c.requires.cells_len (keys_below c.args.catalog.now c.args.statement.now c.args.cells.now c.args.parts.now (c.count-keys.ensures c.args.catalog.now c.args.statement.now c.args.cells.now) c.loop-i-test.true) _ c.entry_at-e.ensures c.put_key.ensures _ c.in_err-p.was)
+returns-in_err-p c = rw (exit c.from_residual.result c.from_residual.ensures.1) (putting-refused c.loop-i.invariant c.requires.cells_len (keys_below c.args.exprs.now.texts.catalog.now c.args.exprs.now.texts.statement.now c.args.exprs.now.table.now c.args.parts.now (c.count-keys.ensures c.args.exprs.now.texts.catalog.now c.args.exprs.now.texts.statement.now c.args.exprs.now.table.now) c.loop-i-test.true) _ c.entry_at-e.ensures c.put_key.ensures _ c.in_err-p.was)
 
 pub loop-i-preserved : goal.loop-i-preserved
-loop-i-preserved c = putting-more c.loop-i.invariant c.requires.cells_len (keys_below c.args.catalog.now c.args.statement.now c.args.cells.now c.args.parts.now (c.count-keys.ensures c.args.catalog.now c.args.statement.now c.args.cells.now) c.loop-i-test.true) _ c.entry_at-e.ensures c.put_key.ensures _ c.in_ok-p.was
+loop-i-preserved c = putting-more c.loop-i.invariant c.requires.cells_len (keys_below c.args.exprs.now.texts.catalog.now c.args.exprs.now.texts.statement.now c.args.exprs.now.table.now c.args.parts.now (c.count-keys.ensures c.args.exprs.now.texts.catalog.now c.args.exprs.now.texts.statement.now c.args.exprs.now.table.now) c.loop-i-test.true) _ c.entry_at-e.ensures c.put_key.ensures _ c.in_ok-p.was
 
 pub shape_of-area : goal.shape_of-area
 shape_of-area c = c.loop-i.invariant.area-kept
@@ -26,4 +26,4 @@ pub shape_of-nodes : goal.shape_of-nodes
 shape_of-nodes c = c.loop-i.invariant.nodes-kept
 
 pub returns : goal.returns
-returns c = putting-end c.loop-i.invariant (keys-past c.args.catalog.now c.args.statement.now c.args.cells.now c.args.parts.now (c.count-keys.ensures c.args.catalog.now c.args.statement.now c.args.cells.now) c.loop-i-test.false)
+returns c = putting-end c.loop-i.invariant (keys-past c.args.exprs.now.texts.catalog.now c.args.exprs.now.texts.statement.now c.args.exprs.now.table.now c.args.parts.now (c.count-keys.ensures c.args.exprs.now.texts.catalog.now c.args.exprs.now.texts.statement.now c.args.exprs.now.table.now) c.loop-i-test.false)

@@ -9,4 +9,4 @@ returns-in_err-constant c = let p = err_from_is_err_and c.from_residual.result c
 
 pub returns : goal.returns
 returns c = rw c.ok_or.ensures.value (counted _ _ _ _ _ c.build_constant_value.ensures c.args.invalid _ _ c.in_ok-constant.was
-    (c.to_natural.ensures _ _ c.args.catalog.now c.args.statement.now))
+    (c.to_natural.ensures _ _ c.args.exprs.now.texts.catalog.now c.args.exprs.now.texts.statement.now))

@@ -3,5 +3,5 @@ use Rattle.build_expression.proofs.Names.{resolved}
 use Rattle.build_expression.proofs.leaves.column.Goals as goal
 
 pub returns : goal.returns
-returns c = resolved _ _ _ _ _ _ c.name_address-a.ensures c.name_length-length.ensures
+returns c = resolved _ _ _ _ _ _ c.name.ensures.address c.name.ensures.length
     c.line.ensures c.lookup-f.ensures c.found.ensures

@@ -11,4 +11,4 @@ returns-then-arguments-ne1 c = root-count _ _ _ _ (λ e. c.if-arguments-ne1.true
 pub returns : goal.returns
 unfolding bytes
 returns c = root-name _ _ _ _ _ (sym c.arguments.ensures ∙ c.if-arguments-ne1.false) (sqrt-name _ _ _ _ _ _ _
-    c.name_address-a.ensures c.name_length-length.ensures c.holds_at.ensures)
+    c.name.ensures.address c.name.ensures.length c.holds_at.ensures)

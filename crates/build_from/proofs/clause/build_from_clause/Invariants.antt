@@ -6,5 +6,5 @@ use Rattle.build_from.proofs.clause.build_from_clause.Given as goal
 
 abbrev pub invariant-loop-i : goal.invariant-loop-i
 invariant-loop-i l =
-    PartAccepted l.catalog l.statement l.tables l.cells (froms_at l.catalog l.statement l.cells l.froms l.rows)
-    (drop l.i (froms_at l.catalog l.statement l.cells l.froms l.rows)) l.fn.area l.fn.nodes l.area l.nodes l.clause
+    PartAccepted l.exprs.texts.catalog.now l.exprs.texts.statement.now l.tables l.exprs.table.now (froms_at l.exprs.texts.catalog.now l.exprs.texts.statement.now l.exprs.table.now l.froms l.rows)
+    (drop l.i (froms_at l.exprs.texts.catalog.now l.exprs.texts.statement.now l.exprs.table.now l.froms l.rows)) l.fn.area l.fn.nodes l.area l.nodes l.clause

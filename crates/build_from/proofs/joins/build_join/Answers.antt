@@ -14,7 +14,7 @@ returns-in_err-s c = let p = err_from_is_err_and c.from_residual.result c.from_r
 
 pub returns-in_err-p : goal.returns-in_err-p
 returns-in_err-p c = let p = err_from_is_err_and c.from_residual-in_err-p.result c.from_residual-in_err-p.ensures.1 in rw (p.1, p.2)
-    (join-unbuilt c.requires c.in_ok-s.ensures c.in_err-p.ensures)
+    (join-unbuilt c.requires c.in_ok-s.ensures (λ h. rw (c.view.ensures.labels, c.view.ensures.matches, c.view.ensures.tables) at (c.in_err-p.ensures h)))
 
 pub overflow_sub-a : goal.overflow_sub-a
 overflow_sub-a c = omega (arith, c.requires.first)
@@ -26,15 +26,15 @@ pub join-k-requires : goal.join-k-requires
 join-k-requires c = omega (arith, c.requires.numbers)
 
 pub push_remap-end-requires : goal.push_remap-end-requires
-push_remap-end-requires c = join-remap-room c.requires c.in_ok-s.ensures c.in_ok-p.ensures c.join_kind-kind.ensures.0 c.join-k.ensures
+push_remap-end-requires c = join-remap-room c.requires c.in_ok-s.ensures (λ h. rw (c.view.ensures.labels, c.view.ensures.matches, c.view.ensures.tables) at (c.in_ok-p.ensures h)) c.join_kind-kind.ensures.0 c.join-k.ensures
 
 pub swap-requires : goal.swap-requires
 swap-requires c = join-swappable c.requires c.in_ok-s.ensures
 
 pub returns-then-kind : goal.returns-then-kind
-returns-then-kind c = join-swapped c.requires c.in_ok-s.ensures c.in_ok-p.ensures c.join_kind-kind.ensures.0 c.join-k.ensures
+returns-then-kind c = join-swapped c.requires c.in_ok-s.ensures (λ h. rw (c.view.ensures.labels, c.view.ensures.matches, c.view.ensures.tables) at (c.in_ok-p.ensures h)) c.join_kind-kind.ensures.0 c.join-k.ensures
     (sym c.if-kind.true ∙ c.join_kind-kind.ensures.1) c.push_remap-end.ensures c.swap.ensures c.line-l.ensures
 
 pub returns : goal.returns
-returns c = join-ordered c.requires c.in_ok-s.ensures c.in_ok-p.ensures c.join_kind-kind.ensures.0 c.join-k.ensures
+returns c = join-ordered c.requires c.in_ok-s.ensures (λ h. rw (c.view.ensures.labels, c.view.ensures.matches, c.view.ensures.tables) at (c.in_ok-p.ensures h)) c.join_kind-kind.ensures.0 c.join-k.ensures
     (sym c.if-kind.false ∙ c.join_kind-kind.ensures.1) c.line-l.ensures

@@ -7,4 +7,4 @@ pub returns-in-Some : goal.returns-in-Some
 returns-in-Some c = collected-rows _ _ _ c.collect-collected.ensures.value c.collect-collected.ensures.rows_after c.requires _ c.in-Some.is
 
 pub returns-in-None : goal.returns-in-None
-returns-in-None c = collected-full (collect_rows c.args.catalog.now c.args.statement.now c.args.cells.now c.args.r) c.args.rows.now c.args.k c.collect-collected.ensures.value c.collect-collected.ensures.rows_after c.requires c.in-None.is
+returns-in-None c = collected-full (collect_rows c.args.exprs.now.texts.catalog.now c.args.exprs.now.texts.statement.now c.args.exprs.now.table.now c.args.r) c.args.rows.now c.args.k c.collect-collected.ensures.value c.collect-collected.ensures.rows_after c.requires c.in-None.is

@@ -7,7 +7,7 @@ use Rattle.build_groups.specs.Collects.{collect-end, collect-room, collect-put}
 use Rattle.build_groups.proofs.rows.collect_section.Goals as goal
 
 pub loop-i-init : goal.loop-i-init
-loop-i-init c = (appending-begin _ _ _ _ (ap (collect_each_rows c.args.catalog.now c.args.statement.now c.args.cells.now) (section-entries _ _ _ c.count-n.ensures)) (search rules))
+loop-i-init c = (appending-begin _ _ _ _ (ap (collect_each_rows c.args.exprs.now.texts.catalog.now c.args.exprs.now.texts.statement.now c.args.exprs.now.table.now) (section-entries _ _ _ c.count-n.ensures)) (search rules))
 
 pub collect_at-x-requires : goal.collect_at-x-requires
 collect_at-x-requires c = collect-room _ _ _ _ _ _ _ c.loop-i.invariant _ _ c.loop-i-test.true c.entry_at-e.ensures c.first_row.ensures c.requires

@@ -6,5 +6,5 @@ use Rattle.build_groups.proofs.rows.collect_section.Given as goal
 
 abbrev pub invariant-loop-i : goal.invariant-loop-i
 invariant-loop-i l =
-    Appending (collect_each_rows l.catalog l.statement l.cells (section_rows l.parts l.kind))
-    (collect_each_rows l.catalog l.statement l.cells (entry_rows l.parts l.kind l.i (l.n - l.i))) l.k l.initial.rows l.x l.rows
+    Appending (collect_each_rows l.exprs.texts.catalog.now l.exprs.texts.statement.now l.exprs.table.now (section_rows l.parts l.kind))
+    (collect_each_rows l.exprs.texts.catalog.now l.exprs.texts.statement.now l.exprs.table.now (entry_rows l.parts l.kind l.i (l.n - l.i))) l.k l.initial.rows l.x l.rows

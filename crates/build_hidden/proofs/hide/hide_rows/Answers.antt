@@ -10,43 +10,38 @@ loop-r-init c = hiding-begin c.requires _ _ _
 
 pub loop-r-preserved-in_default : goal.loop-r-preserved-in_default
 loop-r-preserved-in_default c = hiding-skip c.requires c.loop-r.invariant c.loop-r-test.true refl
-    c.to_hide-wanted.ensures c.in_default.is
+    (rw (c.view.ensures.labels, c.view.ensures.matches, c.view.ensures.tables) at c.to_hide-wanted.ensures) c.in_default.is
 
 pub shape_of-positions-then-scope-ge-COLUMNS : goal.shape_of-positions-then-scope-ge-COLUMNS
 shape_of-positions-then-scope-ge-COLUMNS c = c.loop-r.invariant.kept
 
 pub returns-then-scope-ge-COLUMNS : goal.returns-then-scope-ge-COLUMNS
 returns-then-scope-ge-COLUMNS c = hiding-full c.requires c.loop-r.invariant c.loop-r-test.true refl
-    c.to_hide-wanted.ensures c.in-Some.is (omega (arith, c.if-scope-ge-COLUMNS.true))
+    (rw (c.view.ensures.labels, c.view.ensures.matches, c.view.ensures.tables) at c.to_hide-wanted.ensures) c.in-Some.is (omega (arith, c.if-scope-ge-COLUMNS.true))
     c.line.ensures
 
 pub bounds-positions-scope : goal.bounds-positions-scope
 bounds-positions-scope c = hiding-place c.requires c.loop-r.invariant c.loop-r-test.true refl
-    c.to_hide-wanted.ensures c.in-Some.is refl (omega (arith, c.if-scope-ge-COLUMNS.false))
+    (rw (c.view.ensures.labels, c.view.ensures.matches, c.view.ensures.tables) at c.to_hide-wanted.ensures) c.in-Some.is refl (omega (arith, c.if-scope-ge-COLUMNS.false))
 
-pub bounds-labels-j : goal.bounds-labels-j
-bounds-labels-j c = omega (
+pub bounds-parent-j : goal.bounds-parent-j
+bounds-parent-j c = hiding-below c.requires c.loop-r.invariant c.loop-r-test.true refl (rw (c.view.ensures.labels, c.view.ensures.matches, c.view.ensures.tables) at c.to_hide-wanted.ensures) c.in-Some.is
+
+pub bounds-parent-j-in-loop-r : goal.bounds-parent-j-in-loop-r
+bounds-parent-j-in-loop-r c = omega (
   arith,
   hiding-below c.requires c.loop-r.invariant c.loop-r-test.true refl
-      c.to_hide-wanted.ensures c.in-Some.is,
-  c.requires.labels-long,
-)
-
-pub bounds-matches-j : goal.bounds-matches-j
-bounds-matches-j c = omega (
-  arith,
-  hiding-below c.requires c.loop-r.invariant c.loop-r-test.true refl
-      c.to_hide-wanted.ensures c.in-Some.is,
-  c.requires.matches-long,
+      (rw (c.view.ensures.labels, c.view.ensures.matches, c.view.ensures.tables) at c.to_hide-wanted.ensures) c.in-Some.is,
+  c.requires.as_many,
 )
 
 pub add_hidden-scope-requires : goal.add_hidden-scope-requires
 add_hidden-scope-requires c = hiding-fits c.requires c.loop-r.invariant c.loop-r-test.true refl
-    c.to_hide-wanted.ensures c.in-Some.is refl (omega (arith, c.if-scope-ge-COLUMNS.false))
+    (rw (c.view.ensures.labels, c.view.ensures.matches, c.view.ensures.tables) at c.to_hide-wanted.ensures) c.in-Some.is refl (omega (arith, c.if-scope-ge-COLUMNS.false))
 
 pub loop-r-preserved : goal.loop-r-preserved
 loop-r-preserved c = hiding-more c.requires c.loop-r.invariant c.loop-r-test.true refl
-    c.to_hide-wanted.ensures c.in-Some.is refl (omega (arith, c.if-scope-ge-COLUMNS.false)) refl
+    (rw (c.view.ensures.labels, c.view.ensures.matches, c.view.ensures.tables) at c.to_hide-wanted.ensures) c.in-Some.is refl (omega (arith, c.if-scope-ge-COLUMNS.false)) refl
     c.add_hidden-scope.ensures
 
 pub shape_of-positions : goal.shape_of-positions

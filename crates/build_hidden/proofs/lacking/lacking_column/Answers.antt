@@ -7,13 +7,13 @@ use Rattle.build_hidden.specs.Lacking.{column-plain, column-qualified, column-no
 use Rattle.build_hidden.proofs.lacking.lacking_column.Goals as goal
 
 pub returns-in-Column : goal.returns-in-Column
-returns-in-Column c = column-plain _ _ _ c.kind_of-k.ensures c.name_address-a.ensures
-    c.name_length-n.ensures
+returns-in-Column c = column-plain _ _ _ c.kind_of-k.ensures c.name-sought.ensures.address
+    c.name-sought.ensures.length
     c.in-Column.is c.lacking_name.ensures
 
 pub returns-in-Qualified : goal.returns-in-Qualified
-returns-in-Qualified c = column-qualified _ _ _ c.kind_of-k.ensures c.name_address-a-in-Qualified.ensures
-    c.name_length-n-in-Qualified.ensures
+returns-in-Qualified c = column-qualified _ _ _ c.kind_of-k.ensures c.name-sought-in-Qualified.ensures.address
+    c.name-sought-in-Qualified.ensures.length
     c.qualifier-place.ensures.address c.qualifier-place.ensures.length
     c.in-Qualified.is c.lacking_name-in-Qualified.ensures
 

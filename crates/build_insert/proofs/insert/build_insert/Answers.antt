@@ -5,21 +5,21 @@ use Rattle.build_insert.specs.Inserts.{insert-names, insert-unknown, insert-map-
 use Rattle.build_insert.proofs.insert.build_insert.Goals as goal
 
 pub returns-in_default : goal.returns-in_default
-returns-in_default c = insert-unknown c.args.catalog.now c.args.statement.now c.args.tables.now c.args.cells.now c.args.parts.now c.requires _ _ c.name_address-a.ensures c.name_length-n.ensures _ c.get_table-found.ensures c.in_default.is c.line.ensures
+returns-in_default c = insert-unknown c.args.exprs.now.texts.catalog.now c.args.exprs.now.texts.statement.now c.args.tables.now c.args.exprs.now.table.now c.args.parts.now c.requires _ _ c.name_address.ensures c.name_length.ensures _ c.get_table-found.ensures c.in_default.is c.line.ensures
 
 pub column_map-requires : goal.column_map-requires
-column_map-requires c = insert-names c.args.catalog.now c.args.statement.now c.args.tables.now c.args.cells.now c.args.parts.now c.requires _ refl
+column_map-requires c = insert-names c.args.exprs.now.texts.catalog.now c.args.exprs.now.texts.statement.now c.args.tables.now c.args.exprs.now.table.now c.args.parts.now c.requires _ refl
 
 pub build_mapped-requires : goal.build_mapped-requires
 build_mapped-requires c = record {
   free = c.requires.free;
-  insert_fits = insert-fits c.args.catalog.now c.args.statement.now c.args.tables.now c.args.cells.now c.args.parts.now c.requires _ _ c.name_address-a.ensures c.name_length-n.ensures _ c.get_table-found.ensures _ c.in-Some.is
+  insert_fits = insert-fits c.args.exprs.now.texts.catalog.now c.args.exprs.now.texts.statement.now c.args.tables.now c.args.exprs.now.table.now c.args.parts.now c.requires _ _ c.name_address.ensures c.name_length.ensures _ c.get_table-found.ensures _ c.in-Some.is
       c.column_map.ensures _ c.in_ok-map.was;
 }
 
 pub returns-in_err-map : goal.returns-in_err-map
-returns-in_err-map c = rw (exit c.from_residual.result c.from_residual.ensures.1) (insert-map-refused c.args.catalog.now c.args.statement.now c.args.tables.now c.args.cells.now c.args.parts.now c.requires _ _ c.name_address-a.ensures c.name_length-n.ensures _ c.get_table-found.ensures _ c.in-Some.is c.column_map.ensures _ c.in_err-map.was)
+returns-in_err-map c = rw (exit c.from_residual.result c.from_residual.ensures.1) (insert-map-refused c.args.exprs.now.texts.catalog.now c.args.exprs.now.texts.statement.now c.args.tables.now c.args.exprs.now.table.now c.args.parts.now c.requires _ _ c.name_address.ensures c.name_length.ensures _ c.get_table-found.ensures _ c.in-Some.is c.column_map.ensures _ c.in_err-map.was)
 
 pub returns : goal.returns
-returns c = insert-planned c.args.catalog.now c.args.statement.now c.args.tables.now c.args.cells.now c.args.parts.now c.requires _ _ c.name_address-a.ensures c.name_length-n.ensures _ c.get_table-found.ensures _ c.in-Some.is
+returns c = insert-planned c.args.exprs.now.texts.catalog.now c.args.exprs.now.texts.statement.now c.args.tables.now c.args.exprs.now.table.now c.args.parts.now c.requires _ _ c.name_address.ensures c.name_length.ensures _ c.get_table-found.ensures _ c.in-Some.is
     c.column_map.ensures _ c.in_ok-map.was c.build_mapped.ensures

@@ -16,7 +16,7 @@ end_insert-requires c = record {
 }
 
 pub returns-in_err-node : goal.returns-in_err-node
-returns-in_err-node c = rw (exit c.from_residual.result c.from_residual.ensures.1) (rows-refused c.requires.free c.requires.insert_fits c.build_node.ensures c.args.catalog.now c.args.statement.now c.args.a c.args.n _ c.in_err-node.was)
+returns-in_err-node c = rw (exit c.from_residual.result c.from_residual.ensures.1) (rows-refused c.requires.free c.requires.insert_fits c.build_node.ensures c.args.exprs.now.texts.catalog.now c.args.exprs.now.texts.statement.now c.args.name.address c.args.name.length _ c.in_err-node.was)
 
 pub returns : goal.returns
-returns c = rows-planned c.requires.free c.requires.insert_fits c.build_node.ensures _ c.in_ok-node.was c.args.catalog.now c.args.statement.now c.args.a c.args.n c.end_insert.auto.area c.end_insert.ensures
+returns c = rows-planned c.requires.free c.requires.insert_fits c.build_node.ensures _ c.in_ok-node.was c.args.exprs.now.texts.catalog.now c.args.exprs.now.texts.statement.now c.args.name.address c.args.name.length c.end_insert.auto.area c.end_insert.ensures

@@ -7,7 +7,7 @@ pub put_own-e-requires : goal.put_own-e-requires
 put_own-e-requires c = c.requires.map_fits
 
 pub finish-requires : goal.finish-requires
-finish-requires c = insert-room c.args.catalog.now c.args.statement.now c.args.a c.args.n _ c.args.m (map_of c.args.columns.now c.args.map) _ c.requires.free c.requires.m_le_most_plan_cells c.put_own-e.ensures
+finish-requires c = insert-room c.args.texts.now.catalog.now c.args.texts.now.statement.now c.args.name.address c.args.name.length _ c.args.m (map_of c.args.columns.now c.args.map) _ c.requires.free c.requires.m_le_most_plan_cells c.put_own-e.ensures
 
 pub returns : goal.returns
-returns c = insert-ends c.args.catalog.now c.args.statement.now c.args.a c.args.n _ c.args.m (map_of c.args.columns.now c.args.map) _ c.requires.free c.requires.m_le_most_plan_cells c.put_own-e.ensures c.length_at.ensures c.finish.ensures
+returns c = insert-ends c.args.texts.now.catalog.now c.args.texts.now.statement.now c.args.name.address c.args.name.length _ c.args.m (map_of c.args.columns.now c.args.map) _ c.requires.free c.requires.m_le_most_plan_cells c.put_own-e.ensures c.length_at.ensures c.finish.ensures

@@ -3,10 +3,10 @@ use Rattle.build_insert.specs.Map.{columns_of, map-missing, names-fit, map-given
 use Rattle.build_insert.proofs.map.column_map.Goals as goal
 
 pub returns-then-count-eq0 : goal.returns-then-count-eq0
-returns-then-count-eq0 c = map-missing c.args.catalog.now c.args.statement.now c.args.cells.now c.args.parts.now (columns_of c.args.catalog.now c.args.statement.now c.args.tables.now c.args.i) _ (c.count.ensures c.args.catalog.now c.args.statement.now c.args.cells.now) c.if-count-eq0.true _
+returns-then-count-eq0 c = map-missing c.args.exprs.now.texts.catalog.now c.args.exprs.now.texts.statement.now c.args.exprs.now.table.now c.args.parts.now (columns_of c.args.exprs.now.texts.catalog.now c.args.exprs.now.texts.statement.now c.args.tables.now c.args.i) _ (c.count.ensures c.args.exprs.now.texts.catalog.now c.args.exprs.now.texts.statement.now c.args.exprs.now.table.now) c.if-count-eq0.true _
 
 pub map_names-requires : goal.map_names-requires
-map_names-requires c = names-fit c.args.catalog.now c.args.statement.now c.args.cells.now c.args.parts.now (columns_of c.args.catalog.now c.args.statement.now c.args.tables.now c.args.i) _ (c.count.ensures c.args.catalog.now c.args.statement.now c.args.cells.now) c.if-count-eq0.false c.args.columns.now c.requires
+map_names-requires c = names-fit c.args.exprs.now.texts.catalog.now c.args.exprs.now.texts.statement.now c.args.exprs.now.table.now c.args.parts.now (columns_of c.args.exprs.now.texts.catalog.now c.args.exprs.now.texts.statement.now c.args.tables.now c.args.i) _ (c.count.ensures c.args.exprs.now.texts.catalog.now c.args.exprs.now.texts.statement.now c.args.exprs.now.table.now) c.if-count-eq0.false c.args.columns.now c.requires
 
 pub returns : goal.returns
-returns c = map-given c.args.catalog.now c.args.statement.now c.args.cells.now c.args.parts.now (columns_of c.args.catalog.now c.args.statement.now c.args.tables.now c.args.i) _ (c.count.ensures c.args.catalog.now c.args.statement.now c.args.cells.now) c.if-count-eq0.false c.map_names.ensures
+returns c = map-given c.args.exprs.now.texts.catalog.now c.args.exprs.now.texts.statement.now c.args.exprs.now.table.now c.args.parts.now (columns_of c.args.exprs.now.texts.catalog.now c.args.exprs.now.texts.statement.now c.args.tables.now c.args.i) _ (c.count.ensures c.args.exprs.now.texts.catalog.now c.args.exprs.now.texts.statement.now c.args.exprs.now.table.now) c.if-count-eq0.false c.map_names.ensures

@@ -4,19 +4,19 @@ use Rattle.build_insert.specs.Map.{columns_of, map-none, map-all, name-unknown, 
 use Rattle.build_insert.proofs.map.map_names.Goals as goal
 
 pub loop-v-init : goal.loop-v-init
-loop-v-init c = map-none c.args.catalog.now c.args.statement.now c.args.cells.now c.args.parts.now (columns_of c.args.catalog.now c.args.statement.now c.args.tables.now c.args.i) _
+loop-v-init c = map-none c.args.exprs.now.texts.catalog.now c.args.exprs.now.texts.statement.now c.args.exprs.now.table.now c.args.parts.now (columns_of c.args.exprs.now.texts.catalog.now c.args.exprs.now.texts.statement.now c.args.tables.now c.args.i) _
 
 pub returns-in_default : goal.returns-in_default
-returns-in_default c = name-unknown c.args.catalog.now c.args.statement.now c.args.cells.now c.args.parts.now (columns_of c.args.catalog.now c.args.statement.now c.args.tables.now c.args.i) c.loop-v.invariant _ c.entry_at-e.ensures (omega (
+returns-in_default c = name-unknown c.args.exprs.now.texts.catalog.now c.args.exprs.now.texts.statement.now c.args.exprs.now.table.now c.args.parts.now (columns_of c.args.exprs.now.texts.catalog.now c.args.exprs.now.texts.statement.now c.args.tables.now c.args.i) c.loop-v.invariant _ c.entry_at-e.ensures (omega (
   arith,
   c.loop-v-test.true,
-  c.count-count.ensures c.args.catalog.now c.args.statement.now c.args.cells.now,
-)) _ c.name_start-a.ensures _ c.column_at-found.ensures c.in_default.is
+  c.count-count.ensures c.args.exprs.now.texts.catalog.now c.args.exprs.now.texts.statement.now c.args.exprs.now.table.now,
+)) _ c.name_start.ensures _ c.column_at-found.ensures c.in_default.is
 
 pub returns-then-is_mapped : goal.returns-then-is_mapped
-returns-then-is_mapped c = name-repeated c.args.catalog.now c.args.statement.now c.args.cells.now c.args.parts.now (columns_of c.args.catalog.now c.args.statement.now c.args.tables.now c.args.i) c.loop-v.invariant _ c.entry_at-e.ensures (omega
-    (arith, c.loop-v-test.true, c.count-count.ensures c.args.catalog.now c.args.statement.now c.args.cells.now)) _
-    c.name_start-a.ensures _ c.column_at-found.ensures _ c.in-Some.is _ c.is_mapped.ensures c.if-is_mapped.true
+returns-then-is_mapped c = name-repeated c.args.exprs.now.texts.catalog.now c.args.exprs.now.texts.statement.now c.args.exprs.now.table.now c.args.parts.now (columns_of c.args.exprs.now.texts.catalog.now c.args.exprs.now.texts.statement.now c.args.tables.now c.args.i) c.loop-v.invariant _ c.entry_at-e.ensures (omega
+    (arith, c.loop-v-test.true, c.count-count.ensures c.args.exprs.now.texts.catalog.now c.args.exprs.now.texts.statement.now c.args.exprs.now.table.now)) _
+    c.name_start.ensures _ c.column_at-found.ensures _ c.in-Some.is _ c.is_mapped.ensures c.if-is_mapped.true
 
 pub map_value-requires : goal.map_value-requires
 map_value-requires c = omega (
@@ -24,21 +24,21 @@ map_value-requires c = omega (
   c.loop-v.invariant.same,
   c.requires,
   c.loop-v-test.true,
-  c.count-count.ensures c.args.catalog.now c.args.statement.now
-      c.args.cells.now,
+  c.count-count.ensures c.args.exprs.now.texts.catalog.now c.args.exprs.now.texts.statement.now
+      c.args.exprs.now.table.now,
 )
 
 pub loop-v-preserved : goal.loop-v-preserved
-loop-v-preserved c = name-mapped c.args.catalog.now c.args.statement.now c.args.cells.now c.args.parts.now (columns_of c.args.catalog.now c.args.statement.now c.args.tables.now c.args.i) c.loop-v.invariant _ c.entry_at-e.ensures (omega
-    (arith, c.loop-v-test.true, c.count-count.ensures c.args.catalog.now c.args.statement.now c.args.cells.now)) _
-    c.name_start-a.ensures _ c.column_at-found.ensures _ c.in-Some.is _ c.is_mapped.ensures c.if-is_mapped.false (omega (
+loop-v-preserved c = name-mapped c.args.exprs.now.texts.catalog.now c.args.exprs.now.texts.statement.now c.args.exprs.now.table.now c.args.parts.now (columns_of c.args.exprs.now.texts.catalog.now c.args.exprs.now.texts.statement.now c.args.tables.now c.args.i) c.loop-v.invariant _ c.entry_at-e.ensures (omega
+    (arith, c.loop-v-test.true, c.count-count.ensures c.args.exprs.now.texts.catalog.now c.args.exprs.now.texts.statement.now c.args.exprs.now.table.now)) _
+    c.name_start.ensures _ c.column_at-found.ensures _ c.in-Some.is _ c.is_mapped.ensures c.if-is_mapped.false (omega (
       arith,
       c.loop-v.invariant.same,
       c.requires,
       c.loop-v-test.true,
-      c.count-count.ensures c.args.catalog.now c.args.statement.now c.args.cells.now,
+      c.count-count.ensures c.args.exprs.now.texts.catalog.now c.args.exprs.now.texts.statement.now c.args.exprs.now.table.now,
     )) c.map_value.ensures
 
 pub returns : goal.returns
-returns c = map-all c.args.catalog.now c.args.statement.now c.args.cells.now c.args.parts.now (columns_of c.args.catalog.now c.args.statement.now c.args.tables.now c.args.i) c.loop-v.invariant _ (c.count-count.ensures c.args.catalog.now c.args.statement.now c.args.cells.now) (omega (arith, c.loop-v-test.false))
+returns c = map-all c.args.exprs.now.texts.catalog.now c.args.exprs.now.texts.statement.now c.args.exprs.now.table.now c.args.parts.now (columns_of c.args.exprs.now.texts.catalog.now c.args.exprs.now.texts.statement.now c.args.tables.now c.args.i) c.loop-v.invariant _ (c.count-count.ensures c.args.exprs.now.texts.catalog.now c.args.exprs.now.texts.statement.now c.args.exprs.now.table.now) (omega (arith, c.loop-v-test.false))
     c.loop-v.invariant.few

@@ -10,5 +10,5 @@ pub build_values-requires : goal.build_values-requires
 build_values-requires c = record { room = c.requires.room; values_in_bounds = row_room c.push-j.ensures c.requires.expressions_in_bounds }
 
 pub returns : goal.returns
-returns c = row-lists c.args.catalog.now c.args.statement.now c.args.cells.now c.args.e.expressions c.args.e.row
+returns c = row-lists c.args.exprs.now.texts.catalog.now c.args.exprs.now.texts.statement.now c.args.exprs.now.table.now c.args.e.expressions c.args.e.row
     c.push-j.ensures c.build_values.ensures

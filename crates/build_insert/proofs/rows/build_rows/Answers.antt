@@ -12,13 +12,13 @@ build_row-requires c = record {
   room = rows-room c.loop-i.invariant _ c.entry_at-e.ensures (omega (
     arith,
     c.loop-i-test.true,
-    c.count-rows.ensures c.args.catalog.now
-        c.args.statement.now c.args.cells.now,
+    c.count-rows.ensures c.args.exprs.now.texts.catalog.now
+        c.args.exprs.now.texts.statement.now c.args.exprs.now.table.now,
   ));
   expressions_in_bounds = rows-space c.loop-i.invariant _ c.entry_at-e.ensures (omega (
     arith,
     c.loop-i-test.true,
-    c.count-rows.ensures c.args.catalog.now c.args.statement.now c.args.cells.now,
+    c.count-rows.ensures c.args.exprs.now.texts.catalog.now c.args.exprs.now.texts.statement.now c.args.exprs.now.table.now,
   ));
 }
 
@@ -26,16 +26,16 @@ pub returns-in_err-built : goal.returns-in_err-built
 returns-in_err-built c = rw (exit c.from_residual.result c.from_residual.ensures.1) (rows-stop c.loop-i.invariant _ c.entry_at-e.ensures (omega (
   arith,
   c.loop-i-test.true,
-  c.count-rows.ensures c.args.catalog.now
-      c.args.statement.now c.args.cells.now,
+  c.count-rows.ensures c.args.exprs.now.texts.catalog.now
+      c.args.exprs.now.texts.statement.now c.args.exprs.now.table.now,
 )) c.build_row.ensures _ c.in_err-built.was)
 
 pub loop-i-preserved : goal.loop-i-preserved
 loop-i-preserved c = rows_more c.loop-i.invariant _ c.entry_at-e.ensures (omega (
   arith,
   c.loop-i-test.true,
-  c.count-rows.ensures c.args.catalog.now
-      c.args.statement.now c.args.cells.now,
+  c.count-rows.ensures c.args.exprs.now.texts.catalog.now
+      c.args.exprs.now.texts.statement.now c.args.exprs.now.table.now,
 )) c.build_row.ensures _ c.in_ok-built.was
 
 pub shape_of-area : goal.shape_of-area
@@ -45,5 +45,5 @@ pub shape_of-nodes : goal.shape_of-nodes
 shape_of-nodes c = rows_all c.loop-i.invariant
 
 pub returns : goal.returns
-returns c = rows-done c.loop-i.invariant _ (c.count-rows.ensures c.args.catalog.now c.args.statement.now
-    c.args.cells.now) (omega (arith, c.loop-i-test.false))
+returns c = rows-done c.loop-i.invariant _ (c.count-rows.ensures c.args.exprs.now.texts.catalog.now c.args.exprs.now.texts.statement.now
+    c.args.exprs.now.table.now) (omega (arith, c.loop-i-test.false))

@@ -4,4 +4,4 @@ use Rattle.build_insert.proofs.rows.build_rows.Given as goal
 
 abbrev pub invariant-loop-i : goal.invariant-loop-i
 invariant-loop-i l =
-    RowsSoFar l.catalog l.statement l.cells l.parts l.initial.area l.k l.initial.nodes l.i l.built.cell l.built.used l.area l.nodes
+    RowsSoFar l.exprs.texts.catalog.now l.exprs.texts.statement.now l.exprs.table.now l.parts l.initial.area l.k l.initial.nodes l.i l.built.cell l.built.used l.area l.nodes

@@ -4,4 +4,4 @@ use Rattle.build_project.proofs.hidden.put_columns.Given as goal
 
 abbrev pub invariant-loop-i : goal.invariant-loop-i
 invariant-loop-i l =
-    Putting l.positions l.n l.initial.area l.area l.k l.initial.nodes l.nodes l.i l.j
+    Putting l.positions l.at.cell l.initial.area l.area l.at.used l.initial.nodes l.nodes l.i l.j

@@ -7,13 +7,13 @@ pub slice_bounds-project_items-end : goal.slice_bounds-project_items-end
 slice_bounds-project_items-end c = rows-length c.args.parts.now c.args.items.now c.item_rows.ensures
 
 pub project_items-requires : goal.project_items-requires
-project_items-requires c = matched-fit c.requires.items_ready c.is_matched.ensures c.requires.labels_value c.if-is_matched.true c.item_rows.ensures
+project_items-requires c = matched-fit c.requires.items_ready (λ e. rw c.view.ensures.matches at (c.is_matched.ensures e)) c.requires.labels_value c.if-is_matched.true c.item_rows.ensures
 
 pub returns-then-is_matched : goal.returns-then-is_matched
-returns-then-is_matched c = matched-projected c.requires.items_ready c.is_matched.ensures c.requires.labels_value c.item_rows.ensures c.project_items.ensures
+returns-then-is_matched c = matched-projected c.requires.items_ready (λ e. rw c.view.ensures.matches at (c.is_matched.ensures e)) c.requires.labels_value c.item_rows.ensures c.project_items.ensures
 
 pub project-requires : goal.project-requires
-project-requires c = plain-fit c.requires.items_ready c.is_matched.ensures c.requires.labels_value c.if-is_matched.false
+project-requires c = plain-fit c.requires.items_ready (λ e. rw c.view.ensures.matches at (c.is_matched.ensures e)) c.requires.labels_value c.if-is_matched.false
 
 pub returns : goal.returns
-returns c = plain-projected c.requires.items_ready c.is_matched.ensures c.requires.labels_value c.project.ensures
+returns c = plain-projected c.requires.items_ready (λ e. rw c.view.ensures.matches at (c.is_matched.ensures e)) c.requires.labels_value c.project.ensures

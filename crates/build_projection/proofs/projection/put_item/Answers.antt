@@ -7,7 +7,7 @@ use Rattle.build_projection.specs.Pushes.{put_refused, put_some, put-done}
 use Rattle.build_projection.proofs.projection.put_item.Goals as goal
 
 pub build_item-requires : goal.build_item-requires
-build_item-requires c = rw (c.item_row-row.ensures, ← item-tree c.args.catalog.now c.args.statement.now c.args.cells.now c.args.parts.now c.args.x) c.requires.room
+build_item-requires c = rw (c.item_row-row.ensures, ← item-tree c.args.exprs.now.texts.catalog.now c.args.exprs.now.texts.statement.now c.args.exprs.now.table.now c.args.parts.now c.args.x) c.requires.room
 
 pub overflow_sub-built : goal.overflow_sub-built
 overflow_sub-built c = let l = put_some _ _ c.item_row-row.ensures c.in_ok-built.ensures in omega arith
@@ -18,5 +18,5 @@ returns-in_err-built c = let p = err_from_is_err_and c.from_residual.result c.fr
 
 pub returns : goal.returns
 returns c = put-done _ _ c.item_row-row.ensures c.in_ok-built.ensures
-    (c.item-used.ensures (item_of c.args.catalog.now c.args.statement.now c.args.cells.now c.args.parts.now c.args.x).alias
-    (rw (c.alias_address.ensures, c.alias_length.ensures) (alias-span c.args.catalog.now c.args.statement.now c.args.cells.now c.args.parts.now c.args.x)))
+    (c.item-used.ensures (item_of c.args.exprs.now.texts.catalog.now c.args.exprs.now.texts.statement.now c.args.exprs.now.table.now c.args.parts.now c.args.x).alias
+    (rw (c.alias_address.ensures, c.alias_length.ensures) (alias-span c.args.exprs.now.texts.catalog.now c.args.exprs.now.texts.statement.now c.args.exprs.now.table.now c.args.parts.now c.args.x)))

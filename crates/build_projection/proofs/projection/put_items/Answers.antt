@@ -19,22 +19,22 @@ pub returns-in_err-part : goal.returns-in_err-part
 returns-in_err-part c = let p = err_from_is_err_and c.from_residual.result c.from_residual.ensures.1 in rw (p.1, p.2)
     (record {
       items_put = pushing-refused c.loop-i.invariant.0 c.loop-i-test.true
-          (used-put c.args.width c.args.matches.now c.used_matches-used.ensures c.in_err-part.ensures);
+          (used-put c.args.scope.now.matches.now c.used-used.ensures.matches (rw (c.used-used.ensures.labels, c.used-used.ensures.tables) at c.in_err-part.ensures));
       labelled = record { is = tt; kept = kept-part _ _ c.loop-i.invariant.2 c.loop-i.invariant.0.within (omega arith) };
     })
 
 pub item_label-requires : goal.item_label-requires
-item_label-requires c = record { used_value = c.used_matches-used.ensures; item_stands = stands-put (cells-before c.loop-i.invariant.0) (used-put c.args.width c.args.matches.now c.used_matches-used.ensures c.in_ok-part.ensures) }
+item_label-requires c = record { used_value = c.used-used.ensures.matches; item_stands = stands-put (cells-before c.loop-i.invariant.0) (used-put c.args.scope.now.matches.now c.used-used.ensures.matches (rw (c.used-used.ensures.labels, c.used-used.ensures.tables) at c.in_ok-part.ensures)) }
 
 pub bounds-projected-i : goal.bounds-projected-i
 bounds-projected-i c = omega (arith, c.requires.items_fit.few, c.loop-i-test.true, c.loop-i.invariant.1.room)
 
 pub loop-i-preserved : goal.loop-i-preserved
 loop-i-preserved c = (
-  pushing-more c.loop-i.invariant.0 c.loop-i-test.true (used-put c.args.width c.args.matches.now c.used_matches-used.ensures c.in_ok-part.ensures) c.put_item.auto.area,
-  copying-map (label_number c.args.catalog.now c.args.statement.now c.args.cells.now c.args.parts.now
-      (take c.args.width c.args.labels.now) (take c.args.width c.args.matches.now)
-      (take c.args.count c.args.tables.now)) c.args.items.now _ c.loop-i.invariant.1 (omega (arith, c.requires.items_fit.few, c.loop-i-test.true))
+  pushing-more c.loop-i.invariant.0 c.loop-i-test.true (used-put c.args.scope.now.matches.now c.used-used.ensures.matches (rw (c.used-used.ensures.labels, c.used-used.ensures.tables) at c.in_ok-part.ensures)) c.put_item.auto.area,
+  copying-map (label_number c.args.exprs.now.texts.catalog.now c.args.exprs.now.texts.statement.now c.args.exprs.now.table.now c.args.parts.now
+      c.args.scope.now.labels.now c.args.scope.now.matches.now
+      c.args.scope.now.tables.now) c.args.items.now _ c.loop-i.invariant.1 (omega (arith, c.requires.items_fit.few, c.loop-i-test.true))
       c.loop-i-test.true c.item_label.ensures,
   kept_next _ c.loop-i.invariant.2,
 )
@@ -52,9 +52,9 @@ pub returns : goal.returns
 returns c = record {
   items_put = pushing-end c.loop-i.invariant.0 c.loop-i-test.false;
   labelled = record {
-    is = stored c.loop-i.invariant.1 refl (length-map c.args.items.now (label_number c.args.catalog.now c.args.statement.now c.args.cells.now c.args.parts.now
-        (take c.args.width c.args.labels.now) (take c.args.width c.args.matches.now)
-        (take c.args.count c.args.tables.now))) c.loop-i.invariant.0.within c.loop-i-test.false;
+    is = stored c.loop-i.invariant.1 refl (length-map c.args.items.now (label_number c.args.exprs.now.texts.catalog.now c.args.exprs.now.texts.statement.now c.args.exprs.now.table.now c.args.parts.now
+        c.args.scope.now.labels.now c.args.scope.now.matches.now
+        c.args.scope.now.tables.now)) c.loop-i.invariant.0.within c.loop-i-test.false;
     kept = kept-part _ _ c.loop-i.invariant.2 c.loop-i.invariant.0.within (omega arith);
   };
 }

@@ -10,8 +10,8 @@ use Rattle.build_projection.proofs.projection.put_items.Given as goal
 
 abbrev pub invariant-loop-i : goal.invariant-loop-i
 invariant-loop-i l =
-    Pushing l.catalog l.statement l.cells l.parts (take l.width l.labels) (take l.width l.matches) (take l.count l.tables) l.items l.n l.initial.area l.area l.k
+    Pushing l.exprs.texts.catalog.now l.exprs.texts.statement.now l.exprs.table.now l.parts l.scope.labels.now l.scope.matches.now l.scope.tables.now l.items l.fn.at.cell l.initial.area l.area l.fn.at.used
     l.initial.nodes l.nodes l.i l.m l.j
-    × Copying [] 0 (map (label_number l.catalog l.statement l.cells l.parts (take l.width l.labels) (take l.width l.matches)
-    (take l.count l.tables)) l.items) l.i l.projected
+    × Copying [] 0 (map (label_number l.exprs.texts.catalog.now l.exprs.texts.statement.now l.exprs.table.now l.parts l.scope.labels.now l.scope.matches.now
+    l.scope.tables.now) l.items) l.i l.projected
     × Kept l.i most_columns l.initial.projected l.projected

@@ -4,4 +4,4 @@ use Rattle.build_projection.proofs.stars.put_column.Goals as goal
 
 pub returns : goal.returns
 returns c = c.put_starred.ensures
-    ∙ rw (c.address.ensures, c.size.ensures, c.address-2.ensures, c.size-2.ensures, c.table_of-t.ensures)
+    ∙ rw (c.place.ensures.address, c.place.ensures.length, c.place-2.ensures.address, c.place-2.ensures.length, c.table_of-t.ensures)

@@ -8,10 +8,10 @@ build_where-requires c = record { room = where-room c.requires c.clause_at-claus
 
 pub returns-in_err-filtered : goal.returns-in_err-filtered
 returns-in_err-filtered c = let p = err_from_is_err_and c.from_residual.result c.from_residual.ensures.1 in rw (p.1, p.2)
-    (λ h. where-stop h c.clause_at-clause.ensures (c.in_err-filtered.ensures.is _))
+    (λ h. where-stop h c.clause_at-clause.ensures ((rw (c.view.ensures.labels, c.view.ensures.matches, c.view.ensures.tables) at c.in_err-filtered.ensures).is _))
 
 pub select_groups-requires : goal.select_groups-requires
-select_groups-requires c = where-on c.requires c.clause_at-clause.ensures (c.in_ok-filtered.ensures.is _) c.first-items.ensures
+select_groups-requires c = where-on c.requires c.clause_at-clause.ensures ((rw (c.view.ensures.labels, c.view.ensures.matches, c.view.ensures.tables) at c.in_ok-filtered.ensures).is _) c.first-items.ensures
 
 pub returns : goal.returns
-returns c = λ h. where-goes h c.clause_at-clause.ensures (c.in_ok-filtered.ensures.is _) c.first-items.ensures c.select_groups.ensures
+returns c = λ h. where-goes h c.clause_at-clause.ensures ((rw (c.view.ensures.labels, c.view.ensures.matches, c.view.ensures.tables) at c.in_ok-filtered.ensures).is _) c.first-items.ensures c.select_groups.ensures

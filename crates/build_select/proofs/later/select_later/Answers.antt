@@ -8,22 +8,22 @@ build_having-requires c = record { room = having-room c.requires c.clause_at-cla
 
 pub returns-in_err-having : goal.returns-in_err-having
 returns-in_err-having c = let p = err_from_is_err_and c.from_residual.result c.from_residual.ensures.1 in rw (p.1, p.2)
-    (λ h. having-stop h c.clause_at-clause.ensures (c.in_err-having.ensures.is _))
+    (λ h. having-stop h c.clause_at-clause.ensures ((rw (c.view-view.ensures.labels, c.view-view.ensures.matches, c.view-view.ensures.tables) at c.in_err-having.ensures).is _))
 
 pub build_order-requires : goal.build_order-requires
 build_order-requires c = record {
   cells_len = c.requires.read.table;
-  room = order-room c.requires c.clause_at-clause.ensures (c.in_ok-having.ensures.is _);
-  follows = order-follows c.requires c.clause_at-clause.ensures (c.in_ok-having.ensures.is _);
+  room = order-room c.requires c.clause_at-clause.ensures ((rw (c.view-view.ensures.labels, c.view-view.ensures.matches, c.view-view.ensures.tables) at c.in_ok-having.ensures).is _);
+  follows = order-follows c.requires c.clause_at-clause.ensures ((rw (c.view-view.ensures.labels, c.view-view.ensures.matches, c.view-view.ensures.tables) at c.in_ok-having.ensures).is _);
 }
 
 pub returns-in_err-order : goal.returns-in_err-order
 returns-in_err-order c = let p = err_from_is_err_and c.from_residual-in_err-order.result c.from_residual-in_err-order.ensures.1 in rw (p.1, p.2)
-    (λ h. order-stop h c.clause_at-clause.ensures (c.in_ok-having.ensures.is _) (c.in_err-order.ensures.is _))
+    (λ h. order-stop h c.clause_at-clause.ensures ((rw (c.view-view.ensures.labels, c.view-view.ensures.matches, c.view-view.ensures.tables) at c.in_ok-having.ensures).is _) ((rw (c.view-view.ensures.labels, c.view-view.ensures.matches, c.view-view.ensures.tables) at c.in_err-order.ensures).is _))
 
 pub select_offset-requires : goal.select_offset-requires
-select_offset-requires c = order-state c.requires c.clause_at-clause.ensures (c.in_ok-having.ensures.is _) (c.in_ok-order.ensures.is _)
+select_offset-requires c = order-state c.requires c.clause_at-clause.ensures ((rw (c.view-view.ensures.labels, c.view-view.ensures.matches, c.view-view.ensures.tables) at c.in_ok-having.ensures).is _) ((rw (c.view-view.ensures.labels, c.view-view.ensures.matches, c.view-view.ensures.tables) at c.in_ok-order.ensures).is _)
 
 pub returns : goal.returns
-returns c = λ h. order-plans h c.clause_at-clause.ensures (c.in_ok-having.ensures.is _) (c.in_ok-order.ensures.is _)
-    (c.select_offset.ensures (order-state h c.clause_at-clause.ensures (c.in_ok-having.ensures.is _) (c.in_ok-order.ensures.is _)))
+returns c = λ h. order-plans h c.clause_at-clause.ensures ((rw (c.view-view.ensures.labels, c.view-view.ensures.matches, c.view-view.ensures.tables) at c.in_ok-having.ensures).is _) ((rw (c.view-view.ensures.labels, c.view-view.ensures.matches, c.view-view.ensures.tables) at c.in_ok-order.ensures).is _)
+    (c.select_offset.ensures (order-state h c.clause_at-clause.ensures ((rw (c.view-view.ensures.labels, c.view-view.ensures.matches, c.view-view.ensures.tables) at c.in_ok-having.ensures).is _) ((rw (c.view-view.ensures.labels, c.view-view.ensures.matches, c.view-view.ensures.tables) at c.in_ok-order.ensures).is _)))

@@ -14,19 +14,19 @@ finish-requires c = (
     arith,
     c.requires.free.nodes_room,
     table-end
-        c.args.catalog.now c.args.statement.now c.args.cells.now c.args.parts.now _ c.table.ensures _ c.in_ok-end.was,
+        c.args.exprs.now.texts.catalog.now c.args.exprs.now.texts.statement.now c.args.exprs.now.table.now c.args.parts.now _ c.table.ensures _ c.in_ok-end.was,
   ),
   omega (
     arith,
     c.table.ensures.kept,
-    table-end c.args.catalog.now c.args.statement.now c.args.cells.now c.args.parts.now _ c.table.ensures _ c.in_ok-end.was,
+    table-end c.args.exprs.now.texts.catalog.now c.args.exprs.now.texts.statement.now c.args.exprs.now.table.now c.args.parts.now _ c.table.ensures _ c.in_ok-end.was,
   ),
 )
 
 pub returns : goal.returns
-returns c = created c.args.catalog.now c.args.statement.now c.args.cells.now c.args.parts.now c.args.key c.table.ensures _ c.in_ok-end.was c.requires.free
+returns c = created c.args.exprs.now.texts.catalog.now c.args.exprs.now.texts.statement.now c.args.exprs.now.table.now c.args.parts.now c.args.key c.table.ensures _ c.in_ok-end.was c.requires.free
     c.finish.auto.area c.finish.ensures
 
 pub returns-in_err-end : goal.returns-in_err-end
-returns-in_err-end c = rw (exit c.from_residual.result c.from_residual.ensures.1) (not-created c.args.catalog.now c.args.statement.now c.args.cells.now c.args.parts.now c.args.key
+returns-in_err-end c = rw (exit c.from_residual.result c.from_residual.ensures.1) (not-created c.args.exprs.now.texts.catalog.now c.args.exprs.now.texts.statement.now c.args.exprs.now.table.now c.args.parts.now c.args.key
     c.table.ensures _ c.in_err-end.was refl)

@@ -8,16 +8,16 @@ pub columns-requires : goal.columns-requires
 columns-requires c = omega (
   arith,
   c.requires,
-  head-in-use c.args.catalog.now c.args.statement.now c.args.cells.now c.args.parts.now _ _ (c.count-count.ensures c.args.catalog.now c.args.statement.now c.args.cells.now)
-      (c.create-k.ensures (word c.args.catalog.now c.args.statement.now c.args.cells.now c.args.parts.now)
-      (word-span c.args.catalog.now c.args.statement.now c.args.parts.now _ _ _ c.name_address-a.ensures
+  head-in-use c.args.exprs.now.texts.catalog.now c.args.exprs.now.texts.statement.now c.args.exprs.now.table.now c.args.parts.now _ _ (c.count-count.ensures c.args.exprs.now.texts.catalog.now c.args.exprs.now.texts.statement.now c.args.exprs.now.table.now)
+      (c.create-k.ensures (word c.args.exprs.now.texts.catalog.now c.args.exprs.now.texts.statement.now c.args.exprs.now.table.now c.args.parts.now)
+      (word-span c.args.exprs.now.texts.catalog.now c.args.exprs.now.texts.statement.now c.args.parts.now _ _ _ c.name_address-a.ensures
       c.name_length.ensures c.length_at.ensures)),
   c.create-k.auto.nodes,
 )
 
 pub returns : goal.returns
-returns c = table-pushes c.args.catalog.now c.args.statement.now c.args.cells.now c.args.parts.now _ _ (c.count-count.ensures c.args.catalog.now c.args.statement.now c.args.cells.now)
-    (c.create-k.ensures (word c.args.catalog.now c.args.statement.now c.args.cells.now c.args.parts.now)
-    (word-span c.args.catalog.now c.args.statement.now c.args.parts.now _ _ _ c.name_address-a.ensures
+returns c = table-pushes c.args.exprs.now.texts.catalog.now c.args.exprs.now.texts.statement.now c.args.exprs.now.table.now c.args.parts.now _ _ (c.count-count.ensures c.args.exprs.now.texts.catalog.now c.args.exprs.now.texts.statement.now c.args.exprs.now.table.now)
+    (c.create-k.ensures (word c.args.exprs.now.texts.catalog.now c.args.exprs.now.texts.statement.now c.args.exprs.now.table.now c.args.parts.now)
+    (word-span c.args.exprs.now.texts.catalog.now c.args.exprs.now.texts.statement.now c.args.parts.now _ _ _ c.name_address-a.ensures
     c.name_length.ensures c.length_at.ensures))
     c.columns.ensures

@@ -10,20 +10,20 @@ loop-v-init c = λ h. so-far-none _ _ _ _ _ _ _ (omega (arith, c.requires.parts_
 
 pub write_set-requires : goal.write_set-requires
 write_set-requires c = record {
-  room = set_room _ _ _ (c.loop-v.invariant 0) _ (set_here_lem c.args.catalog.now c.args.statement.now c.args.cells.now c.args.parts.now _ _ c.entry_at-e.ensures
-      (omega (arith, c.loop-v-test.true, c.count-sets.ensures c.args.catalog.now c.args.statement.now c.args.cells.now))) c.requires.room;
+  room = set_room _ _ _ (c.loop-v.invariant 0) _ (set_here_lem c.args.exprs.now.texts.catalog.now c.args.exprs.now.texts.statement.now c.args.exprs.now.table.now c.args.parts.now _ _ c.entry_at-e.ensures
+      (omega (arith, c.loop-v-test.true, c.count-sets.ensures c.args.exprs.now.texts.catalog.now c.args.exprs.now.texts.statement.now c.args.exprs.now.table.now))) c.requires.room;
   set_size_in_bounds = number-room _ _ _ (c.loop-v.invariant 0) c.requires.parts_in_bounds
-      (omega (arith, c.loop-v-test.true, c.count-sets.ensures c.args.catalog.now c.args.statement.now c.args.cells.now, sets-length c.args.catalog.now c.args.statement.now c.args.cells.now c.args.parts.now));
+      (omega (arith, c.loop-v-test.true, c.count-sets.ensures c.args.exprs.now.texts.catalog.now c.args.exprs.now.texts.statement.now c.args.exprs.now.table.now, sets-length c.args.exprs.now.texts.catalog.now c.args.exprs.now.texts.statement.now c.args.exprs.now.table.now c.args.parts.now));
 }
 
 pub returns-in_err-written : goal.returns-in_err-written
-returns-in_err-written c = λ h. rw (exit c.from_residual.result c.from_residual.ensures.1) (so-far-stop _ _ _ (c.loop-v.invariant h) _ (set_here_lem c.args.catalog.now c.args.statement.now c.args.cells.now c.args.parts.now _ _ c.entry_at-e.ensures
-    (omega (arith, c.loop-v-test.true, c.count-sets.ensures c.args.catalog.now c.args.statement.now c.args.cells.now)))
+returns-in_err-written c = λ h. rw (exit c.from_residual.result c.from_residual.ensures.1) (so-far-stop _ _ _ (c.loop-v.invariant h) _ (set_here_lem c.args.exprs.now.texts.catalog.now c.args.exprs.now.texts.statement.now c.args.exprs.now.table.now c.args.parts.now _ _ c.entry_at-e.ensures
+    (omega (arith, c.loop-v-test.true, c.count-sets.ensures c.args.exprs.now.texts.catalog.now c.args.exprs.now.texts.statement.now c.args.exprs.now.table.now)))
     (c.write_set.ensures h) _ c.in_err-written.was)
 
 pub loop-v-preserved : goal.loop-v-preserved
-loop-v-preserved c = λ h. so-far-step _ _ _ (c.loop-v.invariant h) _ (set_here_lem c.args.catalog.now c.args.statement.now c.args.cells.now c.args.parts.now _ _ c.entry_at-e.ensures
-    (omega (arith, c.loop-v-test.true, c.count-sets.ensures c.args.catalog.now c.args.statement.now c.args.cells.now)))
+loop-v-preserved c = λ h. so-far-step _ _ _ (c.loop-v.invariant h) _ (set_here_lem c.args.exprs.now.texts.catalog.now c.args.exprs.now.texts.statement.now c.args.exprs.now.table.now c.args.parts.now _ _ c.entry_at-e.ensures
+    (omega (arith, c.loop-v-test.true, c.count-sets.ensures c.args.exprs.now.texts.catalog.now c.args.exprs.now.texts.statement.now c.args.exprs.now.table.now)))
     (c.write_set.ensures h) _ c.in_ok-written.was
 
 pub shape_of-area : goal.shape_of-area
@@ -34,4 +34,4 @@ shape_of-nodes c = nodes-kept _ _ _ (c.loop-v.invariant 0)
 
 pub returns : goal.returns
 returns c = λ h. so-far-all _ _ _ (c.loop-v.invariant h)
-    (omega (arith, c.loop-v-test.false, c.count-sets.ensures c.args.catalog.now c.args.statement.now c.args.cells.now, sets-length c.args.catalog.now c.args.statement.now c.args.cells.now c.args.parts.now))
+    (omega (arith, c.loop-v-test.false, c.count-sets.ensures c.args.exprs.now.texts.catalog.now c.args.exprs.now.texts.statement.now c.args.exprs.now.table.now, sets-length c.args.exprs.now.texts.catalog.now c.args.exprs.now.texts.statement.now c.args.exprs.now.table.now c.args.parts.now))

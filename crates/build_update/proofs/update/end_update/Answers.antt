@@ -9,36 +9,36 @@ use Rattle.build_update.specs.Updates.{update-head-room, sets-cells-room, sets-n
 use Rattle.build_update.proofs.update.end_update.Goals as goal
 
 pub update-j-requires : goal.update-j-requires
-update-j-requires c = update-head-room c.args.catalog.now c.args.statement.now c.args.tables.now c.args.i c.args.a c.args.n _ _ c.requires.free c.length_at.ensures c.scan-k.ensures
+update-j-requires c = update-head-room c.args.exprs.now.texts.catalog.now c.args.exprs.now.texts.statement.now c.args.tables.now c.args.i c.args.name.address c.args.name.length _ _ c.requires.free c.length_at.ensures c.scan-k.ensures
 
 pub write_sets-requires : goal.write_sets-requires
 write_sets-requires c = record {
-  room = sets-cells-room c.args.catalog.now c.args.statement.now c.args.tables.now c.args.i c.args.a c.args.n _ _ c.requires.free c.length_at.ensures c.scan-k.ensures
+  room = sets-cells-room c.args.exprs.now.texts.catalog.now c.args.exprs.now.texts.statement.now c.args.tables.now c.args.i c.args.name.address c.args.name.length _ _ c.requires.free c.length_at.ensures c.scan-k.ensures
       c.count-sets.result c.key-key.ensures c.update-j.ensures c.requires.few_sets;
-  parts_in_bounds = sets-numbers-room c.args.catalog.now c.args.statement.now c.args.tables.now c.args.i c.args.a c.args.n _ _ c.requires.free c.length_at.ensures c.scan-k.ensures
+  parts_in_bounds = sets-numbers-room c.args.exprs.now.texts.catalog.now c.args.exprs.now.texts.statement.now c.args.tables.now c.args.i c.args.name.address c.args.name.length _ _ c.requires.free c.length_at.ensures c.scan-k.ensures
       c.count-sets.result c.key-key.ensures c.update-j.ensures c.requires.few_sets;
 }
 
 pub finish-requires : goal.finish-requires
-finish-requires c = update-room c.args.catalog.now c.args.statement.now c.args.tables.now c.args.i c.args.a c.args.n _ _ c.requires.free c.length_at.ensures c.scan-k.ensures
+finish-requires c = update-room c.args.exprs.now.texts.catalog.now c.args.exprs.now.texts.statement.now c.args.tables.now c.args.i c.args.name.address c.args.name.length _ _ c.requires.free c.length_at.ensures c.scan-k.ensures
     c.count-sets.result c.key-key.ensures c.update-j.ensures c.requires.few_sets
-    (scope_at c.args.catalog.now c.args.statement.now c.args.cells.now
-    (take c.args.width c.args.labels.now) (take c.args.width c.args.matches.now) (take c.args.count c.args.names.now) 0)
-    (table_at c.args.catalog.now c.args.statement.now c.args.tables.now c.args.i).columns (c.count-sets.ensures c.args.catalog.now c.args.statement.now c.args.cells.now ∙ sym (sets-length c.args.catalog.now c.args.statement.now c.args.cells.now c.args.parts.now))
+    (scope_at c.args.exprs.now.texts.catalog.now c.args.exprs.now.texts.statement.now c.args.exprs.now.table.now
+    c.args.scope.now.labels.now c.args.scope.now.matches.now c.args.scope.now.tables.now 0)
+    (table_at c.args.exprs.now.texts.catalog.now c.args.exprs.now.texts.statement.now c.args.tables.now c.args.i).columns (c.count-sets.ensures c.args.exprs.now.texts.catalog.now c.args.exprs.now.texts.statement.now c.args.exprs.now.table.now ∙ sym (sets-length c.args.exprs.now.texts.catalog.now c.args.exprs.now.texts.statement.now c.args.exprs.now.table.now c.args.parts.now))
     (c.write_sets.ensures 0) _ c.in_ok-written.was
 
 pub returns : goal.returns
-returns c = λ h. update-ends c.args.catalog.now c.args.statement.now c.args.tables.now c.args.i c.args.a c.args.n _ _ c.requires.free c.length_at.ensures c.scan-k.ensures
+returns c = λ h. update-ends c.args.exprs.now.texts.catalog.now c.args.exprs.now.texts.statement.now c.args.tables.now c.args.i c.args.name.address c.args.name.length _ _ c.requires.free c.length_at.ensures c.scan-k.ensures
     c.count-sets.result c.key-key.ensures c.update-j.ensures c.requires.few_sets
-    (scope_at c.args.catalog.now c.args.statement.now c.args.cells.now
-    (take c.args.width c.args.labels.now) (take c.args.width c.args.matches.now) (take c.args.count c.args.names.now) h)
-    (table_at c.args.catalog.now c.args.statement.now c.args.tables.now c.args.i).columns (c.count-sets.ensures c.args.catalog.now c.args.statement.now c.args.cells.now ∙ sym (sets-length c.args.catalog.now c.args.statement.now c.args.cells.now c.args.parts.now))
+    (scope_at c.args.exprs.now.texts.catalog.now c.args.exprs.now.texts.statement.now c.args.exprs.now.table.now
+    c.args.scope.now.labels.now c.args.scope.now.matches.now c.args.scope.now.tables.now h)
+    (table_at c.args.exprs.now.texts.catalog.now c.args.exprs.now.texts.statement.now c.args.tables.now c.args.i).columns (c.count-sets.ensures c.args.exprs.now.texts.catalog.now c.args.exprs.now.texts.statement.now c.args.exprs.now.table.now ∙ sym (sets-length c.args.exprs.now.texts.catalog.now c.args.exprs.now.texts.statement.now c.args.exprs.now.table.now c.args.parts.now))
     (c.write_sets.ensures h) _ c.in_ok-written.was c.finish.auto.area c.finish.ensures
 
 pub returns-in_err-written : goal.returns-in_err-written
-returns-in_err-written c = λ h. rw (exit c.from_residual.result c.from_residual.ensures.1) (update-stops c.args.catalog.now c.args.statement.now c.args.tables.now c.args.i c.args.a c.args.n _ _ c.requires.free c.length_at.ensures c.scan-k.ensures
+returns-in_err-written c = λ h. rw (exit c.from_residual.result c.from_residual.ensures.1) (update-stops c.args.exprs.now.texts.catalog.now c.args.exprs.now.texts.statement.now c.args.tables.now c.args.i c.args.name.address c.args.name.length _ _ c.requires.free c.length_at.ensures c.scan-k.ensures
     c.count-sets.result c.key-key.ensures c.update-j.ensures c.requires.few_sets
-    (scope_at c.args.catalog.now c.args.statement.now c.args.cells.now
-    (take c.args.width c.args.labels.now) (take c.args.width c.args.matches.now) (take c.args.count c.args.names.now) h)
-    (table_at c.args.catalog.now c.args.statement.now c.args.tables.now c.args.i).columns (c.count-sets.ensures c.args.catalog.now c.args.statement.now c.args.cells.now ∙ sym (sets-length c.args.catalog.now c.args.statement.now c.args.cells.now c.args.parts.now))
+    (scope_at c.args.exprs.now.texts.catalog.now c.args.exprs.now.texts.statement.now c.args.exprs.now.table.now
+    c.args.scope.now.labels.now c.args.scope.now.matches.now c.args.scope.now.tables.now h)
+    (table_at c.args.exprs.now.texts.catalog.now c.args.exprs.now.texts.statement.now c.args.tables.now c.args.i).columns (c.count-sets.ensures c.args.exprs.now.texts.catalog.now c.args.exprs.now.texts.statement.now c.args.exprs.now.table.now ∙ sym (sets-length c.args.exprs.now.texts.catalog.now c.args.exprs.now.texts.statement.now c.args.exprs.now.table.now c.args.parts.now))
     (c.write_sets.ensures h) _ c.in_err-written.was)

@@ -22,17 +22,17 @@ loop-init t c = (
 
 pub returns-in_default : goal.returns-in_default
 returns-in_default t c = at_row _ _ _ _ _ (c.check_record-in_default.ensures _
-    (check-stop _ _ (operands_at c.args.table.now c.args.r - c.loop.counter) _ _ _ c.in_default.is c.check_constant-operand.ensures (omega (arith, c.operands-count.ensures))
+    (check-stop _ _ (operands_at c.args.exprs.now.table.now c.args.r - c.loop.counter) _ _ _ c.in_default.is c.check_constant-operand.ensures (omega (arith, c.operands-count.ensures))
     ∙ c.loop.invariant.2))
 
 pub loop-preserved : goal.loop-preserved
 loop-preserved t c = let here = c in rw c.next-p.ensures (
   omega arith,
   here.loop.invariant.1,
-  check-more _ _ (operands_at c.args.table.now c.args.r - c.loop.counter) _ _ (omega arith) _ c.in-Ok.is c.check_constant-operand.ensures (omega (arith, c.operands-count.ensures))
+  check-more _ _ (operands_at c.args.exprs.now.table.now c.args.r - c.loop.counter) _ _ (omega arith) _ c.in-Ok.is c.check_constant-operand.ensures (omega (arith, c.operands-count.ensures))
       ∙ here.loop.invariant.2,
 )
 
 pub returns : goal.returns
 returns t c = at_row _ _ _ _ _ (c.check_record-2.ensures _
-    (sym (check-end _ _ (operands_at c.args.table.now c.args.r - c.loop.counter) _ (omega (arith, c.operands-count.ensures))) ∙ c.loop.invariant.2))
+    (sym (check-end _ _ (operands_at c.args.exprs.now.table.now c.args.r - c.loop.counter) _ (omega (arith, c.operands-count.ensures))) ∙ c.loop.invariant.2))

@@ -13,11 +13,11 @@ returns-then-at-ne1 c = rw c.at-then-at-ne1.ensures (guard-refused _ UnknownFunc
 pub returns-then-holds_at : goal.returns-then-holds_at
 unfolding bytes
 returns-then-holds_at c = guard_passed _ _ _ (one_argument _ _ _ _ _ _ _ _ c.at.ensures c.if-at-ne1.false
-    c.at-a.ensures c.at-n.ensures c.holds_at.ensures
+    c.name.ensures.address c.name.ensures.length c.holds_at.ensures
     ∙ c.if-holds_at.true)
 
 pub returns : goal.returns
 unfolding reason_of bytes
 returns c = rw c.at-2.ensures (guard-refused _ UnknownFunction _ _ (one_argument _ _ _ _ _ _ _ _ c.at.ensures c.if-at-ne1.false
-    c.at-a.ensures c.at-n.ensures c.holds_at.ensures
+    c.name.ensures.address c.name.ensures.length c.holds_at.ensures
     ∙ c.if-holds_at.false) c.at-line.ensures)

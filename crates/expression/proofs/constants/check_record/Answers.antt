@@ -25,7 +25,7 @@ returns-in-Unary c = λ f h. h ∙ sym (record-operator f _ _ _ _ c.kind_of.ensu
 pub returns-in-Is : goal.returns-in-Is
 unfolding number_of
 returns-in-Is c = let given = c.args in
-    λ f h. ap checked_of c.and-in-Is.ensures ∙ first-and _ _ ∙ (λ i. first_of (h i) (c.check_is.ensures given.catalog.now given.statement.now i))
+    λ f h. ap checked_of c.and-in-Is.ensures ∙ first-and _ _ ∙ (λ i. first_of (h i) (c.check_is.ensures given.exprs.now.texts.catalog.now given.exprs.now.texts.statement.now i))
     ∙ sym (record_is f _ _ _ _ (kind_is c.kind_of.ensures c.in-Is.is))
 
 pub returns-in-Literal : goal.returns-in-Literal

@@ -23,11 +23,11 @@ pub returns-in_err-k : goal.returns-in_err-k
 unfolding bytes
 returns-in_err-k c = rw c.from_residual.ensures (table-key _ _ _ _ _ c.fields-f.ensures c.holds.ensures c.if-not-holds.false c.if-f-ne3.false (sym c.is_name.ensures ∙ c.if-not-is_name.false) c.in_err-k.ensures)
 
-pub overflow_cast-a : goal.overflow_cast-a
-overflow_cast-a c = record { fits = omega (arith, field-most _ _ _ c.fields-f.ensures c.requires 1 (omega (arith, c.if-f-ne3.false))) }
+pub overflow_cast-name : goal.overflow_cast-name
+overflow_cast-name c = record { fits = omega (arith, field-most _ _ _ c.fields-f.ensures c.requires 1 (omega (arith, c.if-f-ne3.false))) }
 
-pub overflow_cast-m : goal.overflow_cast-m
-overflow_cast-m c = record { fits = omega (arith, field-most _ _ _ c.fields-f.ensures c.requires 1 (omega (arith, c.if-f-ne3.false))) }
+pub overflow_cast-name-2 : goal.overflow_cast-name-2
+overflow_cast-name-2 c = record { fits = omega (arith, field-most _ _ _ c.fields-f.ensures c.requires 1 (omega (arith, c.if-f-ne3.false))) }
 
 pub returns-then-is_taken : goal.returns-then-is_taken
 unfolding bytes

@@ -6,5 +6,5 @@ use Rattle.scope.proofs.Scope.add_hidden.Goals as goal
 
 pub returns : goal.returns
 returns c = let s = c in
-    hidden-added s.args.catalog.now s.args.statement.now s.args.table.now _ s.requires refl
+    hidden-added s.args.exprs.now.texts.catalog.now s.args.exprs.now.texts.statement.now s.args.exprs.now.table.now _ s.requires refl
     (ap (set s.args.self.matches s.args.self.width) c.pass_match-passed.ensures) refl refl refl refl

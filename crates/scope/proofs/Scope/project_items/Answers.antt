@@ -23,5 +23,5 @@ loop-j-preserved c = let i = c.loop-j.invariant in (
 
 pub returns : goal.returns
 returns c = let i = c.loop-j.invariant in
-    items-projected c.args.catalog.now c.args.statement.now c.args.table.now _ c.requires
+    items-projected c.args.exprs.now.texts.catalog.now c.args.exprs.now.texts.statement.now c.args.exprs.now.table.now _ c.requires
     (overwritten (i.0 ∙ c.overwrite.ensures)) i.3 (search rules) c.loop-j-test.false i.1 refl i.2 refl

@@ -6,4 +6,4 @@ use Rattle.scope.proofs.Scope.project_items.Given as goal
 
 abbrev pub invariant-loop-j : goal.invariant-loop-j
 invariant-loop-j l = (l.self.labels ≡ l.initial.self.labels) × (l.self.tables ≡ l.initial.self.tables)
-    × (l.self.count ≡ l.initial.self.count) × Storing (tree_at l.catalog l.statement l.table) l.rows l.j l.self.matches
+    × (l.self.count ≡ l.initial.self.count) × Storing (tree_at l.exprs.texts.catalog.now l.exprs.texts.statement.now l.exprs.table.now) l.rows l.j l.self.matches

@@ -8,12 +8,12 @@ use Rattle.scope.proofs.expressions.label_of.Goals as goal
 
 pub returns-in-Column : goal.returns-in-Column
 returns-in-Column c = passed-column _ _ _ c.kind_of-k.ensures
-    c.name_address-a.ensures c.name_length-n.ensures
+    c.name-sought.ensures.address c.name-sought.ensures.length
     c.in-Column.is c.label_found.ensures
 
 pub returns-in-Qualified : goal.returns-in-Qualified
 returns-in-Qualified c = passed-qualified _ _ _ c.kind_of-k.ensures
-    c.name_address-a-in-Qualified.ensures c.name_length-n-in-Qualified.ensures
+    c.name-sought-in-Qualified.ensures.address c.name-sought-in-Qualified.ensures.length
     c.qualifier-place.ensures.address c.qualifier-place.ensures.length
     c.in-Qualified.is c.label_found-in-Qualified.ensures
 

@@ -6,4 +6,4 @@ use Rattle.scope.proofs.labels.has_name.Goals as goal
 
 pub returns : goal.returns
 unfolding same_name name_at word_at
-returns c = λ w e. rw (e, ← c.address.ensures, ← c.size.ensures) c.holds_at.ensures
+returns c = λ w e. rw (e, ← c.place.ensures.address, ← c.place.ensures.length) c.holds_at.ensures

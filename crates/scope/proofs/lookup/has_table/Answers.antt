@@ -10,6 +10,6 @@ use Rattle.scope.proofs.lookup.has_table.Goals as goal
 pub returns : goal.returns
 unfolding holds
 returns c = λ w e.
-    any_from_yields_List (λ x. same_name (name_at c.args.catalog.now c.args.statement.now x) w) _ _ _ c.any.ensures.ran
+    any_from_yields_List (λ x. same_name (name_at c.args.texts.now.catalog.now c.args.texts.now.statement.now x) w) _ _ _ c.any.ensures.ran
     (YieldsList-from_slice _ c.iter.ensures.rest) (λ x b q k. search (rules, tests, e))
-    ∙ holds-any c.args.catalog.now c.args.statement.now c.args.tables.now w
+    ∙ holds-any c.args.texts.now.catalog.now c.args.texts.now.statement.now c.args.tables.now w

@@ -3,13 +3,13 @@ use Rattle.scope.specs.Merging.{may-taken, may-wide, may-fit}
 use Rattle.scope.proofs.merging.may_merge.Goals as goal
 
 pub returns-then-shares_name : goal.returns-then-shares_name
-returns-then-shares_name c = may-taken _ _ c.first-ts.ensures c.first-us.ensures
+returns-then-shares_name c = may-taken _ _ _ _
     c.shares_name.ensures _ _ c.if-shares_name.true
 
-pub returns-then-width-other_width-gt-COLUMNS : goal.returns-then-width-other_width-gt-COLUMNS
-returns-then-width-other_width-gt-COLUMNS c = may-wide _ _ c.first-ts.ensures c.first-us.ensures
-    c.shares_name.ensures _ _ c.if-shares_name.false c.if-width-other_width-gt-COLUMNS.true
+pub returns-then-scope-other-gt-COLUMNS : goal.returns-then-scope-other-gt-COLUMNS
+returns-then-scope-other-gt-COLUMNS c = may-wide _ _ _ _
+    c.shares_name.ensures _ _ c.if-shares_name.false c.if-scope-other-gt-COLUMNS.true
 
 pub returns : goal.returns
-returns c = may-fit _ _ c.first-ts.ensures c.first-us.ensures
-    c.shares_name.ensures _ _ c.if-shares_name.false c.if-width-other_width-gt-COLUMNS.false
+returns c = may-fit _ _ _ _
+    c.shares_name.ensures _ _ c.if-shares_name.false c.if-scope-other-gt-COLUMNS.false

@@ -9,6 +9,6 @@ use Rattle.scope.proofs.merging.shares_name.Goals as goal
 pub returns : goal.returns
 unfolding holds sharing name_at
 returns c =
-    any_from_yields_List (λ y. holds c.args.catalog.now c.args.statement.now c.args.tables.now (name_at c.args.catalog.now c.args.statement.now y)) _ _ _
+    any_from_yields_List (λ y. holds c.args.texts.now.catalog.now c.args.texts.now.statement.now c.args.tables.now (name_at c.args.texts.now.catalog.now c.args.texts.now.statement.now y)) _ _ _
     c.any.ensures.ran (YieldsList-from_slice _ c.iter.ensures.rest) (λ x b q k. search (rules, tests))
     ∙ sharing-any _ _ _ _

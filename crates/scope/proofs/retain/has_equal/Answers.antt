@@ -11,7 +11,7 @@ use Rattle.scope.proofs.retain.has_equal.Goals as goal
 pub returns : goal.returns
 unfolding has_equal
 returns c =
-    let e = tree_at c.args.catalog.now c.args.statement.now c.args.table.now in
+    let e = tree_at c.args.exprs.now.texts.catalog.now c.args.exprs.now.texts.statement.now c.args.exprs.now.table.now in
     any_from_yields_List (λ k. equal (e k) (e c.args.r)) _ _ _ c.any.ensures.ran (YieldsList-from_slice _ c.iter.ensures.rest)
     (λ x b q k. search (rules, tests))
     ∙ any-is _ _

@@ -1,7 +1,6 @@
 -- `retain::retain`: the rows so far are kept, each expression once.
 use native.Mathlib.Omega.{arith}
-use borrow.Author.Rules.{rules}
-use Rattle.scope.specs.Retain.{retain-begin, retain-skip, retain-keep, retain-count, retain-rows}
+use Rattle.scope.specs.Retain.{retain-skip, retain-keep, retain-count, retain-rows}
 use Rattle.scope.proofs.retain.retain.Goals as goal
 use Rattle.scope.proofs.retain.retain.Goals.{then-not-has_equal, else-not-has_equal}
 

@@ -7,4 +7,4 @@ use Rattle.scope.proofs.retain.retain.Given as goal
 
 abbrev pub invariant-loop-r : goal.invariant-loop-r
 invariant-loop-r l = (l.n + length l.rows ≤ length l.initial.kept)
-    × Retaining (tree_at l.catalog l.statement l.table) l.rows l.initial.kept l.n l.r-index l.k l.kept
+    × Retaining (tree_at l.exprs.texts.catalog.now l.exprs.texts.statement.now l.exprs.table.now) l.rows l.initial.kept l.n l.r-index l.k l.kept

@@ -4,7 +4,7 @@ use mathlib.Core.Path.{◌≡◌}
 use Rattle.scope.specs.Labels.{columns_of}
 use Rattle.scope.specs.Search.{none-behind, behind-miss, behind-hit, behind-none}
 use Rattle.scope.specs.Endings.{ending-within}
-use Rattle.scope.proofs.lookup.last_qualified.Goals as goal
+use Rattle.scope.proofs.view.View.last_qualified.Goals as goal
 
 pub is_qualified-requires : goal.is_qualified-requires
 is_qualified-requires c = ending-within _ _ c.ending_of-ending.ensures

@@ -4,8 +4,8 @@ use Rattle.scope.specs.Labels.{columns_of}
 use Rattle.scope.specs.Search.{seek-begin, seek-miss, seek-first}
 use Rattle.scope.specs.Search.{seek-second, seek-none, seek-one, only_none, only_one}
 use Rattle.scope.specs.Endings.{ending-within}
-use Rattle.scope.proofs.lookup.only_named.Goals as goal
-use Rattle.scope.proofs.lookup.only_named.Goals.{then-is_named+else-is_some, else-is_named}
+use Rattle.scope.proofs.view.View.only_named.Goals as goal
+use Rattle.scope.proofs.view.View.only_named.Goals.{then-is_named+else-is_some, else-is_named}
 
 pub loop-i-init : goal.loop-i-init
 loop-i-init c = λ ts w e. seek-begin _ _ _ _

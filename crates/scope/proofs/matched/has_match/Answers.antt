@@ -1,9 +1,9 @@
--- `lookup::has_match`: a match that is not 0.
+-- `matched::has_match`: a match that is not 0.
 use Rattle.std.proofs.Common.{rules, tests, ◌∙◌, not, nat_eq}
 use Rattle.std.proofs.lemmas.Iterator.{YieldsList-from_slice}
 use Rattle.std.proofs.lemmas.Iterator.Search.{any_from_yields_List}
 use Rattle.scope.specs.UsedMatches.{some-match}
-use Rattle.scope.proofs.lookup.has_match.Goals as goal
+use Rattle.scope.proofs.matched.has_match.Goals as goal
 
 pub returns : goal.returns
 returns c =
