@@ -7,7 +7,7 @@ ghost use Rattle.numbers.specs.Bits.{signed};
 ghost use Rattle.listing.specs.Put.{Puts};
 ghost use Rattle.listing.specs.Fields.{Fields, FieldsIn};
 
-use text::places::{Place, bytes_at};
+use text::places::{Place, Texts};
 
 // A window, how many bytes there are from the next one to the window's end, and the two texts that addresses point into. Bytes
 // before the window, and those behind it, are passed over.
@@ -104,7 +104,11 @@ impl<'a> Writer<'a> {
     pub fn place(&mut self, place: Place)
         ensures { FieldsIn self.old self.new (λ c q. bytes_at c q place.address place.length ∷ []) }
     {
-        self.field(bytes_at(self.catalog, self.statement, place.address, place.length));
+        let texts = Texts {
+            catalog: self.catalog,
+            statement: self.statement,
+        };
+        self.field(texts.bytes_at(place));
     }
 }
 
