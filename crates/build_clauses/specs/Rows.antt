@@ -27,6 +27,10 @@ use Rattle.numbers.specs.Reasons.{reason_of, named-reason}
 use Rattle.numbers.specs.declared.refusals.Refusal.{Refusal}
 use Rattle.plan.specs.Layout.{cells_end}
 use Rattle.plan.specs.Appended.{Appended}
+use Rattle.plan.specs.Kinds.{node_number}
+use Rattle.plan.specs.Records.{rows_numbers}
+use Rattle.plan.specs.declared.nodes.Kind.{Kind}
+use Rattle.plan.specs.declared.nodes.Kind.TheVariants as N
 use Rattle.plan.specs.Steps.{refused-at, Stands, stands_one, Stepped, Steps, step-none, step-done, step-refused}
 
 -- a clause w that refuses by r what is no number of 0 or more, and makes of a number a node by f
@@ -39,6 +43,12 @@ OffsetBuilt = RowsBuilt invalid_offset (λ y d. P.offset d y)
 
 abbrev pub LimitBuilt : Bytes → Bytes → List ℕ → Option Clause → ℕ → ℕ → ℕ → List ℕ → List ℕ → Stepped → Type 0
 LimitBuilt = RowsBuilt invalid_limit (λ y d. P.limit d y)
+
+-- f makes of a source a node of a kind for a number of rows, and v is its record
+pub record RowsNode (kind : Kind) (f : ℕ → Node Built → Node Built) (v : ℕ → ℕ → NodeRecord) : Type 0 where
+  pub numbers : (s y : ℕ) → record_numbers (v s y) ≡ rows_numbers (node_number kind) s y
+  pub lays : (d : Node Built) (cs : List Cell) (rs : List NodeRecord) (n m : ℕ) → Lays 0 0 d cs rs n m → (y : ℕ)
+      → Lays 0 0 (f y d) cs (rs ++ (v (pred m) y ∷ [])) n (m + 1)
 
 -- a record and no cell behind the n-th
 pub stands-record : (v : NodeRecord) (n : ℕ) (area : List ℕ) {k j : ℕ} {nodes nodes' : List ℕ}
@@ -91,36 +101,27 @@ module _ (r : Reason) (f : ℕ → Node Built → Node Built) {c q : Bytes} {t :
           (rows_told r f clause told d ∙ bind-refused _ _ _ (ap (answered (λ y. y)) g)) (sym (named-reason v.reason)) refl);
     })
 
-    rows-number : (v : ℕ → ℕ → NodeRecord)
-        → ((d : Node Built) (cs : List Cell) (rs : List NodeRecord) → Lays 0 0 d cs rs n m → (y : ℕ)
-        → Lays 0 0 (f y d) cs (rs ++ (v (pred m) y ∷ [])) n (m + 1))
-        → (y : ℕ) → x ≡ Ok y → {j : ℕ} {nodes' : List ℕ} → Appended (record_numbers (v (m - 1) y)) k nodes j nodes'
-        → RowsBuilt r f c q t w n m k nodes nodes'
-        (Ok (record { cell = n; node = m + 1; used = j }))
+    pub rows-number : (v : ℕ → ℕ → NodeRecord) {kind : Kind} → RowsNode kind f v → (y : ℕ) → x ≡ Ok y → {j : ℕ} {nodes' : List ℕ}
+        → Appended (rows_numbers (node_number kind) (m - 1) y) k nodes j nodes'
+        → RowsBuilt r f c q t w n m k nodes nodes' (Ok (record { cell = n; node = m + 1; used = j }))
     unfolding answered
-    rows-number v lays y g a = rw e (record {
+    rows-number v {kind} made y g {j} {nodes'} a = rw e (record {
       is = λ area. step-done refl a.all (record {
         cells = [];
         records = v (pred m) y ∷ [];
         lies = λ d cs rs h. record {
           node = f y d;
           answer = rows_told r f clause told d ∙ bind_ok _ _ y (ap (answered (λ y. y)) g);
-          lays = rw (append-nil cs) (lays d cs rs h y);
+          lays = rw (append-nil cs) (made.lays d cs rs n m h y);
         };
-        stands = stands-record (v (pred m) y) n area (rw (← sub-one m) a);
+        stands = stands-record (v (pred m) y) n area (rw (made.numbers, ← sub-one m) a);
       });
     })
 
-module _ {c q : Bytes} {t : List ℕ} {w : Option Clause} {n m k : ℕ} {nodes : List ℕ} (clause : Clause) (e : w ≡ Some clause)
-    {x : Result ℕ Refusal} {j : ℕ} {nodes' : List ℕ} where
-  pub offset-number : Counted invalid_offset clause.line c q t clause.row x → (y : ℕ) → x ≡ Ok y → Appended (record_numbers (offset (m - 1) y)) k nodes j nodes'
-      → OffsetBuilt c q t w n m k nodes nodes'
-      (Ok (record { cell = n; node = m + 1; used = j }))
-  offset-number told y g a = rows-number invalid_offset (λ z d. P.offset d z) clause e told offset
-      (λ d cs rs h z. lays-offset 0 0 d cs rs n m h z) y g a
+pub offset-node : RowsNode N.Offset (λ y d. P.offset d y) offset
+unfolding rows_numbers record_numbers
+offset-node = record { numbers = λ s y. refl; lays = λ d cs rs n m h y. lays-offset 0 0 d cs rs n m h y }
 
-  pub limit-number : Counted invalid_limit clause.line c q t clause.row x → (y : ℕ) → x ≡ Ok y → Appended (record_numbers (limit (m - 1) y)) k nodes j nodes'
-      → LimitBuilt c q t w n m k nodes nodes'
-      (Ok (record { cell = n; node = m + 1; used = j }))
-  limit-number told y g a = rows-number invalid_limit (λ z d. P.limit d z) clause e told limit
-      (λ d cs rs h z. lays-limit 0 0 d cs rs n m h z) y g a
+pub limit-node : RowsNode N.Limit (λ y d. P.limit d y) limit
+unfolding rows_numbers record_numbers
+limit-node = record { numbers = λ s y. refl; lays = λ d cs rs n m h y. lays-limit 0 0 d cs rs n m h y }

@@ -1,8 +1,11 @@
 // OFFSET and LIMIT: a number of rows behind the node before it. They add no cell.
+ghost use Rattle.std.specs.Prelude.{ℕ};
+ghost use Rattle.rules.specs.Nodes.{NodeRecord};
+ghost use Rattle.rules.specs.Plan.{Built, Node};
 ghost use Rattle.numbers.specs.Reasons.{reason_of};
 ghost use Rattle.plan.specs.Layout.{rows_size};
 ghost use Rattle.build_clauses.specs.Follows.{Follows};
-ghost use Rattle.build_clauses.specs.Rows.{Counted, OffsetBuilt, LimitBuilt};
+ghost use Rattle.build_clauses.specs.Rows.{Counted, RowsNode, RowsBuilt, OffsetBuilt, LimitBuilt};
 
 use ast::Expressions;
 use expression::constants::build_constant_value;
@@ -21,6 +24,33 @@ fn row_count(exprs: &Expressions, r: usize, invalid: Refusal) -> Result<u64, Ref
     to_natural(constant).ok_or(invalid)
 }
 
+// A node of a kind for the clause's number of rows, which is refused by a reason where it is none.
+fn build_rows(
+    exprs: &Expressions,
+    clause: Option<Clause>,
+    kind: Kind,
+    reason: Reason,
+    nodes: &mut [u32],
+    at: Step,
+) -> Result<Step, Refusal>
+    requires { Follows rows_size at.node at.used nodes.old }
+    ensures { (f : ℕ → Node Built → Node Built) (v : ℕ → ℕ → NodeRecord) → RowsNode kind f v
+        → RowsBuilt (reason_of reason) f
+        exprs.now.texts.catalog.now exprs.now.texts.statement.now exprs.now.table.now
+        clause at.cell at.node at.used nodes.old nodes.new result }
+{
+    let Some(clause) = clause else {
+        return Ok(at);
+    };
+    let count = row_count(exprs, clause.row, reason.at(clause.line))?;
+    let used = rows(nodes, at.used, kind, at.node - 1, count);
+    Ok(Step {
+        cell: at.cell,
+        node: at.node + 1,
+        used,
+    })
+}
+
 // All rows but the first ones.
 pub fn build_offset(
     exprs: &Expressions,
@@ -32,17 +62,14 @@ pub fn build_offset(
     ensures { OffsetBuilt exprs.now.texts.catalog.now exprs.now.texts.statement.now exprs.now.table.now clause at.cell at.node at.used
         nodes.old nodes.new result }
 {
-    let Some(clause) = clause else {
-        return Ok(at);
-    };
-    let invalid = Reason::InvalidOffset.at(clause.line);
-    let z = row_count(exprs, clause.row, invalid)?;
-    let used = rows(nodes, at.used, Kind::Offset, at.node - 1, z);
-    Ok(Step {
-        cell: at.cell,
-        node: at.node + 1,
-        used,
-    })
+    build_rows(
+        exprs,
+        clause,
+        Kind::Offset,
+        Reason::InvalidOffset,
+        nodes,
+        at,
+    )
 }
 
 // The first rows.
@@ -56,15 +83,5 @@ pub fn build_limit(
     ensures { LimitBuilt exprs.now.texts.catalog.now exprs.now.texts.statement.now exprs.now.table.now clause at.cell at.node at.used
         nodes.old nodes.new result }
 {
-    let Some(clause) = clause else {
-        return Ok(at);
-    };
-    let invalid = Reason::InvalidLimit.at(clause.line);
-    let z = row_count(exprs, clause.row, invalid)?;
-    let used = rows(nodes, at.used, Kind::Limit, at.node - 1, z);
-    Ok(Step {
-        cell: at.cell,
-        node: at.node + 1,
-        used,
-    })
+    build_rows(exprs, clause, Kind::Limit, Reason::InvalidLimit, nodes, at)
 }

@@ -1,21 +1,8 @@
--- `rows::build_offset`: nothing, an offset, or a refusal.
-use Rattle.std.proofs.Common.{arith}
-use Rattle.std.proofs.lemmas.Result.{err_from_is_err_and}
-use Rattle.build_clauses.specs.Rows.{rows-missing, rows-refused, offset-number, counted-by}
-use Rattle.rules.specs.Plan as P
-use Rattle.rules.specs.Refusals.{invalid_offset}
-use Rattle.plan.specs.Records.{rows-offset}
+-- `rows::build_offset`: an offset's node.
 use Rattle.numbers.specs.Reasons.{reason_of}
+use Rattle.build_clauses.specs.Rows.{offset-node}
 use Rattle.build_clauses.proofs.rows.build_offset.Goals as goal
-
-pub returns-in_default : goal.returns-in_default
-returns-in_default c = rows-missing invalid_offset (λ y d. P.offset d y) c.in_default.is (omega (arith, c.requires.room))
-
-pub returns-in_err-z : goal.returns-in_err-z
-unfolding reason_of
-returns-in_err-z c = let p = err_from_is_err_and c.from_residual.result c.from_residual.ensures.1 in
-    rw (p.1, p.2) (rows-refused invalid_offset (λ y d. P.offset d y) _ c.in-Some.is (counted-by _ _ c.at-invalid.ensures c.row_count.ensures) _ c.in_err-z.was)
 
 pub returns : goal.returns
 unfolding reason_of
-returns c = offset-number _ c.in-Some.is (counted-by _ _ c.at-invalid.ensures c.row_count.ensures) _ c.in_ok-z.was (rows-offset _ _ c.rows-used.ensures)
+returns c = c.build_rows.ensures _ _ offset-node
