@@ -3,17 +3,27 @@ ghost use Rattle.std.specs.Prelude.{◌≡◌, take, drop};
 ghost use Rattle.rules.specs.Lists.{named};
 ghost use Rattle.rules.specs.Places.{bytes_at};
 ghost use Rattle.rules.specs.BuildAggregate.{aggregates};
-ghost use Rattle.ast.specs.Aggregates.{named_of};
+ghost use Rattle.rules.specs.Area.{aggregate_code};
+ghost use Rattle.ast.specs.Aggregates.{aggregate_of, named_of};
 
 use text::places::{Place, Texts};
 
 #[derive(Clone, Copy, Debug, PartialEq, Eq)]
 pub enum Aggregate {
-    Avg,
+    Avg = 1,
     Count,
     Max,
     Min,
     Sum,
+}
+
+impl Aggregate {
+    // Its number in the plan (docs/PLAN.md).
+    pub fn code(self) -> u32
+        ensures { result ≡ aggregate_code (aggregate_of self) }
+    {
+        self as u32
+    }
 }
 
 // Which aggregate the n bytes at a of a text name.

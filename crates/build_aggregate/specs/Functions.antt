@@ -14,7 +14,6 @@ use Rattle.rules.specs.Schema.{bool}
 use Rattle.rules.specs.Ast.{Expr, star, column, literal, call, unary, binary, is, nil, cons, size, size_all}
 use Rattle.rules.specs.Views.{as_star, as_call}
 use Rattle.rules.specs.Plan.{Aggregate, avg, count, max, min, sum}
-use Rattle.rules.specs.Area.{aggregate_code}
 use Rattle.rules.specs.Cells.{Cell, cells}
 use Rattle.rules.specs.Cells as C
 use Rattle.rules.specs.Scope.{Scope}
@@ -30,8 +29,9 @@ use Rattle.ast.specs.Operands.{kind_of, kind_at, kind-at, tree-at, operands-insi
 use Rattle.ast.specs.Row as row
 use Rattle.ast.specs.Row.{line_at, row_name, first_operand, number_of, call-row}
 use Rattle.ast.specs.Aggregates as names
-use Rattle.ast.specs.Aggregates.{named_of}
+use Rattle.ast.specs.Aggregates.{aggregate_of, named_of}
 use Rattle.ast.specs.declared.aggregates.Aggregate as A
+use Rattle.ast.specs.declared.aggregates.Aggregate.TheVariants as AV
 use Rattle.ast.specs.declared.row.Kind.TheVariants as K
 use Rattle.plan.specs.Cells.{Room, room-less, Puts}
 use Rattle.plan.specs.Emits.{Emitting, Written, Emits, accepts, refuses, emits-same}
@@ -111,22 +111,6 @@ unfolding named_of
 calls-none c q t r x e f = sym e ∙ rw f
 
 -- THE STAR
-not-count : (g : Aggregate) (k : ℕ) → k ≡ aggregate_code g → (k ≡ 2 → ⊥) → is_count g ≡ false
-unfolding is_count aggregate_code
-not-count avg k e h = refl
-not-count count k e h = absurd (h e)
-not-count max k e h = refl
-not-count min k e h = refl
-not-count sum k e h = refl
-
-is-count : (g : Aggregate) (k : ℕ) → k ≡ aggregate_code g → k ≡ 2 → g ≡ count
-unfolding aggregate_code
-is-count avg k e h = absurd (omega arith)
-is-count count k e h = refl
-is-count max k e h = absurd (omega arith)
-is-count min k e h = absurd (omega arith)
-is-count sum k e h = absurd (omega arith)
-
 star-kind : (e : Expr) → is_some (as_star e) ≡ eqb (kind_of e) 1
 unfolding kind_of as_star is_some
 star-kind (star l) = refl
@@ -141,15 +125,17 @@ star-kind (is l a v) = refl
 kind-of : (c q : Bytes) (t : List ℕ) (r : ℕ) → kind_of (tree_at c q t r) ≡ kind_at t r
 kind-of c q t r = ap kind_of (tree-at c q t r) ∙ kind-at (tree_at c q t) c q t r
 
-pub starred-not : (g : Aggregate) (k : ℕ) (e : Expr) → k ≡ aggregate_code g → (k ≡ 2 → ⊥) → false ≡ starred g e
-unfolding starred
-starred-not g k e h f = rw (not-count g k h f)
+pub starred-not : (a : A.Aggregate) (e : Expr) → (a ≡ AV.Count → ⊥) → false ≡ starred (names.aggregate_of a) e
+unfolding starred is_count aggregate_of
+starred-not AV.Avg e h = refl
+starred-not AV.Count e h = absurd (h refl)
+starred-not AV.Max e h = refl
+starred-not AV.Min e h = refl
+starred-not AV.Sum e h = refl
 
-pub starred-kind : (g : Aggregate) (k : ℕ) (c q : Bytes) (t : List ℕ) (r x : ℕ) → k ≡ aggregate_code g → k ≡ 2
-    → x ≡ kind_at t r → eqb x 1 ≡ starred g (tree_at c q t r)
+pub starred-kind : (c q : Bytes) (t : List ℕ) (r : ℕ) → eqb (kind_at t r) 1 ≡ starred count (tree_at c q t r)
 unfolding starred is_count
-starred-kind g k c q t r x h f e =
-    rw (is-count g k h f, star-kind (tree_at c q t r), kind-of c q t r, e)
+starred-kind c q t r = rw (star-kind (tree_at c q t r), kind-of c q t r)
 
 counted-star : (s : Scope) (n : ℕ) (g : Aggregate) (e : Expr) → starred g e ≡ true
     → emit_operand s n g e ≡ ok (C.constant (bool true) ∷ [], n + 1)

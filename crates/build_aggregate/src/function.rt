@@ -2,7 +2,6 @@
 ghost use Rattle.std.specs.Prelude.{◌≡◌, ◌*◌, take};
 ghost use Rattle.rules.specs.Lists.{Bytes};
 ghost use Rattle.rules.specs.Ast.{size};
-ghost use Rattle.rules.specs.Area.{aggregate_code};
 ghost use Rattle.ast.specs.Table.{tree_at};
 ghost use Rattle.ast.specs.Expressions.{tree_in};
 ghost use Rattle.ast.specs.Aggregates.{aggregate_of, named_of};
@@ -10,7 +9,8 @@ ghost use Rattle.plan.specs.Cells.{Room};
 ghost use Rattle.build_aggregate.specs.Functions.{called_of, Calls, starred, OperandBuilds, FunctionBuilds};
 
 use ast::aggregates::{Aggregate, is_aggregate};
-use ast::{Expressions, row, rows, walk};
+use ast::row::Kind;
+use ast::{Expressions, row, walk};
 use build_expression::build_expression;
 use numbers::literals::{Literal, LiteralKind};
 use numbers::refusals::{Reason, Refusal};
@@ -24,41 +24,25 @@ const TRUE: Literal = Literal {
     second: 0,
 };
 
-// The number of `count` in the plan.
-const COUNT: u32 = 2;
-
 // Which aggregate the record at row r calls, if any.
 pub fn called(exprs: &Expressions, r: usize) -> Option<Aggregate>
     ensures { named_of result
         ≡ called_of (tree_in exprs.now r) }
 {
-    if rows::kind(exprs.table, r) != rows::CALL {
+    if row::kind_of(exprs.table, r) != Kind::Call {
         return None;
     }
     is_aggregate(&exprs.texts, row::name(exprs.table, r))
-}
-
-// An aggregate's number in the plan.
-pub fn code(aggregate: Aggregate) -> u32
-    ensures { result ≡ aggregate_code (aggregate_of aggregate) }
-{
-    match aggregate {
-        Aggregate::Avg => 1,
-        Aggregate::Count => COUNT,
-        Aggregate::Max => 3,
-        Aggregate::Min => 4,
-        Aggregate::Sum => 5,
-    }
 }
 
 // Whether the record at row r is a star, and the aggregate takes one.
 fn takes_star(table: &[u32], r: usize, aggregate: Aggregate) -> bool
     ensures { (c q : Bytes) → result ≡ starred (aggregate_of aggregate) (tree_at c q table.now r) }
 {
-    if code(aggregate) != COUNT {
-        return false;
+    match aggregate {
+        Aggregate::Count => row::kind_of(table, r) == Kind::Star,
+        _ => false,
     }
-    rows::kind(table, r) == rows::STAR
 }
 
 // The argument at row r: the constant true for the star of `count`.

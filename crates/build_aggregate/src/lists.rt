@@ -9,7 +9,7 @@ ghost use Rattle.plan.specs.Cells.{Room};
 ghost use Rattle.build_aggregate.specs.Entries.{Adds, AddsAll};
 ghost use Rattle.build_aggregate.specs.Kinds.{groups_listing, functions_listing};
 
-use crate::function::{build_function, called, code};
+use crate::function::{build_function, called};
 use ast::{Expressions, row};
 use build_expression::build_expression;
 use numbers::refusals::{Reason, Refusal};
@@ -66,7 +66,7 @@ fn add_function(
         });
     };
     let m = build_function(exprs, r, scope, aggregate, area, at.cell)?;
-    function(nodes, at.used, code(aggregate), m - 1);
+    function(nodes, at.used, aggregate.code(), m - 1);
     Ok(m)
 }
 

@@ -57,13 +57,6 @@ sets-in-front (x ∷ xs) ys s i =
     ∙ sets-in-front xs ys (set s i x) (suc i)
 
 -- STORES ONE BY ONE
-pub four-stores : (s : List ℕ) (i a b c d : ℕ) → set (set (set (set s i a) (i + 1) b) (i + 2) c) (i + 3) d ≡ sets s i (a ∷ b ∷ c ∷ d ∷ [])
-four-stores s i a b c d =
-    let e₁ : i + 1 ≡ suc i = omega arith in
-    let e₂ : i + 2 ≡ suc (suc i) = omega arith in
-    let e₃ : i + 3 ≡ suc (suc (suc i)) = omega arith in
-    rw (e₁, e₂, e₃)
-
 pub eight-stores : (s : List ℕ) (i k l n o a b c d : ℕ)
     → set (set (set (set (set (set (set (set s i k) (i + 1) l) (i + 2) n) (i + 3) o) (i + 4) a) (i + 5) b) (i + 6) c) (i + 7) d ≡ sets s i (k ∷ l ∷ n ∷ o ∷ a ∷ b ∷ c ∷ d ∷ [])
 eight-stores s i k l n o a b c d =

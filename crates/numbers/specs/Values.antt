@@ -1,17 +1,17 @@
 -- What stands as numbers, read back: a flag, a type, a literal, a default; and that each is the inverse of the rules' numbers
 -- (crate rules, Area).
-use Rattle.std.specs.Prelude.{ℕ, zero, suc, ◌+◌, ◌/◌, ◌%◌, ◌^◌, ◌<◌, ◌≡◌, Bool, true, false, eqb, length, get_or}
+use Rattle.std.specs.Prelude.{ℕ, zero, suc, ◌/◌, ◌%◌, ◌^◌, ◌≡◌, Bool, true, false, eqb, length}
 use Rattle.std.proofs.Common.{arith, sym, ap, ◌∙◌}
 use Rattle.std.proofs.Math.Path.{refl}
-use mathlib.Core.List.{List, [], ◌∷◌}
+use mathlib.Core.List.{[], ◌∷◌}
 use Rattle.std.proofs.Math.Option.{Option, none, some}
 use Rattle.rules.specs.Lists.{Bytes}
 use Rattle.rules.specs.Lines.{Word}
-use Rattle.rules.specs.Places.{bytes_at, word_at}
+use Rattle.rules.specs.Places.{word_at}
 use Rattle.rules.specs.Schema.{Value, null, bool, int, float, text, Datatype, boolean, integer, floating, string}
 use Rattle.rules.specs.Area.{halves, bits, flag, span, value_numbers, type_code, default_numbers}
-use Rattle.numbers.specs.Bits.{joined, signed, joined-halves, halves-joined, joined_small, bits-signed}
-use Rattle.numbers.specs.Codes.{Apart, coded, coded-at, coded-beside, coded-rest}
+use Rattle.numbers.specs.Bits.{joined, signed, joined-halves}
+use Rattle.numbers.specs.Codes.{coded}
 
 -- a flag
 unfoldable pub is_one : ℕ → Bool
@@ -43,45 +43,6 @@ value_at c q k a b = coded null (null ∷ bool (is_one a) ∷ int (signed (joine
 unfoldable pub default_of : Bytes → Bytes → ℕ → ℕ → ℕ → Option Value
 default_of c q zero a b = none
 default_of c q (suc k) a b = some (value_at c q (suc k) a b)
-
-module _ (c q : Bytes) (k a b : ℕ) where
-  abbrev values : List Value
-  values = bool (is_one a) ∷ int (signed (joined a b)) ∷ float (joined a b) ∷ text (word_at c q a b) ∷ []
-
-  pub value-arm : (j : ℕ) → k ≡ 2 + j → value_at c q k a b ≡ get_or values j null
-  unfolding value_at
-  value-arm j h = coded-at null (null ∷ values) (suc j) 1 k (h ∙ omega arith)
-
-  pub value-rest : Apart k 2 4 → value_at c q k a b ≡ null
-  unfolding value_at
-  value-rest h = coded-rest null values 1 k h
-
-  -- the numbers of the cell that a literal of a kind and two numbers becomes
-  abbrev null_cell : List ℕ
-  null_cell = 1 ∷ 0 ∷ 0 ∷ 0 ∷ []
-
-  abbrev cells : List (List ℕ)
-  cells = (2 ∷ flag (is_one a) ∷ 0 ∷ 0 ∷ []) ∷ (3 ∷ a ∷ b ∷ 0 ∷ []) ∷ (4 ∷ a ∷ b ∷ 0 ∷ []) ∷ (5 ∷ a ∷ length (bytes_at c q a b) ∷ 0 ∷ []) ∷ []
-
-  unfoldable pub cell_at : List ℕ
-  cell_at = coded null_cell (null_cell ∷ cells) 1 k
-
-  pub cell-arm : (j : ℕ) → k ≡ 2 + j → cell_at ≡ get_or cells j null_cell
-  unfolding cell_at
-  cell-arm j h = coded-at null_cell (null_cell ∷ cells) (suc j) 1 k (h ∙ omega arith)
-
-  pub cell-rest : Apart k 2 4 → cell_at ≡ null_cell
-  unfolding cell_at
-  cell-rest h = coded-rest null_cell cells 1 k h
-
-  -- they are the numbers themselves
-  pub value-numbers : a < 2 ^ 32 → b < 2 ^ 32 → value_numbers (value_at c q k a b) ≡ cell_at
-  unfolding value_at cell_at value_numbers span word_at
-  value-numbers h g =
-      let e : halves (joined a b) ≡ a ∷ b ∷ [] = halves-joined a b h in
-      let i : bits (signed (joined a b)) ≡ joined a b = bits-signed (joined a b) (joined_small a b h g) in
-      coded-beside (λ v xs. value_numbers v ≡ xs) null null_cell (null ∷ values) (null_cell ∷ cells) 1 k
-      refl (refl, (refl, (rw (i, e), (rw e, (refl, tt)))))
 
 -- a word is the one at its place in the catalog c or the statement q
 unfoldable pub WordFits : Bytes → Bytes → Word → Type 0

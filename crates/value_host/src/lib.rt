@@ -5,6 +5,7 @@ ghost use Rattle.std.specs.Prelude.{◌≡◌, ℕ};
 ghost use Rattle.rules.specs.Lists.{Bytes};
 ghost use Rattle.rules.specs.Schema as rule;
 ghost use Rattle.rules.specs.Operators.{is_of};
+ghost use Rattle.numbers.specs.Literals.{kind_number};
 ghost use Rattle.value.specs.Values.{value_of, worked_of, held};
 ghost use Rattle.value_host.specs.Numbers.{value_by, kind_of, bits_of, answer_of};
 ghost use Rattle.value_host.specs.Codes.{unary_worked, binary_worked};
@@ -47,16 +48,16 @@ fn value_at(kind: u32, n: u64) -> Value
     })
 }
 
-#[tactic(auto, unfolding(crate::specs::Numbers::kind_of, value::specs::Values::value_of))]
-fn kind_of(v: Value) -> u32
-    ensures { (c q : Bytes) → result ≡ kind_of (value_of c q v) }
+#[tactic(auto, unfolding(crate::specs::Numbers::kind_of, numbers::specs::Literals::kind_number, value::specs::Values::value_of))]
+fn kind_of(v: Value) -> LiteralKind
+    ensures { (c q : Bytes) → kind_number result ≡ kind_of (value_of c q v) }
 {
     match v {
-        Value::Null => 1,
-        Value::Bool(_) => 2,
-        Value::Int(_) => 3,
-        Value::Float(_) => 4,
-        Value::Text(_, _) => 5,
+        Value::Null => LiteralKind::Null,
+        Value::Bool(_) => LiteralKind::Bool,
+        Value::Int(_) => LiteralKind::Int,
+        Value::Float(_) => LiteralKind::Float,
+        Value::Text(_, _) => LiteralKind::Text,
     }
 }
 
@@ -80,7 +81,7 @@ fn answered(w: Result<Value, Reason>) -> Answer
     match w {
         Ok(v) => Answer {
             refusal: 0,
-            kind: kind_of(v),
+            kind: kind_of(v).number(),
             bits: bits_of(v),
         },
         Err(r) => Answer {
@@ -119,7 +120,15 @@ pub extern "C" fn value_unary(op: u32, kind: u32, n: u64) -> Answer
 
 // Kind k and bits m with kind l and bits n. Texts stand in the catalog's and the statement's bytes.
 #[unsafe(no_mangle)]
-pub extern "C" fn value_binary(catalog: &[u8], statement: &[u8], op: u32, k: u32, m: u64, l: u32, n: u64) -> Answer
+pub extern "C" fn value_binary(
+    catalog: &[u8],
+    statement: &[u8],
+    op: u32,
+    k: u32,
+    m: u64,
+    l: u32,
+    n: u64,
+) -> Answer
     ensures { result ≡ answer_of (binary_worked op (value_by catalog.now statement.now k m) (value_by catalog.now statement.now l n)) }
 {
     let a = value_at(k, m);

@@ -1,12 +1,18 @@
 -- `function::called`, by the kind of the record and its name.
-use mathlib.Core.Path.{sym, ◌∙◌}
+use Rattle.std.proofs.Common.{refl, sym, ◌∙◌}
+use borrow.Author.Tests.{eqb-false}
 use Rattle.ast.specs.Aggregates.{named_of}
+use Rattle.ast.specs.Row.{number_of}
+use Rattle.ast.specs.declared.row.Kind.TheVariants as K
+use Rattle.ast.proofs.KindNumbers.{same-kinds, one-kind, not-true}
 use Rattle.build_aggregate.specs.Functions.{called-none, called-some}
 use Rattle.build_aggregate.proofs.function.called.Goals as goal
 
-pub returns-then-kind-ne-CALL : goal.returns-then-kind-ne-CALL
-unfolding named_of
-returns-then-kind-ne-CALL c = called-none _ _ _ _ (λ e. c.if-kind-ne-CALL.true (c.kind.ensures ∙ e))
+pub returns-then-ne : goal.returns-then-ne
+unfolding named_of number_of
+returns-then-ne c = called-none _ _ _ _ (eqb-false _ _ (sym (same-kinds _ K.Call c.kind_of.ensures refl) ∙ not-true _ (sym c.ne.ensures ∙ c.if-ne.true)))
 
 pub returns : goal.returns
-returns c = called-some _ _ _ _ _ _ _ (sym c.kind.ensures ∙ c.if-kind-ne-CALL.false) c.name.ensures.address c.name.ensures.length c.is_aggregate.ensures
+unfolding number_of
+returns c = called-some _ _ _ _ _ _ _ (one-kind _ K.Call c.kind_of.ensures refl (sym c.ne.ensures ∙ c.if-ne.false))
+    c.name.ensures.address c.name.ensures.length c.is_aggregate.ensures

@@ -1,9 +1,15 @@
 -- `function::takes_star`, by the aggregate and the kind of the record.
+use Rattle.std.proofs.Common.{refl, ◌∙◌}
+use Rattle.ast.specs.Aggregates.{aggregate_of}
+use Rattle.ast.specs.Row.{number_of}
+use Rattle.ast.specs.declared.row.Kind.TheVariants as K
+use Rattle.ast.proofs.KindNumbers.{same-kinds}
 use Rattle.build_aggregate.specs.Functions.{starred-not, starred-kind}
 use Rattle.build_aggregate.proofs.function.takes_star.Goals as goal
 
-pub returns-then-code-ne-COUNT : goal.returns-then-code-ne-COUNT
-returns-then-code-ne-COUNT c = λ a b. starred-not _ _ _ c.code.ensures c.if-code-ne-COUNT.true
+pub returns-in-Count : goal.returns-in-Count
+unfolding aggregate_of number_of
+returns-in-Count c = λ a b. rw c.in-Count.is (c.eq.ensures ∙ same-kinds _ K.Star c.kind_of.ensures refl ∙ starred-kind a b _ _)
 
-pub returns : goal.returns
-returns c = λ a b. starred-kind _ _ a b _ _ _ c.code.ensures c.if-code-ne-COUNT.false c.kind.ensures
+pub returns-in_default : goal.returns-in_default
+returns-in_default c = λ a b. starred-not _ _ c.in_default.not-Count
