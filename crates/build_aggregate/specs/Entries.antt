@@ -56,7 +56,7 @@ gave-refused {D = D} {a = a} w h e = go a (sym e ∙ h.emits.answer)
   where
     go : (a : Answer (List Cell × D × ℕ)) → ◌≡◌ {A = Written} (Err w) (written_of (step_of a)) → RefusedWith a w
     go (ok p) g = absurd (let y : ◌≡◌ {A = ℕ} 0 1 = cc in omega arith)
-    go (refused v) g = record { why = v; is = refl; noted' = cc }
+    go (refused v) g = record { why = v; is = refl; refusal = cc }
 
 pub lists-refused : {D : Type 0} {num : D → List ℕ} {a : Answer (List Cell × D × ℕ)} {n k k' : ℕ}
     {area area' nodes nodes' : List ℕ} (w : Refusal) → RefusedWith a w → length area' ≡ length area
@@ -64,7 +64,7 @@ pub lists-refused : {D : Type 0} {num : D → List ℕ} {a : Answer (List Cell �
 unfolding step_of ◌>>=◌ written_of
 lists-refused {a = a} w r p q = record {
   emits = record {
-    answer = ap Err r.noted' ∙ sym (rw r.is);
+    answer = ap Err r.refusal ∙ sym (rw r.is);
     kept = p;
     cells = λ cs m e. ok-not-refused _ r.why (sym e ∙ rw r.is);
   };
@@ -150,7 +150,7 @@ module _ {B C : Type 0} (L : Listing B C) where
         let r = gave-refused w l d in
         record {
           why = r.why;
-          noted' = r.noted';
+          refusal = r.refusal;
           is = sym s.whole ∙ each-stop L.key L.mark (L.build h) (s.cells, s.entries, m) e rest r.why
               r.is;
         }

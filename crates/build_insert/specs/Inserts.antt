@@ -100,7 +100,7 @@ module _ {rs : List (List Expr)} {o : Option (List Mapping)} {area nodes : List 
     rows-refused c q a n b e =
         let v = was-refused values_node h b e in
         record {
-          is = λ ts d t g w u s. refused-at v.why h.kept (ap Err v.noted')
+          is = λ ts d t g w u s. refused-at v.why h.kept (ap Err v.refusal)
               (insert-rows ts d t g o u v.why (ap (emit_rows empty 0) s ∙ v.is));
         }
 
@@ -178,7 +178,7 @@ module _ (c q : Bytes) (tables cells parts : List ℕ) {area nodes : List ℕ}
       unfolding insert_of MapsAs named_by
       insert-map-refused y g =
           let w : RefusedWith (column_map t.columns (given_names c q cells parts)) y = rw g at p.is in
-          refused-at w.why refl (ap Err w.noted')
+          refused-at w.why refl (ap Err w.refusal)
           (insert-map (catalog_at c q tables) (insert_at c q cells parts) t has w.why w.is)
 
       module _ (m : std.Option ℕ) (g : x ≡ Ok m) where

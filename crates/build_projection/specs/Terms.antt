@@ -9,10 +9,10 @@ use Rattle.rules.specs.Items.{expand_stars, build_items}
 use Rattle.claims.specs.Answers.{All}
 use Rattle.claims.specs.Refused.Qualified.{IsQualified}
 use Rattle.ast.specs.Table.{row_size, statement_rows, table_size}
-use Rattle.numbers.specs.Reasons.{noted}
 use Rattle.numbers.specs.declared.refusals.Refusal.{Refusal}
 use Rattle.numbers.specs.Kept.{Kept}
 use Rattle.scope.specs.Labels.{columns_of}
+use Rattle.plan.specs.Emits.{result_by}
 use Rattle.sections.specs.Layout.{section_at}
 use Rattle.sections.specs.Access.{item_kind, group_kind, limit_kind}
 use Rattle.statement.specs.Layout.{map_entries, to_group}
@@ -36,8 +36,7 @@ counted is' = at_most most_columns (λ (i : Item). i.line) is' >>= λ u. ok is'
 
 -- how many an answer has
 unfoldable pub outcome_of : Answer (List Item) → Result ℕ Refusal
-outcome_of (ok is') = Ok (length is')
-outcome_of (refused w) = Err (noted w)
+outcome_of = result_by length
 
 -- what is answered; where it is accepted, the listed numbers are the items, and the statement's rows are as they were
 pub record Answers (c q : Bytes) (cells cells' parts items' : List ℕ) (a : Answer (List Item)) (r : Result ℕ Refusal) : Type 0 where

@@ -132,7 +132,7 @@ pub plans-refused : {a : Answer (Plan Built)} {w : Refusal} {area area' : List �
     → length area' ≡ length area → Plans a area area' (Err w)
 unfolding planned_of
 plans-refused h e = record {
-  answer = rw (h.noted', h.is);
+  answer = rw (h.refusal, h.is);
   kept = e;
   exit = λ p g. absurd (let f : ok p ≡ refused h.why = sym g ∙ h.is in let z : ◌≡◌ {A = ℕ} 0 1 = cc in omega arith);
 }

@@ -52,7 +52,7 @@ listed (refused w) n e = absurd (let z : ◌≡◌ {A = ℕ} 0 1 = cc in omega a
 not_listed : (a : Answer (List Item)) (x : Refusal) → ◌≡◌ {A = Result ℕ Refusal} (Err x) (outcome_of a) → RefusedWith a x
 unfolding outcome_of
 not_listed (ok xs) x e = absurd (let z : ◌≡◌ {A = ℕ} 0 1 = cc in omega arith)
-not_listed (refused w) x e = record { why = w; is = refl; noted' = cc }
+not_listed (refused w) x e = record { why = w; is = refl; refusal = cc }
 
 module _ {c q : Bytes} {cells parts : List ℕ} {scope : Scope} {n m k : ℕ} {area nodes : List ℕ}
     (h : FromState c q cells parts scope n m k area nodes) where

@@ -85,7 +85,7 @@ unfolding default_of map_answer
 failed (ok d) w h = ok-not-refused _ _ (sym h)
 failed (refused v) w h =
     let z : told statement w ≡ v = cc in
-    record { why = v; is = refl; noted' = sym (ap noted (sym z) ∙ rw (named-reason w.reason)) }
+    record { why = v; is = refl; refusal = sym (ap noted (sym z) ∙ rw (named-reason w.reason)) }
 
 module _ (c q : Bytes) (cells : List ℕ) (e : Entry) (n : Bool) (z : n ≡ nullable_of e) (r : Result (std.Option Literal) Refusal)
     (h : default_of r ≡ map_answer default_numbers (default_value n (given_of c q cells e))) where
@@ -223,7 +223,7 @@ module _ (c q : Bytes) (cells parts : List ℕ) where
         let b = was-refused (table_numbers word key) p w g in
         let z : with_key c q cells parts key ≡ refused b.why = bind-refused _ _ b.why b.is in
         record {
-          answer = ap Err b.noted' ∙ sym (ap planned_of z);
+          answer = ap Err b.refusal ∙ sym (ap planned_of z);
           kept = l;
           exit = λ d j. ok-not-refused d _ (sym j ∙ z);
         }

@@ -146,7 +146,7 @@ module _ (c q : Bytes) (tables cells parts : List ℕ) {area nodes : List ℕ}
       unfolding delete_of
       delete-refused v z =
           let p = emits-refused v built z in
-          refused-at p.why built.kept (ap Err p.noted')
+          refused-at p.why built.kept (ap Err p.refusal)
           (delete-where (catalog_at c q tables) (delete_at c q cells parts) t has p.why
           (not_taken (table_scope t) o p.why p.is))
 

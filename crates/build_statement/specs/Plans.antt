@@ -1,17 +1,16 @@
 -- The contracts of building a statement: what is known of the slices, and what a whole statement's answer and area are.
-use Rattle.std.specs.Prelude.{ℕ, ◌≤◌, ◌≡◌, List, length, Ok, Err}
-use Rattle.rules.specs.Refusals.{Answer, ok, refused}
+use Rattle.std.specs.Prelude.{ℕ, ◌≤◌, ◌≡◌, List, length}
+use Rattle.rules.specs.Refusals.{Answer, ok}
 use Rattle.rules.specs.Limits.{least_area}
 use Rattle.rules.specs.Lists.{Bytes}
 use Rattle.rules.specs.Plan.{Built, Plan}
 use Rattle.rules.specs.Cells.{plan_cells}
 use Rattle.rules.specs.Entry.{outcome}
 use Rattle.claims.specs.Within.{TextsWithin}
-use Rattle.numbers.specs.Reasons.{noted}
 use Rattle.schema.specs.Layout.{catalog_at}
 use Rattle.statement.specs.Layout.{statement_at}
 use Rattle.plan.specs.Layout.{nodes_size}
-use Rattle.plan.specs.Emits.{Written}
+use Rattle.plan.specs.Emits.{result_by, Written}
 
 -- the numbers stand for a catalog and a statement that were read from the texts c and q, and there is room for a plan
 pub record Ready (c q : Bytes) (tables cells froms parts area nodes : List ℕ) : Type 0 where
@@ -21,8 +20,7 @@ pub record Ready (c q : Bytes) (tables cells froms parts area nodes : List ℕ) 
 
 -- the number of cells, or the refusal
 unfoldable pub planned_of : Answer (Plan Built) → Written
-planned_of (ok p) = Ok (length (plan_cells p))
-planned_of (refused w) = Err (noted w)
+planned_of = result_by λ p. length (plan_cells p)
 
 -- r is the answer a; where it is a plan the area is the rules' area at exit, else its numbers are not determined
 pub record Plans (a : Answer (Plan Built)) (area area' : List ℕ) (r : Written) : Type 0 where

@@ -9,6 +9,7 @@ use Rattle.appends.specs.Answers.{ok-not-refused, ok_same}
 use Rattle.numbers.specs.Reasons.{noted}
 use Rattle.numbers.specs.declared.refusals.Refusal.{Refusal}
 use Rattle.plan.specs.Appended.{Appended}
+use Rattle.plan.specs.Emits.{result_by}
 use Rattle.plan.specs.Steps.{RefusedWith}
 
 -- how many numbers are in use, or the refusal
@@ -18,8 +19,7 @@ Pushed = Result ℕ Refusal
 module _ {A : Type 0} (f : A → List ℕ) where
   -- how many numbers are in use behind the k before, where x is given by the numbers f x
   unfoldable pub pushed_of : ℕ → Answer A → Pushed
-  pushed_of k (ok x) = Ok (k + length (f x))
-  pushed_of k (refused w) = Err (noted w)
+  pushed_of k = result_by λ x. k + length (f x)
 
   -- r is the answer a, whose numbers stand behind the k before where it is accepted; else they are not determined
   pub record Pushes (a : Answer A) (k : ℕ) (s s' : List ℕ) (r : Pushed) : Type 0 where
@@ -46,7 +46,7 @@ module _ {A : Type 0} (f : A → List ℕ) where
       → Pushes a k s s' (Err v)
   unfolding pushed_of
   pushes-refused {a} {k} w e = record {
-    answer = ap Err w.noted' ∙ sym (ap (pushed_of k) w.is);
+    answer = ap Err w.refusal ∙ sym (ap (pushed_of k) w.is);
     kept = e;
     numbers = λ y g. ok-not-refused _ _ (sym g ∙ w.is);
   }
@@ -79,4 +79,4 @@ module _ {A : Type 0} (f : A → List ℕ) where
             err-ok g = let z : ◌≡◌ {A = ℕ} 0 1 = cc in omega arith
         go (refused w) h =
             let z : ◌≡◌ {A = Pushed} (Err v) (Err (noted w)) = sym e ∙ p.answer ∙ ap (pushed_of k) h in
-            record { why = w; is = h; noted' = cc }
+            record { why = w; is = h; refusal = cc }

@@ -45,14 +45,14 @@ use Rattle.statement.specs.declared.access.Clause.{Clause}
 use Rattle.plan.specs.Layout.{cells_end, own_head, set_size, update_code, plan_size, most_plan_cells, nodes_size}
 use Rattle.plan.specs.Appended.{Appended}
 use Rattle.plan.specs.Cells.{Room}
-use Rattle.plan.specs.Emits.{Written, Emits, accepted}
+use Rattle.plan.specs.Emits.{result_by, Written, Emits, accepted}
 use Rattle.plan.specs.Own as O
 use Rattle.plan.specs.Own.{updating, update-whole}
 use Rattle.plan.specs.Finished.{finished}
 use Rattle.plan.specs.Steps.{emits-refused}
 use Rattle.plan.specs.Exit.{pieces, update-exit}
 use Rattle.plan.specs.declared.steps.Part.{Part}
-use Rattle.numbers.specs.Reasons.{named as named_reason, noted}
+use Rattle.numbers.specs.Reasons.{named as named_reason}
 use Rattle.numbers.specs.declared.refusals.Reason.TheVariants as Re
 use Rattle.numbers.specs.declared.refusals.Refusal.{Refusal}
 use Rattle.build_expression.specs.Builds.{scope_at}
@@ -73,8 +73,7 @@ pub record FewSets (m : ℕ) (xs : List Ast.Set) : Type 0 where
 
 -- the next cell behind the sets, or the refusal
 unfoldable pub end_of : Setting → Written
-end_of (ok p) = Ok p.2
-end_of (refused w) = Err (noted w)
+end_of = result_by λ p. p.2
 
 -- BEHIND THE FILTER: m cells stand in the area, and area' is the plan's, of the table t, where the sets' answer a is accepted
 pub record UpdateEnds (a : Setting) (t : Table) (m : ℕ) (area area' : List ℕ) (x : Written) : Type 0 where
@@ -139,7 +138,7 @@ module _ (c q : Bytes) (tables : List ℕ) (i a n l m : ℕ) {area nodes nodes�
         update-stops x e =
             let b = was-refused w x e in
             record {
-              answer = ap Err b.noted' ∙ sym (ap end_of b.is);
+              answer = ap Err b.refusal ∙ sym (ap end_of b.is);
               kept = w.area_kept;
               exit = λ p d. ok-not-refused _ _ (sym d ∙ b.is);
             }
@@ -230,7 +229,7 @@ module _ (c q : Bytes) (tables cells parts : List ℕ) {area nodes : List ℕ}
       unfolding update_of
       update-refused v z =
           let p = emits-refused v built z in
-          refused-at p.why built.kept (ap Err p.noted')
+          refused-at p.why built.kept (ap Err p.refusal)
           (U.update-where (catalog_at c q tables) (update_at c q cells parts) here has p.why
           (not_taken (table_scope here) o p.why p.is))
 

@@ -29,7 +29,7 @@ use Rattle.sections.specs.declared.entry.Entry.{Entry}
 use Rattle.statement.specs.EntryAccess.{name_start, word_of, given_of}
 use Rattle.plan.specs.Layout.{cells_end}
 use Rattle.plan.specs.Appended.{Appended}
-use Rattle.plan.specs.Emits.{Written, Emits, accepted}
+use Rattle.plan.specs.Emits.{result_by, Written, Emits, accepted}
 use Rattle.build_expression.specs.Builds.{scope_at}
 use Rattle.build_expression.specs.Positions.{position_of}
 use Rattle.plan.specs.Steps.{RefusedWith, refused-at, refused-on, emits-refused}
@@ -46,8 +46,7 @@ SetsWritten = Result Part Refusal
 
 -- of an answer behind the k numbers before
 unfoldable pub written_of : ℕ → Setting → SetsWritten
-written_of k (ok p) = Ok (record { cell = p.2; used = k + length (set_numbers p.1) })
-written_of k (refused w) = Err (noted w)
+written_of k = result_by λ p. record { cell = p.2; used = k + length (set_numbers p.1) }
 
 -- r is the answer a, whose cells stand from the n-th on and whose numbers behind the k before where it is accepted; else they
 -- are not determined
@@ -82,7 +81,7 @@ module _ {a : Setting} {n k : ℕ} {area area' nodes nodes' : List ℕ} where
       → Writes a n k area area' nodes nodes' (Err w)
   unfolding written_of
   writes-refused h e f = record {
-    answer = ap Err h.noted' ∙ sym (ap (written_of k) h.is);
+    answer = ap Err h.refusal ∙ sym (ap (written_of k) h.is);
     area_kept = e;
     nodes_kept = f;
     cells = λ p g. ok-not-refused _ _ (sym g ∙ h.is);
@@ -118,7 +117,7 @@ module _ {a : Setting} {n k : ℕ} {area area' nodes nodes' : List ℕ} where
             clash g = let z : ◌≡◌ {A = ℕ} 0 1 = cc in omega arith
         go (refused v) g =
             let z : ◌≡◌ {A = SetsWritten} (Err w) (Err (noted v)) = sym e ∙ h.answer ∙ ap (written_of k) g in
-            record { why = v; is = g; noted' = cc }
+            record { why = v; is = g; refusal = cc }
 
 -- ONE SET
 -- of an entry

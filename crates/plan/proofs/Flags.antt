@@ -5,6 +5,6 @@ use native.Mathlib.Omega.{arith}
 use mir.Val.{bool_byte}
 use Rattle.rules.specs.Area.{flag}
 
-pub byte-flag : (b : Bool) → bool_byte b ≡ flag b
+pub byte_flag : (b : Bool) → bool_byte b ≡ flag b
 unfolding flag
-byte-flag b = grind arith
+byte_flag b = grind arith

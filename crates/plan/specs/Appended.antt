@@ -1,6 +1,6 @@
 -- Numbers appended behind the k of a slice that are in use; what stands behind them is not said.
 use Rattle.std.specs.Prelude.{ℕ, suc, ◌+◌, ◌-◌, ◌≤◌, ◌≡◌, refl, List, [], ◌∷◌, ◌++◌, length, take, drop, set}
-use Rattle.std.proofs.Common.{arith, add-one, sym, ◌∙◌, append_assoc, append-nil, length-append, length-set, take_at, length-take-le}
+use Rattle.std.proofs.Common.{arith, sym, ◌∙◌, append_assoc, append-nil, length-append, length-set, take_at, length-take-le}
 use Rattle.std.proofs.lemmas.List.Edits.{sets, sets-eq}
 use Rattle.std.proofs.Math.Seq.{length-sets, take-set-lt}
 use Rattle.std.proofs.lemmas.List.{set_at}
@@ -44,10 +44,6 @@ appended-sets xs s k j e h =
       all = length-sets s k xs;
       numbers = rw (sets-eq xs s k (omega (arith, e, h))) (take_at (take k s ++ xs) (drop (k + length xs) s) j n);
     }
-
-pub appended-two : (x y k : ℕ) (s : List ℕ) → k + 2 ≤ length s
-    → Appended (x ∷ y ∷ []) k s (k + 2) (set (set s k x) (k + 1) y)
-appended-two x y k s h = rw (add-one k) (appended-sets (x ∷ y ∷ []) s k (k + 2) refl h)
 
 -- A COUNT: the place behind xs is given the number of those that stand behind it
 pub appended-count : (xs r : List ℕ) (y i at k : ℕ) (s t t' : List ℕ) → Appended (xs ++ (y ∷ r)) i s k t

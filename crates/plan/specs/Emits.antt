@@ -18,6 +18,11 @@ use Rattle.numbers.specs.declared.refusals.Refusal.{Refusal}
 pub exit : {T E : Type 0} (r : Result T E) {w : E} → IsErrAnd r (λ y. y ≡ w) → r ≡ Err w
 exit r h = let p = err_from_is_err_and r h in p.1 ∙ ap Err p.2
 
+-- an answer as the code has it: what f gives of the value, or the refusal
+abbrev pub result_by : {A B : Type 0} → (A → B) → Answer A → Result B Refusal
+result_by f (ok x) = Ok (f x)
+result_by f (refused w) = Err (noted w)
+
 -- cells and the next cell, or a refusal
 abbrev pub Emitting : Type 0
 Emitting = Answer (List Cell × ℕ)
@@ -27,8 +32,7 @@ abbrev pub Written : Type 0
 Written = Result ℕ Refusal
 
 unfoldable pub written_of : Emitting → Written
-written_of (ok p) = Ok p.1
-written_of (refused w) = Err (noted w)
+written_of = result_by λ p. p.1
 
 -- r is the answer a, whose cells stand from the n-th on where it is accepted; else the area's numbers are not determined
 pub record Emits (a : Emitting) (n : ℕ) (area area' : List ℕ) (r : Written) : Type 0 where

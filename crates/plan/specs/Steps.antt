@@ -2,8 +2,7 @@
 -- steps one after the other.
 use Rattle.std.specs.Prelude.{ℕ, ◌≤◌, ◌≡◌, refl, List, [], ◌∷◌, ◌++◌, length, take, Result, Ok, Err}
 use Rattle.std.proofs.Common.{arith, sym, ◌∙◌, append_assoc, append-nil}
-use Rattle.rules.specs.Refusals.{Reason, Refusal, refusal_number, Answer, ok, refused, refuse}
-use Rattle.rules.specs.Refusals as R
+use Rattle.rules.specs.Refusals.{Reason, Refusal, Answer, ok, refused, refuse}
 use Rattle.rules.specs.Lists.{concat}
 use Rattle.rules.specs.Plan.{Built, Node}
 use Rattle.rules.specs.Cells.{Cell}
@@ -23,54 +22,21 @@ use Rattle.plan.specs.Emits.{Emitting, Written, written_of, Emits}
 use Rattle.plan.specs.declared.steps.Step.{Step}
 
 -- REFUSALS
--- no refusal has the number 0
-pub refusal-some : (k : Reason) → 1 ≤ refusal_number k
-unfolding refusal_number
-refusal-some R.short_area = omega arith
-refusal-some R.wrong_record = omega arith
-refusal-some R.limit_passed = omega arith
-refusal-some R.other_statement = omega arith
-refusal-some R.unknown_table = omega arith
-refusal-some R.duplicate_table = omega arith
-refusal-some R.unknown_qualifier = omega arith
-refusal-some R.unknown_column = omega arith
-refusal-some R.ambiguous_column = omega arith
-refusal-some R.constant_only = omega arith
-refusal-some R.not_aggregated = omega arith
-refusal-some R.unsupported_star = omega arith
-refusal-some R.unknown_function = omega arith
-refusal-some R.argument_count = omega arith
-refusal-some R.nested_aggregate = omega arith
-refusal-some R.star_without_from = omega arith
-refusal-some R.having_without_aggregate = omega arith
-refusal-some R.invalid_offset = omega arith
-refusal-some R.invalid_limit = omega arith
-refusal-some R.no_primary_key = omega arith
-refusal-some R.multiple_primary_keys = omega arith
-refusal-some R.unknown_insert_column = omega arith
-refusal-some R.repeated_insert_column = omega arith
-refusal-some R.no_default = omega arith
-refusal-some R.integer_overflow = omega arith
-refusal-some R.division_by_zero = omega arith
-refusal-some R.wrong_operand = omega arith
-refusal-some R.not_worked_out = omega arith
-refusal-some R.invalid_is = omega arith
-
 -- a is refused, which the code has as w
 pub record RefusedWith {A : Type 0} (a : Answer A) (w : code.Refusal) : Type 0 where
   pub why : Refusal
   pub is : a ≡ refused why
-  pub noted' : w ≡ noted why
+  pub refusal : w ≡ noted why
 
 pub refused-at : {A : Type 0} {a : Answer A} (k : Reason) (l : ℕ) (x : reasons.Reason) (y : ℕ) → a ≡ refuse k l → x ≡ named k
     → y ≡ l → RefusedWith a (record { reason = x; line = y })
 unfolding refuse
-refused-at k l x y e f g = record { why = _; is = e; noted' = rw (f, g) }
+refused-at k l x y e f g = record { why = _; is = e; refusal = rw (f, g) }
 
 -- a refusal ends the whole
 pub refused-on : {A B : Type 0} {a : Answer A} {b : Answer B} {w : code.Refusal} → RefusedWith a w
     → ((v : Refusal) → a ≡ refused v → b ≡ refused v) → RefusedWith b w
-refused-on h f = record { why = h.why; is = f h.why h.is; noted' = h.noted' }
+refused-on h f = record { why = h.why; is = f h.why h.is; refusal = h.refusal }
 
 -- that of an expression
 pub emits-refused : {a : Emitting} {n : ℕ} {area area' : List ℕ} {r : Written} (w : code.Refusal) → Emits a n area area' r
@@ -80,7 +46,7 @@ emits-refused {a} {r = r} w h e = go a (sym e ∙ h.answer)
   where
     go : (b : Emitting) → ◌≡◌ {A = Written} (Err w) (written_of b) → RefusedWith b w
     go (ok p) g = absurd (let z : ◌≡◌ {A = ℕ} 0 1 = cc in omega arith)
-    go (refused v) g = record { why = v; is = refl; noted' = cc }
+    go (refused v) g = record { why = v; is = refl; refusal = cc }
 
 -- WHAT STANDS in the area and among the nodes: cells from the i-th on, records behind u numbers
 pub record Stands (i u : ℕ) (area nodes : List ℕ) (cs : List Cell) (rs : List NodeRecord) (j v : ℕ)

@@ -1,5 +1,7 @@
 // Node records of a fixed length (docs/PLAN.md, "Nodes"): the kind, how many numbers follow, and those. A root that may
 // be missing stands as one more than it, or 0. Each function that appends answers how many numbers are in use then.
+#![tactic(auto, using(crate::proofs::Flags::byte_flag), unfolding(rules::specs::Area::record_numbers, rules::specs::Area::sized, rules::specs::Area::row_numbers, rules::specs::Area::halves, crate::specs::Records::rows_numbers))]
+
 ghost use Rattle.std.specs.Prelude.{◌≡◌, [], ◌∷◌, ℕ, ◌+◌, ◌≤◌, length, Some, None};
 ghost use Rattle.std.proofs.Math.Option.{Option};
 ghost use Rattle.rules.specs.Lines.{Word};

@@ -1,5 +1,7 @@
 // Node records whose length is not known before all of their parts are pushed: begun with a length of 0, ended by
 // storing it. Rows of values, groups and remap targets are pushed as they are.
+#![tactic(auto, using(crate::proofs::Flags::byte_flag), unfolding(rules::specs::Area::function_numbers, rules::specs::Area::item_numbers, rules::specs::Area::key_numbers))]
+
 ghost use Rattle.std.specs.Prelude.{◌≡◌, [], ◌∷◌, ◌+◌, ◌-◌, ◌≤◌, length, set};
 ghost use Rattle.std.proofs.Math.Option.{Option};
 ghost use Rattle.rules.specs.Lines.{Word};
