@@ -9,7 +9,7 @@ use text::{decimal, fields, holds};
 
 // A record: where its catalog starts, and how many bytes its catalog, its statement and its answer have, which stand there
 // one behind the other.
-#[derive(Clone, Copy)]
+#[derive(Clone, Copy, Debug, PartialEq, Eq)]
 pub struct Record {
     pub start: usize,
     pub catalog: usize,

@@ -11,7 +11,7 @@ use numbers::number;
 use text::places::Place;
 
 // Kinds of cells: the constants that have something behind the kind, the first that is no constant, the tests for null and
-// NaN, and the first with two operands.
+// NaN, and the first with two operands. What a cell has goes by ranges of kinds, so an enum of them all is no plainer.
 const BOOL: u32 = 2;
 
 const INTEGER: u32 = 3;

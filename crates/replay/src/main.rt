@@ -38,7 +38,7 @@ fn agrees<'t>(catalog: &'t [u8], statement: &'t [u8], expected: &[u8]) -> bool
 }
 
 // What comes of a case: whether it agrees, and the position behind it.
-#[derive(Clone, Copy)]
+#[derive(Clone, Copy, Debug, PartialEq, Eq)]
 struct Case {
     agrees: bool,
     next: usize,
@@ -66,7 +66,7 @@ fn case_at(list: &[u8], at: usize) -> Option<Case>
 }
 
 // How far the list is replayed: the position of the next case, how many cases there were, and how many agree.
-#[derive(Clone, Copy)]
+#[derive(Clone, Copy, Debug, PartialEq, Eq)]
 struct Progress {
     at: usize,
     cases: usize,
@@ -74,7 +74,7 @@ struct Progress {
 }
 
 // The list is damaged behind so many cases.
-#[derive(Clone, Copy)]
+#[derive(Clone, Copy, Debug, PartialEq, Eq)]
 struct Damaged {
     cases: usize,
 }
