@@ -13,13 +13,14 @@ ghost use Rattle.build_clauses.specs.Orders.{OrderBuilt};
 
 use ast::Expressions;
 use build_expression::build_expression;
+use entries::Section;
 use numbers::refusals::Refusal;
 use plan::nodes::Kind;
 use plan::parts::{KEY_SIZE, begin, end, key};
 use plan::steps::{Part, Step};
 use scope::view::View;
 use sections::entry;
-use sections::entry::{Entry, ORDER, entry_at, first_row};
+use sections::entry::{Entry, entry_at, first_row};
 use statement::access::descending;
 
 // The key of an entry: its cells from the n-th on, its part of the record behind k numbers.
@@ -61,10 +62,10 @@ fn put_keys(
         scope.now.labels.now scope.now.matches.now scope.now.tables.now
         at.cell at.used area.old nodes.old area.new nodes.new result }
 {
-    let keys = entry::count(parts, ORDER);
+    let keys = entry::count(parts, Section::Order);
     let mut p = at.cell;
     for i in 0..keys {
-        let e = entry_at(parts, ORDER, i);
+        let e = entry_at(parts, Section::Order, i);
         p = put_key(
             exprs,
             e,
@@ -97,7 +98,7 @@ pub fn build_order(
         scope.now.labels.now scope.now.matches.now scope.now.tables.now
         at.cell at.node at.used area.old nodes.old area.new nodes.new result }
 {
-    let keys = entry::count(parts, ORDER);
+    let keys = entry::count(parts, Section::Order);
     if keys == 0 {
         return Ok(at);
     }

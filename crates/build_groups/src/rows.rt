@@ -1,5 +1,6 @@
 // The rows of a SELECT's groups, and of the aggregates in its items, HAVING and ORDER (planner.rs, collect_aggregates).
 ghost use Rattle.std.specs.Prelude.{◌+◌, ◌≤◌, length};
+ghost use Rattle.entries.specs.Sections.{number_of};
 ghost use Rattle.sections.specs.Access.{group_kind};
 ghost use Rattle.ast.specs.Collect.{collect_rows};
 ghost use Rattle.plan.specs.Appended.{Appended};
@@ -7,7 +8,8 @@ ghost use Rattle.build_groups.specs.Rows.{section_rows, clause_rows, collect_eac
 
 use ast::Expressions;
 use ast::walk::collect;
-use sections::entry::{GROUP, HAVING, ITEM, ORDER, count, entry_at, first_row};
+use entries::Section;
+use sections::entry::{count, entry_at, first_row};
 use statement::access::{Clause, clause_at};
 
 // The groups; how many there are.
@@ -15,9 +17,9 @@ pub fn group_rows(parts: &[u32], rows: &mut [usize]) -> usize
     requires { length (section_rows parts.now group_kind) ≤ length rows.old }
     ensures { Appended (section_rows parts.now group_kind) 0 rows.old result rows.new }
 {
-    let n = count(parts, GROUP);
+    let n = count(parts, Section::Group);
     for i in 0..n {
-        let e = entry_at(parts, GROUP, i);
+        let e = entry_at(parts, Section::Group, i);
         rows[i as usize] = first_row(e);
     }
     n as usize
@@ -40,15 +42,15 @@ fn collect_at(exprs: &Expressions, r: usize, rows: &mut [usize], k: usize) -> us
 fn collect_section(
     exprs: &Expressions,
     parts: &[u32],
-    kind: u32,
+    kind: Section,
     rows: &mut [usize],
     k: usize,
 ) -> usize
-    requires { k + length (collect_each_rows exprs.now.texts.catalog.now exprs.now.texts.statement.now exprs.now.table.now (section_rows parts.now kind))
+    requires { k + length (collect_each_rows exprs.now.texts.catalog.now exprs.now.texts.statement.now exprs.now.table.now (section_rows parts.now (number_of kind)))
         ≤ length rows.old }
     ensures { Appended
         (collect_each_rows exprs.now.texts.catalog.now exprs.now.texts.statement.now exprs.now.table.now
-        (section_rows parts.now kind)) k rows.old result rows.new }
+        (section_rows parts.now (number_of kind))) k rows.old result rows.new }
 {
     let n = count(parts, kind);
     let mut x = k;
@@ -85,8 +87,8 @@ pub fn function_rows(exprs: &Expressions, parts: &[u32], rows: &mut [usize]) -> 
         (function_rows exprs.now.texts.catalog.now exprs.now.texts.statement.now exprs.now.table.now parts.now) 0
         rows.old result rows.new }
 {
-    let items = collect_section(exprs, parts, ITEM, rows, 0);
-    let having = clause_at(parts, HAVING);
+    let items = collect_section(exprs, parts, Section::Item, rows, 0);
+    let having = clause_at(parts, Section::Having);
     let k = collect_clause(exprs, having, rows, items);
-    collect_section(exprs, parts, ORDER, rows, k)
+    collect_section(exprs, parts, Section::Order, rows, k)
 }

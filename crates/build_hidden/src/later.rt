@@ -2,7 +2,8 @@
 ghost use Rattle.build_hidden.specs.Later.{KeysFit, KeysVisited, LaterFit, LaterVisited};
 
 use super::walk::visit_rows;
-use sections::entry::{HAVING, ORDER, count, entry_at, first_row};
+use entries::Section;
+use sections::entry::{count, entry_at, first_row};
 use statement::access::clause_at;
 
 // Those of the order keys, behind n others; how many there are then.
@@ -10,10 +11,10 @@ fn order_rows(cells: &[u32], parts: &[u32], rows: &mut [usize], n: usize) -> usi
     requires { KeysFit cells.now parts.now n rows.old }
     ensures { KeysVisited cells.now parts.now rows.old n rows.new result }
 {
-    let total = count(parts, ORDER);
+    let total = count(parts, Section::Order);
     let mut m = n;
     for k in 0..total {
-        let e = entry_at(parts, ORDER, k);
+        let e = entry_at(parts, Section::Order, k);
         visit_rows(cells, first_row(e), rows, &mut m);
     }
     m
@@ -25,7 +26,7 @@ pub fn later_rows(cells: &[u32], parts: &[u32], rows: &mut [usize]) -> usize
     ensures { LaterVisited cells.now parts.now rows.old rows.new result }
 {
     let mut n = 0;
-    if let Some(having) = clause_at(parts, HAVING) {
+    if let Some(having) = clause_at(parts, Section::Having) {
         visit_rows(cells, having.row, rows, &mut n);
     }
     order_rows(cells, parts, rows, n)

@@ -9,6 +9,7 @@ ghost use Rattle.sections.specs.Access.{name_kind};
 ghost use Rattle.build_insert.specs.Map as map;
 
 use ast::Expressions;
+use entries::Section;
 use numbers::number;
 use numbers::refusals::{Reason, Refusal};
 use schema::column_at;
@@ -67,9 +68,9 @@ fn map_names(
         (some (map.names_at exprs.now.texts.catalog.now exprs.now.texts.statement.now exprs.now.table.now parts.now)))
         columns.old columns.new result }
 {
-    let count = entry::count(parts, entry::NAME);
+    let count = entry::count(parts, Section::Name);
     for v in 0..count {
-        let e = entry::entry_at(parts, entry::NAME, v);
+        let e = entry::entry_at(parts, Section::Name, v);
         let name = Place {
             address: name_start(e),
             length: e.length,
@@ -107,7 +108,7 @@ pub fn column_map(
         (map.given_names exprs.now.texts.catalog.now exprs.now.texts.statement.now exprs.now.table.now parts.now))
         columns.old columns.new result }
 {
-    if entry::count(parts, entry::COLUMNS) == 0 {
+    if entry::count(parts, Section::Columns) == 0 {
         return Ok(None);
     }
     map_names(exprs, tables, i, parts, columns)

@@ -17,12 +17,13 @@ ghost use Rattle.build_insert.specs.Rows.{rows_at, RowsFit};
 use ast::Expressions;
 use ast::rows::next;
 use build_expression::build_expression;
+use entries::Section;
 use numbers::refusals::Refusal;
 use plan::parts::{begin_values, end};
 use plan::pushes::push;
 use plan::steps::Part;
 use scope::view::View;
-use sections::entry::{Entry, ROW, count, entry_at};
+use sections::entry::{Entry, count, entry_at};
 
 // The value at row r: its cells from the n-th on, its root behind k numbers.
 fn build_value(
@@ -115,10 +116,10 @@ fn build_rows(
         (emit_rows empty 0 (rows_at exprs.now.texts.catalog.now exprs.now.texts.statement.now exprs.now.table.now parts.now))
         0 area.old area.new k nodes.old nodes.new result }
 {
-    let rows = count(parts, ROW);
+    let rows = count(parts, Section::Row);
     let mut built = Part { cell: 0, used: k };
     for i in 0..rows {
-        let e = entry_at(parts, ROW, i);
+        let e = entry_at(parts, Section::Row, i);
         built = build_row(exprs, e, area, nodes, built)?;
     }
     Ok(built)

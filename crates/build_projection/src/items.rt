@@ -17,9 +17,10 @@ ghost use Rattle.sections.specs.Access.{item_kind, numbers_at};
 use super::stars::put_columns;
 use ast::row::{Kind, kind_of, line};
 use ast::rows::STATEMENT_ROWS;
+use entries::Section;
 use numbers::refusals::{Reason, Refusal};
 use scope::COLUMNS;
-use sections::entry::{GROUP, ITEM, count, entry_at, first_row};
+use sections::entry::{count, entry_at, first_row};
 
 // How many items are listed so far, and how many starred columns.
 #[derive(Clone, Copy)]
@@ -43,7 +44,7 @@ fn star_at(cells: &[u32], r: usize) -> Option<u32>
 fn plain_entry(cells: &[u32], parts: &[u32], k: u32) -> Option<u32>
     ensures { (c q : Bytes) → option_of result ≡ plain_star (entry_item c q cells.now parts.now k ∷ []) }
 {
-    let e = entry_at(parts, ITEM, k);
+    let e = entry_at(parts, Section::Item, k);
     if e.length != 0 {
         return None;
     }
@@ -65,7 +66,7 @@ fn plain_star(cells: &[u32], parts: &[u32]) -> Option<u32>
     requires { length cells.now ≡ table_size }
     ensures { (c q : Bytes) → option_of result ≡ plain_star (items_at c q cells.now parts.now) }
 {
-    let n = count(parts, ITEM);
+    let n = count(parts, Section::Item);
     for k in 0..n {
         let star = plain_entry(cells, parts, k);
         if let Some(l) = star {
@@ -142,7 +143,7 @@ fn item_star(cells: &[u32], parts: &[u32], expand: bool, k: u32) -> Option<u32>
     if !expand {
         return None;
     }
-    let e = entry_at(parts, ITEM, k);
+    let e = entry_at(parts, Section::Item, k);
     star_at(cells, first_row(e))
 }
 
@@ -150,7 +151,7 @@ fn item_star(cells: &[u32], parts: &[u32], expand: bool, k: u32) -> Option<u32>
 fn item_line(parts: &[u32], k: u32) -> u32
     ensures { result ≡ (numbers_at parts.now item_kind k).line }
 {
-    let e = entry_at(parts, ITEM, k);
+    let e = entry_at(parts, Section::Item, k);
     e.line
 }
 
@@ -167,7 +168,7 @@ fn expand_items(
     ensures { ItemsExpanded cells.old cells.new parts.now tables.now
         labels.now items.new expand result }
 {
-    let total = count(parts, ITEM);
+    let total = count(parts, Section::Item);
     let mut n: u32 = 0;
     let mut s: u32 = 0;
     for k in 0..total {
@@ -184,10 +185,10 @@ fn expand_items(
 fn is_single(parts: &[u32]) -> bool
     ensures { result ≡ single parts.now }
 {
-    if count(parts, ITEM) != 1 {
+    if count(parts, Section::Item) != 1 {
         return false;
     }
-    count(parts, GROUP) == 0
+    count(parts, Section::Group) == 0
 }
 
 // How many items there are over FROM's columns by their labels and tables. Refused too at a star that has no columns.

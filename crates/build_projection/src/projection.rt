@@ -13,11 +13,12 @@ use crate::labels::item_label;
 use ast::Expressions;
 use ast::rows::STATEMENT_ROWS;
 use build_expression::build_item;
+use entries::Section;
 use numbers::refusals::Refusal;
 use plan::parts::item;
 use plan::steps::Part;
 use scope::view::View;
-use sections::entry::{ITEM, entry_at, first_row};
+use sections::entry::{entry_at, first_row};
 use statement::access::name_start;
 use text::places::{Place, Texts};
 
@@ -26,7 +27,7 @@ pub fn item_row(parts: &[u32], x: u32) -> usize
     ensures { result ≡ row_of parts.now x }
 {
     if x < STATEMENT_ROWS {
-        let e = entry_at(parts, ITEM, x);
+        let e = entry_at(parts, Section::Item, x);
         return first_row(e);
     }
     x as usize
@@ -37,7 +38,7 @@ pub fn alias_address(parts: &[u32], x: u32) -> u32
     ensures { result ≡ alias_address parts.now x }
 {
     if x < STATEMENT_ROWS {
-        let e = entry_at(parts, ITEM, x);
+        let e = entry_at(parts, Section::Item, x);
         return name_start(e);
     }
     0
@@ -47,7 +48,7 @@ pub fn alias_length(texts: &Texts, parts: &[u32], x: u32) -> u32
     ensures { result ≡ alias_length texts.now.catalog.now texts.now.statement.now parts.now x }
 {
     if x < STATEMENT_ROWS {
-        let e = entry_at(parts, ITEM, x);
+        let e = entry_at(parts, Section::Item, x);
         return texts.length_at(Place {
             address: name_start(e),
             length: e.length,

@@ -7,10 +7,10 @@ ghost use Rattle.build_select.specs.States.{OrderState, OffsetState, LimitState}
 use ast::Expressions;
 use build_clauses::remaps::build_remap;
 use build_clauses::rows::{build_limit, build_offset};
+use entries::Section;
 use numbers::refusals::Refusal;
 use plan::finish::{Kind, finish};
 use plan::steps::Step;
-use sections::entry::{LIMIT, OFFSET};
 use statement::access::clause_at;
 
 // The remap that drops hidden columns, and the end.
@@ -47,7 +47,7 @@ fn select_limit(
         width hidden at.cell at.node at.used area.old nodes.old)
         → Plans (select_limit h.select h.stage h.node) area.old area.new result }
 {
-    let clause = clause_at(parts, LIMIT);
+    let clause = clause_at(parts, Section::Limit);
     let limited = build_limit(exprs, clause, nodes, at)?;
     Ok(select_remap(width, hidden, area, nodes, limited))
 }
@@ -67,7 +67,7 @@ pub fn select_offset(
         width hidden at.cell at.node at.used area.old nodes.old)
         → Plans (select_offset h.select h.stage h.node) area.old area.new result }
 {
-    let clause = clause_at(parts, OFFSET);
+    let clause = clause_at(parts, Section::Offset);
     let skipped = build_offset(exprs, clause, nodes, at)?;
     select_limit(exprs, parts, width, hidden, area, nodes, skipped)
 }

@@ -13,11 +13,11 @@ use super::groups::select_groups;
 use ast::Expressions;
 use build_clauses::filters::build_where;
 use build_projection::items::build_items;
+use entries::Section;
 use numbers::refusals::Refusal;
 use plan::steps::Step;
 use scope::view::first;
 use scope::{COLUMNS, Scope};
-use sections::entry::WHERE;
 use statement::access::clause_at;
 use text::places::Texts;
 
@@ -41,7 +41,7 @@ fn select_where(
         (take w listed.now)))
         area.old area.new result }
 {
-    let clause = clause_at(parts, WHERE);
+    let clause = clause_at(parts, Section::Where);
     let filtered = build_where(exprs, clause, &scope.view(), area, nodes, at)?;
     let items = first(listed, w as usize);
     select_groups(exprs, parts, items, scope, area, nodes, filtered)

@@ -7,10 +7,10 @@ use super::ends::select_offset;
 use ast::Expressions;
 use build_clauses::filters::build_having;
 use build_clauses::orders::build_order;
+use entries::Section;
 use numbers::refusals::Refusal;
 use plan::steps::Step;
 use scope::Scope;
-use sections::entry::HAVING;
 use statement::access::clause_at;
 
 // HAVING behind the projection, then ORDER, and all that follows.
@@ -27,7 +27,7 @@ pub fn select_later(
         parts.now scope at.cell at.node at.used area.old nodes.old)
         → Plans (select_having h.select h.stage) area.old area.new result }
 {
-    let clause = clause_at(parts, HAVING);
+    let clause = clause_at(parts, Section::Having);
     let view = scope.view();
     let having = build_having(exprs, clause, &view, area, nodes, at)?;
     let order = build_order(exprs, parts, &view, area, nodes, having)?;

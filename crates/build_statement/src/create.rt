@@ -20,6 +20,7 @@ ghost use Rattle.build_statement.specs.Pushes.{Pushes};
 ghost use Rattle.build_statement.specs.Create as create;
 
 use ast::Expressions;
+use entries::Section;
 use expression::Constant;
 use expression::constants::build_constant_value;
 use expression::planned::of_value;
@@ -37,9 +38,9 @@ use value;
 fn key_column(parts: &[u32], k: u32) -> Option<u32>
     ensures { (c q : Bytes) (cells : List ℕ) → create.Keys c q cells parts.now k result }
 {
-    let count = entry::count(parts, entry::COLUMN);
+    let count = entry::count(parts, Section::Column);
     for i in k..count {
-        let e = entry::entry_at(parts, entry::COLUMN, i);
+        let e = entry::entry_at(parts, Section::Column, i);
         if e.key == 1 {
             return Some(i);
         }
@@ -163,10 +164,10 @@ fn columns(
         (each made_column (create.columns_at exprs.now.texts.catalog.now exprs.now.texts.statement.now exprs.now.table.now parts.now))
         k nodes.old nodes.new result }
 {
-    let count = entry::count(parts, entry::COLUMN);
+    let count = entry::count(parts, Section::Column);
     let mut j = k;
     for i in 0..count {
-        let e = entry::entry_at(parts, entry::COLUMN, i);
+        let e = entry::entry_at(parts, Section::Column, i);
         j = column(exprs, e, nodes, j)?;
     }
     Ok(j)
@@ -188,7 +189,7 @@ fn table(exprs: &Expressions, parts: &[u32], key: u32, nodes: &mut [u32]) -> Res
             length: access::name_length(parts),
         }),
     };
-    let count = entry::count(parts, entry::COLUMN);
+    let count = entry::count(parts, Section::Column);
     let k = own::create(nodes, 0, name, key, count);
     columns(exprs, parts, nodes, k)
 }
@@ -232,7 +233,7 @@ pub fn build_create_table(
     if let Some(j) = key_column(parts, key + 1) {
         return Err(Refusal {
             reason: Reason::MultiplePrimaryKeys,
-            line: entry::entry_at(parts, entry::COLUMN, j).line,
+            line: entry::entry_at(parts, Section::Column, j).line,
         });
     }
     create_table(exprs, parts, key, area, nodes)

@@ -10,13 +10,13 @@ ghost use Rattle.build_statement.specs.Deletes.{DeleteEnds};
 
 use crate::clause::build_where;
 use ast::Expressions;
+use entries::Section;
 use numbers::refusals::{Reason, Refusal};
 use plan::finish::{Kind, finish};
 use plan::nodes::scan;
 use plan::own;
 use schema::{get_table, key};
 use scope::Scope;
-use sections::entry::WHERE;
 use statement::access;
 use text::places::{Place, Texts};
 
@@ -71,7 +71,7 @@ pub fn build_delete(
         });
     };
     let scope = Scope::from_table(tables, i, name);
-    let clause = access::clause_at(parts, WHERE);
+    let clause = access::clause_at(parts, Section::Where);
     let m = build_where(exprs, clause, &scope.view(), area)?;
     end_delete(&exprs.texts, tables, i, name, area, nodes, m);
     Ok(m)

@@ -15,6 +15,7 @@ ghost use Rattle.build_update.specs.SoFar.{sets_at};
 use crate::set::build_set;
 use ast::Expressions;
 use build_expression::position::position_of;
+use entries::Section;
 use numbers::refusals::Refusal;
 use plan::own;
 use plan::steps::Part;
@@ -79,10 +80,10 @@ pub fn write_sets(
         at.cell (sets_at exprs.now.texts.catalog.now exprs.now.texts.statement.now exprs.now.table.now parts.now))
         at.cell at.used area.old area.new nodes.old nodes.new result }
 {
-    let sets = entry::count(parts, entry::SET);
+    let sets = entry::count(parts, Section::Set);
     let mut written = at;
     for v in 0..sets {
-        let e = entry::entry_at(parts, entry::SET, v);
+        let e = entry::entry_at(parts, Section::Set, v);
         written = write_set(exprs, tables, i, e, scope, area, nodes, written)?;
     }
     Ok(written)

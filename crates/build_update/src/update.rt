@@ -14,6 +14,7 @@ ghost use Rattle.build_update.specs.Updates.{FewSets, UpdateEnds};
 use crate::sets::write_sets;
 use ast::Expressions;
 use build_statement::clause::build_where;
+use entries::Section;
 use numbers::refusals::{Reason, Refusal};
 use plan::finish::{Kind, finish};
 use plan::nodes::scan;
@@ -56,7 +57,7 @@ fn end_update(
     };
     let k = scan(nodes, 0, name, None, m);
     let key = key(tables, i);
-    let sets = entry::count(parts, entry::SET);
+    let sets = entry::count(parts, Section::Set);
     let j = own::update(nodes, k, name, key, sets);
     let written = write_sets(
         exprs,
@@ -98,7 +99,7 @@ pub fn build_update(
         });
     };
     let scope = Scope::from_table(tables, i, name);
-    let clause = access::clause_at(parts, entry::WHERE);
+    let clause = access::clause_at(parts, Section::Where);
     let view = scope.view();
     let m = build_where(exprs, clause, &view, area)?;
     end_update(exprs, tables, parts, i, name, &view, area, nodes, m)

@@ -1,5 +1,5 @@
 -- What the fields of one record say as numbers: names by their places, and the contracts of the functions of each shape.
-use Rattle.std.specs.Prelude.{ℕ, zero, suc, ◌+◌, ◌-◌, ◌≤◌, ◌≡◌, refl, true, false, length, take, drop, Some, None}
+use Rattle.std.specs.Prelude.{ℕ, zero, suc, ◌+◌, ◌-◌, ◌≤◌, ◌≡◌, refl, true, false, length, take, drop, Result, Ok, Err, Some, None}
 use Rattle.std.specs.Prelude as std
 use Rattle.std.proofs.Common.{arith, ◌∙◌}
 use Rattle.std.proofs.Math.Path.{ap}
@@ -20,8 +20,8 @@ use Rattle.read_expression.specs.Reading.{here}
 use Rattle.entries.specs.Entries.{EntryHead, keyword_of, plain_head, named_head, fields_of, name_of}
 use Rattle.entries.specs.Heads.{head_numbers, last_name, numbers_of, Entered, IsHead}
 use Rattle.entries.specs.declared.Head.{Head}
-use Rattle.entries.specs.declared.Record as Re
-use Rattle.entries.specs.declared.Record.TheVariants as R
+use Rattle.numbers.specs.declared.refusals.Reason.TheVariants.{WrongRecord}
+use Rattle.numbers.specs.declared.refusals.Refusal as code
 
 -- CONTRACTS
 -- f is the line at position p of a statement that is not too long
@@ -167,9 +167,9 @@ unfolding name_head map_option
 head-unnamed t a n e r i h s = head-none t _ r (rw (field-unnamed t a n i h)) s
 
 -- ENTRIES
-module _ (t : Bytes) (kind : ℕ) (b : Option Bytes) (p : Place) where
-  pub no-head : {r : Re.Record} → r ≡ R.Missing → at (keyword_of kind) p ≡ false → IsHead t kind b p r
-  no-head z h = rw z (record { missing = λ e. h; wrong = λ e. absurd (let y : ◌≡◌ {A = ℕ} 0 1 = cc in omega arith); entered = λ x e. absurd (let y : ◌≡◌ {A = ℕ} 0 1 = cc in omega arith) })
+module _ (t : Bytes) (kind : ℕ) (b : Option Bytes) (line : ℕ) (p : Place) where
+  pub no-head : at (keyword_of kind) p ≡ false → IsHead t kind b line p (Ok None)
+  no-head h = record { missing = λ e. h; wrong = λ w e. absurd (let y : ◌≡◌ {A = ℕ} 0 1 = cc in omega arith); entered = λ x e. absurd (let y : ◌≡◌ {A = ℕ} 0 1 = cc in omega arith) }
 
   entered-head : (r : Head) (h : EntryHead) → at (keyword_of kind) p ≡ true → fields_of kind b (rest p) ≡ some h → HeadNumbersAre t h r → Entered t kind b p r
   entered-head r h e f s = record {
@@ -188,17 +188,20 @@ module _ (t : Bytes) (kind : ℕ) (b : Option Bytes) (p : Place) where
           → a ∷ b ∷ x ∷ y ∷ z ∷ u ∷ v ∷ c ∷ d ∷ [] ≡ a ∷ b ∷ x' ∷ y' ∷ z' ∷ u' ∷ v' ∷ c ∷ d ∷ []
       codes a b c d x y z u v x' y' z' u' v' e = ap (λ (l : List ℕ). a ∷ b ∷ (l ++ (c ∷ d ∷ []))) e
 
-  pub head-wrong : at (keyword_of kind) p ≡ true → HeadIs t (fields_of kind b (rest p)) None → IsHead t kind b p R.Wrong
+  wrong-line : (v w : code.Refusal) → ◌≡◌ {A = Result (std.Option Head) code.Refusal} (Err v) (Err w) → w ≡ v
+  wrong-line v w e = cc
+
+  pub head-wrong : at (keyword_of kind) p ≡ true → HeadIs t (fields_of kind b (rest p)) None → IsHead t kind b line p (Err (record { reason = WrongRecord; line = line }))
   head-wrong h s = go (fields_of kind b (rest p)) refl s
     where
-      go : (o : Option EntryHead) → fields_of kind b (rest p) ≡ o → HeadIs t o None → IsHead t kind b p R.Wrong
-      go none e f = record { missing = λ z. absurd (let y : ◌≡◌ {A = ℕ} 0 1 = cc in omega arith); wrong = λ z. (h, e); entered = λ x z. absurd (let y : ◌≡◌ {A = ℕ} 0 1 = cc in omega arith) }
+      go : (o : Option EntryHead) → fields_of kind b (rest p) ≡ o → HeadIs t o None → IsHead t kind b line p (Err (record { reason = WrongRecord; line = line }))
+      go none e f = record { missing = λ z. absurd (let y : ◌≡◌ {A = ℕ} 0 1 = cc in omega arith); wrong = λ w z. (wrong-line _ _ z, h, e); entered = λ x z. absurd (let y : ◌≡◌ {A = ℕ} 0 1 = cc in omega arith) }
       go (some x) e f = unfold HeadIs in absurd (let z : ◌≡◌ {A = std.Option Head} None (Some f.0) = f.1 in let y : ◌≡◌ {A = ℕ} 0 1 = cc in omega arith)
 
-  pub head-fits : (r : Head) → at (keyword_of kind) p ≡ true → HeadIs t (fields_of kind b (rest p)) (Some r) → IsHead t kind b p (R.Fits r)
+  pub head-fits : (r : Head) → at (keyword_of kind) p ≡ true → HeadIs t (fields_of kind b (rest p)) (Some r) → IsHead t kind b line p (Ok (Some r))
   head-fits r h s = go (fields_of kind b (rest p)) refl s
     where
-      go : (o : Option EntryHead) → fields_of kind b (rest p) ≡ o → HeadIs t o (Some r) → IsHead t kind b p (R.Fits r)
+      go : (o : Option EntryHead) → fields_of kind b (rest p) ≡ o → HeadIs t o (Some r) → IsHead t kind b line p (Ok (Some r))
       go none e f = unfold HeadIs in absurd (let z : ◌≡◌ {A = std.Option Head} (Some r) None = f in let y : ◌≡◌ {A = ℕ} 0 1 = cc in omega arith)
       go (some x) e f = unfold HeadIs in
           let q : ◌≡◌ {A = std.Option Head} (Some r) (Some f.0) = f.1 in
@@ -206,6 +209,6 @@ module _ (t : Bytes) (kind : ℕ) (b : Option Bytes) (p : Place) where
           let g : HeadNumbersAre t x r = rw z at f.2 in
           record {
             missing = λ y. absurd (let w : ◌≡◌ {A = ℕ} 0 1 = cc in omega arith);
-            wrong = λ y. absurd (let w : ◌≡◌ {A = ℕ} 0 1 = cc in omega arith);
+            wrong = λ v y. absurd (let w : ◌≡◌ {A = ℕ} 0 1 = cc in omega arith);
             entered = λ v y. let u : r ≡ v = cc in rw u at (entered-head r x h e g);
           }

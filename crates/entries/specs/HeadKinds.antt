@@ -1,12 +1,11 @@
--- The kinds of records by their keywords, and what each kind makes of its fields.
-use Rattle.std.specs.Prelude.{ℕ, zero, suc, ◌≤◌, ◌<◌, ◌≡◌, refl, Bool, true, false, List, [], ◌∷◌, length, get_or, take, drop, Some, None}
-use Rattle.std.specs.Prelude as std
+-- The records of each kind by their keywords: none stands here, or one whose fields fit or do not.
+use Rattle.std.specs.Prelude.{ℕ, zero, suc, ◌≤◌, ◌<◌, ◌≡◌, refl, Bool, true, false, List, [], ◌∷◌, length, get_or, take, drop, Ok, Err, Some, None}
 use Rattle.std.proofs.Common.{arith, ap, ◌∙◌}
 use Rattle.std.proofs.Math.Path.{sym}
-use Rattle.std.proofs.Math.Option.{Option, none}
+use Rattle.std.proofs.Math.Option.{Option}
 use Rattle.rules.specs.Refusals.{statement}
 use Rattle.rules.specs.Lists.{Bytes, same}
-use Rattle.rules.specs.Lines.{Word, bytes}
+use Rattle.rules.specs.Lines.{bytes}
 use Rattle.rules.specs.Reader.{at}
 use Rattle.text.specs.Lines.{Fields}
 use Rattle.text.specs.Order.{same_true, same_self}
@@ -14,11 +13,11 @@ use Rattle.text.specs.Words.{find, words_of, push}
 use Rattle.text.specs.Reading.{at-is}
 use Rattle.text.specs.declared.Line.{Line}
 use Rattle.read_expression.specs.Reading.{here}
-use Rattle.entries.specs.Entries.{EntryHead, keywords, keyword_of, fields_of}
+use Rattle.entries.specs.Entries.{keywords, keyword_of, fields_of}
 use Rattle.entries.specs.Heads.{IsHead}
-use Rattle.entries.specs.HeadFields.{HeadIsHere, clause_fields, head-is-as, no-head, head-wrong, head-fits}
+use Rattle.entries.specs.HeadFields.{HeadIsHere, no-head, head-wrong, head-fits}
 use Rattle.entries.specs.declared.Head.{Head}
-use Rattle.entries.specs.declared.Record.TheVariants as R
+use Rattle.numbers.specs.declared.refusals.Reason.TheVariants.{WrongRecord}
 
 -- KEYWORDS
 -- the word that was found
@@ -53,44 +52,9 @@ kind-found (suc (suc (suc (suc (suc (suc (suc (suc (suc (suc zero)))))))))) h = 
 kind-found (suc (suc (suc (suc (suc (suc (suc (suc (suc (suc (suc zero))))))))))) h = refl
 kind-found (suc (suc (suc (suc (suc (suc (suc (suc (suc (suc (suc (suc n)))))))))))) h = absurd (omega arith)
 
--- WHAT EACH KIND MAKES OF ITS FIELDS
--- only a set looks at the name before it
-last-unused : (kind : ℕ) (b : Option Bytes) (ws : List Word) → (kind ≡ 10 → ⊥) → fields_of kind b ws ≡ fields_of kind none ws
-unfolding fields_of
-last-unused zero b ws n = refl
-last-unused (suc zero) b ws n = refl
-last-unused (suc (suc zero)) b ws n = refl
-last-unused (suc (suc (suc zero))) b ws n = refl
-last-unused (suc (suc (suc (suc zero)))) b ws n = refl
-last-unused (suc (suc (suc (suc (suc zero))))) b ws n = refl
-last-unused (suc (suc (suc (suc (suc (suc zero)))))) b ws n = refl
-last-unused (suc (suc (suc (suc (suc (suc (suc zero))))))) b ws n = refl
-last-unused (suc (suc (suc (suc (suc (suc (suc (suc zero)))))))) b ws n = refl
-last-unused (suc (suc (suc (suc (suc (suc (suc (suc (suc zero))))))))) b ws n = refl
-last-unused (suc (suc (suc (suc (suc (suc (suc (suc (suc (suc zero)))))))))) b ws n = absurd (n refl)
-last-unused (suc (suc (suc (suc (suc (suc (suc (suc (suc (suc (suc zero))))))))))) b ws n = refl
-last-unused (suc (suc (suc (suc (suc (suc (suc (suc (suc (suc (suc (suc n')))))))))))) b ws n = refl
-
--- a clause
-clause-kind : (kind : ℕ) (b : Option Bytes) (ws : List Word) → kind ≤ 11 → (kind ≡ 0 → ⊥) → (kind ≡ 4 → ⊥) → (kind ≡ 7 → ⊥) → (kind ≡ 8 → ⊥) → (kind ≡ 9 → ⊥) → (kind ≡ 10 → ⊥) → (kind ≡ 11 → ⊥)
-    → fields_of kind b ws ≡ clause_fields 1 ws
-unfolding fields_of clause_fields
-clause-kind zero b ws m n0 n4 n7 n8 n9 n10 n11 = absurd (n0 refl)
-clause-kind (suc zero) b ws m n0 n4 n7 n8 n9 n10 n11 = refl
-clause-kind (suc (suc zero)) b ws m n0 n4 n7 n8 n9 n10 n11 = refl
-clause-kind (suc (suc (suc zero))) b ws m n0 n4 n7 n8 n9 n10 n11 = refl
-clause-kind (suc (suc (suc (suc zero)))) b ws m n0 n4 n7 n8 n9 n10 n11 = absurd (n4 refl)
-clause-kind (suc (suc (suc (suc (suc zero))))) b ws m n0 n4 n7 n8 n9 n10 n11 = refl
-clause-kind (suc (suc (suc (suc (suc (suc zero)))))) b ws m n0 n4 n7 n8 n9 n10 n11 = refl
-clause-kind (suc (suc (suc (suc (suc (suc (suc zero))))))) b ws m n0 n4 n7 n8 n9 n10 n11 = absurd (n7 refl)
-clause-kind (suc (suc (suc (suc (suc (suc (suc (suc zero)))))))) b ws m n0 n4 n7 n8 n9 n10 n11 = absurd (n8 refl)
-clause-kind (suc (suc (suc (suc (suc (suc (suc (suc (suc zero))))))))) b ws m n0 n4 n7 n8 n9 n10 n11 = absurd (n9 refl)
-clause-kind (suc (suc (suc (suc (suc (suc (suc (suc (suc (suc zero)))))))))) b ws m n0 n4 n7 n8 n9 n10 n11 = absurd (n10 refl)
-clause-kind (suc (suc (suc (suc (suc (suc (suc (suc (suc (suc (suc zero))))))))))) b ws m n0 n4 n7 n8 n9 n10 n11 = absurd (n11 refl)
-clause-kind (suc (suc (suc (suc (suc (suc (suc (suc (suc (suc (suc (suc n)))))))))))) b ws m n0 n4 n7 n8 n9 n10 n11 = absurd (omega arith)
-
+-- RECORDS
 -- f is the line at p, and its keyword has the number k
-module _ (t : Bytes) (p : ℕ) (f : Line) (g : Fields t p f) {k kind : ℕ} (m : kind ≤ 11) (e : k ≡ find (words_of keywords) (take (get_or f.lens 0 0) (drop (get_or f.starts 0 0) t))) where
+module _ (t : Bytes) (p line : ℕ) (f : Line) (g : Fields t p f) {k kind : ℕ} (m : kind ≤ 11) (e : k ≡ find (words_of keywords) (take (get_or f.lens 0 0) (drop (get_or f.starts 0 0) t))) where
   kind-here : k ≡ kind → (l c n : ℕ) → at (keyword_of kind) (here t p l c n) ≡ true
   kind-here q l c n =
       let x = take (get_or f.lens 0 0) (drop (get_or f.starts 0 0) t) in
@@ -104,32 +68,13 @@ module _ (t : Bytes) (p : ℕ) (f : Line) (g : Fields t p f) {k kind : ℕ} (m :
       go false s = refl
       go true s = absurd (q (e ∙ ap (find _) (same_true _ _ s) ∙ kind-found kind m))
 
-  pub head-missing : (b : Option Bytes) → (k ≡ kind → ⊥) → (l c n : ℕ) → IsHead t kind b (here t p l c n) R.Missing
-  head-missing b q l c n = no-head t kind b _ refl (kind-not q l c n)
+  pub head-missing : (b : Option Bytes) → (k ≡ kind → ⊥) → (l c n : ℕ) → IsHead t kind b line (here t p l c n) (Ok None)
+  head-missing b q l c n = no-head t kind b line _ (kind-not q l c n)
 
-  pub head-unfit : (b : Option Bytes) → k ≡ kind → HeadIsHere t p (fields_of kind b) None → (l c n : ℕ) → IsHead t kind b (here t p l c n) R.Wrong
+  pub head-unfit : (b : Option Bytes) → k ≡ kind → HeadIsHere t p (fields_of kind b) None → (l c n : ℕ) → IsHead t kind b line (here t p l c n) (Err (record { reason = WrongRecord; line = line }))
   unfolding HeadIsHere
-  head-unfit b q s l c n = head-wrong t kind b _ (kind-here q l c n) (s l c n)
+  head-unfit b q s l c n = head-wrong t kind b line _ (kind-here q l c n) (s l c n)
 
-  pub head-fit : (b : Option Bytes) (r : Head) → k ≡ kind → HeadIsHere t p (fields_of kind b) (Some r) → (l c n : ℕ) → IsHead t kind b (here t p l c n) (R.Fits r)
+  pub head-fit : (b : Option Bytes) (r : Head) → k ≡ kind → HeadIsHere t p (fields_of kind b) (Some r) → (l c n : ℕ) → IsHead t kind b line (here t p l c n) (Ok (Some r))
   unfolding HeadIsHere
-  head-fit b r q s l c n = head-fits t kind b _ r (kind-here q l c n) (s l c n)
-
--- the kinds by what they make of their fields
-module _ (t : Bytes) (p kind : ℕ) (b : Option Bytes) (r : std.Option Head) where
-  head_as : (m : List Word → Option EntryHead) → ((ws : List Word) → fields_of kind b ws ≡ m ws) → HeadIsHere t p m r → HeadIsHere t p (fields_of kind b) r
-  unfolding HeadIsHere
-  head_as m w s l c n = head-is-as t _ _ r (w _) (s l c n)
-
-  pub head-by : (j : ℕ) → kind ≡ j → (j ≡ 10 → ⊥) → HeadIsHere t p (fields_of j none) r → HeadIsHere t p (fields_of kind b) r
-  head-by j y d = head_as (fields_of j none) (λ ws. rw y (last-unused j b ws d))
-
-  pub head-set : kind ≡ 10 → HeadIsHere t p (fields_of 10 b) r → HeadIsHere t p (fields_of kind b) r
-  head-set y = head_as (fields_of 10 b) (λ ws. rw y)
-
-  pub head-columns : kind ≡ 7 → HeadIsHere t p (clause_fields 0) r → HeadIsHere t p (fields_of kind b) r
-  unfolding fields_of clause_fields
-  head-columns y = head_as (clause_fields 0) (λ ws. rw y)
-
-  pub head-clause : kind ≤ 11 → (kind ≡ 0 → ⊥) → (kind ≡ 4 → ⊥) → (kind ≡ 7 → ⊥) → (kind ≡ 8 → ⊥) → (kind ≡ 9 → ⊥) → (kind ≡ 10 → ⊥) → (kind ≡ 11 → ⊥) → HeadIsHere t p (clause_fields 1) r → HeadIsHere t p (fields_of kind b) r
-  head-clause m n0 n4 n7 n8 n9 n10 n11 = head_as (clause_fields 1) (λ ws. clause-kind kind b ws m n0 n4 n7 n8 n9 n10 n11)
+  head-fit b r q s l c n = head-fits t kind b line _ r (kind-here q l c n) (s l c n)

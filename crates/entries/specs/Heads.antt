@@ -1,5 +1,6 @@
 -- What the numbers of an entry say of its record: the contract of reading one.
-use Rattle.std.specs.Prelude.{ℕ, zero, suc, ◌-◌, ◌≤◌, ◌≡◌, true, false, List, [], ◌∷◌, ◌++◌, take, drop}
+use Rattle.std.specs.Prelude.{ℕ, zero, suc, ◌-◌, ◌≤◌, ◌≡◌, true, false, List, [], ◌∷◌, ◌++◌, take, drop, Result, Ok, Err, Some, None}
+use Rattle.std.specs.Prelude as std
 use Rattle.std.proofs.Math.Option.{Option, none, some}
 use Rattle.rules.specs.Limits.{most_bytes, most_cells}
 use Rattle.rules.specs.Lists.{Bytes}
@@ -8,8 +9,8 @@ use Rattle.rules.specs.Area.{option_span}
 use Rattle.ast.specs.Names.{NameFits}
 use Rattle.entries.specs.Entries.{EntryHead, keyword_of, fields_of, name_of}
 use Rattle.entries.specs.declared.Head.{Head}
-use Rattle.entries.specs.declared.Record as Re
-use Rattle.entries.specs.declared.Record.TheVariants as R
+use Rattle.numbers.specs.declared.refusals.Reason.TheVariants.{WrongRecord}
+use Rattle.numbers.specs.declared.refusals.Refusal as code
 
 -- the numbers of an entry behind its line, the number of its expressions and their first row
 unfoldable pub head_numbers : EntryHead → List ℕ
@@ -35,8 +36,8 @@ pub record Entered (t : Bytes) (kind : ℕ) (b : Option Bytes) (p : Place) (r : 
   pub refers : (c : Bytes) → NameFits c t head.reference
   pub last : last_name t r.a r.b ≡ name_of head
 
--- no such record stands here; or its fields do not fit; or it says these numbers
-pub record IsHead (t : Bytes) (kind : ℕ) (b : Option Bytes) (p : Place) (r : Re.Record) : Type 0 where
-  pub missing : r ≡ R.Missing → at (keyword_of kind) p ≡ false
-  pub wrong : r ≡ R.Wrong → (at (keyword_of kind) p ≡ true) × (fields_of kind b (rest p) ≡ none)
-  pub entered : (x : Head) → r ≡ R.Fits x → Entered t kind b p x
+-- no such record stands here; or its fields do not fit, and this line is wrong; or it says these numbers
+pub record IsHead (t : Bytes) (kind : ℕ) (b : Option Bytes) (line : ℕ) (p : Place) (r : Result (std.Option Head) code.Refusal) : Type 0 where
+  pub missing : r ≡ Ok None → at (keyword_of kind) p ≡ false
+  pub wrong : (w : code.Refusal) → r ≡ Err w → (w ≡ record { reason = WrongRecord; line = line }) × (at (keyword_of kind) p ≡ true) × (fields_of kind b (rest p) ≡ none)
+  pub entered : (x : Head) → r ≡ Ok (Some x) → Entered t kind b p x

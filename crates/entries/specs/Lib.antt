@@ -1,4 +1,5 @@
 pub mod Entries
+pub mod Sections
 pub mod Heads
 pub mod HeadFields
 pub mod HeadKinds

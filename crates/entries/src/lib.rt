@@ -11,12 +11,33 @@ ghost use Rattle.text.specs.Reading.{field_of};
 ghost use Rattle.text.specs.Fields.{Inside};
 ghost use Rattle.read_expression.specs.Reading.{here};
 ghost use Rattle.entries.specs.Entries.{fields_of};
+ghost use Rattle.entries.specs.Sections.{number_of};
 ghost use Rattle.entries.specs.Heads.{IsHead, last_name, numbers_of};
 ghost use Rattle.entries.specs.HeadFields.{LineAt, HeadIs, HeadIsHere, clause_fields, name_head};
 ghost use Rattle.entries.specs.ColumnWords.{words_head};
 
+use numbers::refusals::{Reason, Refusal};
+use read_expression::reading::Cursor;
 use text::Line;
 use text::places::address;
+
+// The sections of a statement but FROM, in the order of their keywords: the clauses of a SELECT, from `where` to `limit`, stand in it
+// as they do in the text.
+#[derive(Clone, Copy, Debug, PartialEq, Eq)]
+pub enum Section {
+    Item,
+    Where,
+    Group,
+    Having,
+    Order,
+    Offset,
+    Limit,
+    Columns,
+    Name,
+    Row,
+    Set,
+    Column,
+}
 
 // What a record says: a and b are the address and the length of its name, c and d those of its reference.
 #[derive(Clone, Copy)]
@@ -31,14 +52,6 @@ pub struct Head {
     pub index: u32,
     pub c: u32,
     pub d: u32,
-}
-
-// The record of a kind at a position: none of the kind stands there, its fields do not fit, or what it says.
-#[derive(Clone, Copy)]
-pub enum Record {
-    Missing,
-    Wrong,
-    Fits(Head),
 }
 
 // A record that has no names.
@@ -285,35 +298,43 @@ fn column(t: &[u8], p: usize, f: Line) -> Option<Head>
     Some(column_head(w, a, m, address(c), d as u32))
 }
 
-// What the fields of a record of a kind say, behind an entry whose name has this address and length (length 0: none).
-fn fields_head(t: &[u8], p: usize, f: Line, kind: u32, last: u32, len: u32) -> Option<Head>
-    requires fact_1 { LineAt t.now p f }
-    requires fact_2 { kind ≤ 11 }
-    ensures { HeadIsHere t.now p (fields_of kind (last_name t.now last len)) result }
+// What the fields of a section's record say, behind an entry whose name has this address and length (length 0: none).
+#[tactic(auto, unfolding(crate::specs::Entries::fields_of, crate::specs::HeadFields::clause_fields))]
+fn fields_head(t: &[u8], p: usize, f: Line, kind: Section, last: u32, len: u32) -> Option<Head>
+    requires { LineAt t.now p f }
+    ensures { HeadIsHere t.now p (fields_of (number_of kind) (last_name t.now last len)) result }
 {
     match kind {
-        0 => item(t, p, f),
-        4 => order(t, p, f),
-        7 => clause(t, p, f, 0),
-        8 => name(t, p, f),
-        9 => row(t, p, f),
-        10 => set(t, p, f, last, len),
-        11 => column(t, p, f),
-        _ => clause(t, p, f, 1),
+        Section::Item => item(t, p, f),
+        Section::Order => order(t, p, f),
+        Section::Columns => clause(t, p, f, 0),
+        Section::Name => name(t, p, f),
+        Section::Row => row(t, p, f),
+        Section::Set => set(t, p, f, last, len),
+        Section::Column => column(t, p, f),
+        Section::Where | Section::Group | Section::Having | Section::Offset | Section::Limit => {
+            clause(t, p, f, 1)
+        }
     }
 }
 
-// The record of a kind at a position, by its fields, behind an entry whose name has this address and length.
-pub fn entry_head(t: &[u8], p: usize, f: Line, kind: u32, last: u32, len: u32) -> Record
-    requires fact_1 { LineAt t.now p f }
-    requires fact_2 { kind ≤ 11 }
-    ensures { (l c k : ℕ) → IsHead t.now kind (last_name t.now last len) (here t.now p l c k) result }
+// The section's record that stands here, if one does, by its fields, behind an entry whose name has this address and length.
+pub fn entry_head(
+    t: &[u8],
+    at: Cursor,
+    f: Line,
+    kind: Section,
+    last: u32,
+    len: u32,
+) -> Result<Option<Head>, Refusal>
+    requires { LineAt t.now at.position f }
+    ensures { (l c k : ℕ) → IsHead t.now (number_of kind) (last_name t.now last len) at.line (here t.now at.position l c k) result }
 {
     if text::words::part(t, f.starts[0], f.lens[0]) != kind as usize {
-        return Record::Missing;
+        return Ok(None);
     }
-    match fields_head(t, p, f, kind, last, len) {
-        Some(h) => Record::Fits(h),
-        None => Record::Wrong,
+    match fields_head(t, at.position, f, kind, last, len) {
+        Some(h) => Ok(Some(h)),
+        None => Err(Reason::WrongRecord.at(at.line)),
     }
 }

@@ -1,5 +1,5 @@
 -- The line that is printed: what was read, or the refusal as the planning program prints it (docs/PLAN.md).
-use Rattle.std.specs.Prelude.{ℕ, zero, suc, ◌≡◌, refl, List, [], ◌∷◌, ◌++◌, length, get_or, Result, Ok, Err}
+use Rattle.std.specs.Prelude.{◌≡◌, refl, List, [], ◌∷◌, ◌++◌, length, Result, Ok, Err}
 use Rattle.rules.specs.Refusals.{Text, catalog, statement, refusal_number, Refusal, Answer, ok, refused}
 use Rattle.rules.specs.Lists.{Bytes}
 use Rattle.rules.specs.Lines.{bytes}
@@ -8,9 +8,10 @@ use Rattle.rules.specs.Ast.{Statement}
 use Rattle.rules.specs.Ast as Ast
 use Rattle.rules.specs.Sizes.{statement_size}
 use Rattle.rules.specs.Print.{decimal_of, tabbed, show_lines, text_name, show_refusal, show_answer}
-use Rattle.reader.specs.Texts.{kind_of}
-use Rattle.reader.specs.Reading.{text_named, texts_of}
+use Rattle.reader.specs.Reading.{text_named, texts_of, statement_kind}
 use Rattle.numbers.specs.Reasons.{reason_of, reason-named}
+use Rattle.statement.specs.declared.access.Kind.{Kind}
+use Rattle.statement.specs.declared.access.Kind.TheVariants as K
 use Rattle.reader.specs.declared.Text as Tx
 use Rattle.reader.specs.declared.Text.TheVariants as T
 use Rattle.reader.specs.declared.Texts.{Texts}
@@ -30,9 +31,15 @@ unfoldable pub printed : Answer (Catalog × Statement) → Bytes
 printed (ok x) = tabbed (bytes "read" ∷ kind_name x.1 ∷ decimal_of (statement_size x.1) ∷ decimal_of (length x.0) ∷ []) ++ (10 ∷ [])
 printed (refused r) = show_answer (refused r)
 
--- the words of a kind's number and of a text
-unfoldable pub kind_word : ℕ → Bytes
-kind_word k = get_or (bytes "other" ∷ bytes "select" ∷ bytes "create" ∷ bytes "drop" ∷ bytes "delete" ∷ bytes "insert" ∷ bytes "update" ∷ []) k (bytes "other")
+-- the words of a kind and of a text
+unfoldable pub kind_word : Kind → Bytes
+kind_word K.Select = bytes "select"
+kind_word K.Create = bytes "create"
+kind_word K.Drop = bytes "drop"
+kind_word K.Delete = bytes "delete"
+kind_word K.Insert = bytes "insert"
+kind_word K.Update = bytes "update"
+kind_word K.Other = bytes "other"
 
 unfoldable pub text_word : Tx.Text → Bytes
 text_word T.Catalog = bytes "catalog"
@@ -45,20 +52,8 @@ fields_of (Err w) = bytes "refused" ∷ decimal_of (refusal_number (reason_of w.
 unfoldable pub line_of : Result Texts TextRefusal → Bytes
 line_of t = tabbed (fields_of t) ++ (10 ∷ [])
 
--- a number that is no kind's
-pub kind-other : (k : ℕ) → (k ≡ 1 → ⊥) → (k ≡ 2 → ⊥) → (k ≡ 3 → ⊥) → (k ≡ 4 → ⊥) → (k ≡ 5 → ⊥) → (k ≡ 6 → ⊥) → kind_word k ≡ bytes "other"
-unfolding kind_word
-kind-other zero a b c d e f = refl
-kind-other (suc zero) a b c d e f = absurd (a refl)
-kind-other (suc (suc zero)) a b c d e f = absurd (b refl)
-kind-other (suc (suc (suc zero))) a b c d e f = absurd (c refl)
-kind-other (suc (suc (suc (suc zero)))) a b c d e f = absurd (d refl)
-kind-other (suc (suc (suc (suc (suc zero))))) a b c d e f = absurd (e refl)
-kind-other (suc (suc (suc (suc (suc (suc zero)))))) a b c d e f = absurd (f refl)
-kind-other (suc (suc (suc (suc (suc (suc (suc k))))))) a b c d e f = refl
-
-kind-word : (s : Statement) → kind_word (kind_of s) ≡ kind_name s
-unfolding kind_word kind_of kind_name
+kind-word : (s : Statement) → kind_word (statement_kind s) ≡ kind_name s
+unfolding kind_word statement_kind kind_name
 kind-word (Ast.select s) = refl
 kind-word (Ast.create d) = refl
 kind-word (Ast.drop d) = refl

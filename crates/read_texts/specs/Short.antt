@@ -6,6 +6,8 @@ use Rattle.rules.specs.Lists.{Bytes}
 use Rattle.rules.specs.Lines.{bytes}
 use Rattle.rules.specs.Print.{digits_of, decimal_of, tabbed}
 use Rattle.listing.specs.Put.{Put}
+use Rattle.statement.specs.declared.access.Kind.{Kind}
+use Rattle.statement.specs.declared.access.Kind.TheVariants as K
 use Rattle.reader.specs.declared.Text as Tx
 use Rattle.reader.specs.declared.Text.TheVariants as T
 use Rattle.read_texts.specs.Line.{kind_word, text_word}
@@ -30,16 +32,15 @@ pub decimal_few : (n : ℕ) → n < 4294967296 → length (decimal_of n) ≤ 10
 unfolding decimal_of
 decimal_few n h = digits_few 9 20 n [] (omega arith)
 
-pub kind_few : (k : ℕ) → length (kind_word k) ≤ 6
+pub kind_few : (k : Kind) → length (kind_word k) ≤ 6
 unfolding kind_word bytes
-kind_few zero = omega arith
-kind_few (suc zero) = omega arith
-kind_few (suc (suc zero)) = omega arith
-kind_few (suc (suc (suc zero))) = omega arith
-kind_few (suc (suc (suc (suc zero)))) = omega arith
-kind_few (suc (suc (suc (suc (suc zero))))) = omega arith
-kind_few (suc (suc (suc (suc (suc (suc zero)))))) = omega arith
-kind_few (suc (suc (suc (suc (suc (suc (suc k))))))) = omega arith
+kind_few K.Select = omega arith
+kind_few K.Create = omega arith
+kind_few K.Drop = omega arith
+kind_few K.Delete = omega arith
+kind_few K.Insert = omega arith
+kind_few K.Update = omega arith
+kind_few K.Other = omega arith
 
 pub text_few : (t : Tx.Text) → length (text_word t) ≤ 9
 unfolding text_word bytes

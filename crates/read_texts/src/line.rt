@@ -6,23 +6,26 @@ ghost use Rattle.read_texts.specs.Line.{kind_word, text_word, fields_of, line_of
 
 use listing::put::Writer;
 use reader::{Text, TextRefusal, Texts};
+use statement::access::Kind;
 
 // The word of a statement's kind.
-fn kind_word(kind: u32) -> &'static [u8]
+#[tactic(auto, unfolding(crate::specs::Line::kind_word, rules::specs::Lines::bytes))]
+fn kind_word(kind: Kind) -> &'static [u8]
     ensures { result.now ≡ kind_word kind }
 {
     match kind {
-        1 => b"select",
-        2 => b"create",
-        3 => b"drop",
-        4 => b"delete",
-        5 => b"insert",
-        6 => b"update",
-        _ => b"other",
+        Kind::Select => b"select",
+        Kind::Create => b"create",
+        Kind::Drop => b"drop",
+        Kind::Delete => b"delete",
+        Kind::Insert => b"insert",
+        Kind::Update => b"update",
+        Kind::Other => b"other",
     }
 }
 
 // The word of a text.
+#[tactic(auto, unfolding(crate::specs::Line::text_word, rules::specs::Lines::bytes))]
 fn text_word(text: Text) -> &'static [u8]
     ensures { result.now ≡ text_word text }
 {

@@ -1,9 +1,9 @@
 -- Reading by cases: what each refusal, and what was read, says of the rules' answer.
 use Prim.Native.Nat.{ℕ, zero, suc, ◌≤◌, ◌<◌}
 use Rattle.std.proofs.Common.{arith, ap, ◌∙◌}
-use Rattle.std.specs.Prelude.{◌≡◌, List, [], ◌∷◌, length, get_or, Result, Ok, Err}
+use Rattle.std.specs.Prelude.{◌≡◌, List, length, get_or, Result, Ok, Err}
 use Rattle.std.proofs.Math.Path.{refl, sym}
-use borrow.Author.Tests.{lt-ltb, le-ltb, eq-eqb, ne_eqb}
+use borrow.Author.Tests.{lt-ltb, le-ltb}
 use Rattle.rules.specs.Refusals.{catalog, statement, Refusal, ok, refused, refuse, limit_passed, ◌>>=◌}
 use Rattle.rules.specs.Limits.{most_bytes}
 use Rattle.rules.specs.Lists.{Bytes}
@@ -13,19 +13,19 @@ use Rattle.rules.specs.Ast as Ast
 use Rattle.rules.specs.Sizes.{statement_size}
 use Rattle.rules.specs.ReadCatalog.{read_catalog}
 use Rattle.rules.specs.ReadStatement.{read_statement}
-use Rattle.numbers.specs.Codes.{coded, coded-above}
 use Rattle.schema.specs.Layout.{tables_at, catalog_at}
 use Rattle.schema.specs.TableRuns.{catalog_of, catalog_answer}
 use Rattle.statement.specs.Layout.{statement_at}
 use Rattle.statement.specs.Whole.{statement_of, statement_answer, Counts, SelectStays}
 use Rattle.statement.specs.Access as access
 use Rattle.statement.specs.Stays.{SectionsStay}
+use Rattle.statement.specs.declared.access.Kind.{Kind}
 use Rattle.statement.specs.declared.access.Kind.TheVariants as K
 use Rattle.numbers.specs.declared.refusals.Refusal as code
-use Rattle.numbers.specs.declared.refusals.Reason.TheVariants.{LimitPassed, OtherStatement}
+use Rattle.numbers.specs.declared.refusals.Reason.TheVariants.{LimitPassed}
 use Rattle.numbers.specs.Reasons.{told, named, named-reason}
-use Rattle.reader.specs.Texts.{kind_of, not_other, both_of, read_texts}
-use Rattle.reader.specs.Reading.{text_named, texts_of, is_other, texts_by, TextsRead}
+use Rattle.reader.specs.Texts.{not_other, both_of, read_texts}
+use Rattle.reader.specs.Reading.{text_named, texts_of, texts_by, statement_kind, TextsRead}
 use Rattle.reader.specs.declared.Text.TheVariants as T
 
 -- REFUSED
@@ -46,36 +46,28 @@ module _ {c q : Bytes} {tables cells froms parts : List ℕ} where
   statement-long h g = refused-read (record { reason = limit_passed; text = statement; line = 0 }) (rw (read_texts, le-ltb most_bytes (length c) h, lt-ltb most_bytes (length q) g))
 
 -- READ
--- a kind of no statement, and of one
-pub texts-zero : {k : ℕ} (l n m : ℕ) → k ≡ 0 → Err (record { reason = OtherStatement; text = T.Statement; line = l }) ≡ texts_by k l n m
-unfolding texts_by is_other
-texts-zero {k} l n m h = sym (rw (texts_by, is_other, eq-eqb k 0 h))
+-- a statement that can be planned
+pub texts-one : (k : Kind) (l n m : ℕ) → (k ≡ K.Other → ⊥) → Ok (record { kind = k; cells = n; tables = m }) ≡ texts_by k l n m
+unfolding texts_by
+texts-one K.Select l n m h = refl
+texts-one K.Create l n m h = refl
+texts-one K.Drop l n m h = refl
+texts-one K.Delete l n m h = refl
+texts-one K.Insert l n m h = refl
+texts-one K.Update l n m h = refl
+texts-one K.Other l n m h = absurd (h refl)
 
-pub texts-above : {k : ℕ} (l n m : ℕ) → 6 < k → Err (record { reason = OtherStatement; text = T.Statement; line = l }) ≡ texts_by k l n m
-unfolding texts_by is_other
-texts-above {k} l n m h = sym (rw (texts_by, is_other, ne_eqb k 0 (λ z. omega arith), lt-ltb 6 k h))
-
-pub texts-one : {k : ℕ} (l n m : ℕ) → (k ≡ 0 → ⊥) → k ≤ 6 → Ok (record { kind = k; cells = n; tables = m }) ≡ texts_by k l n m
-unfolding texts_by is_other
-texts-one {k} l n m h g = sym (rw (texts_by, is_other, ne_eqb k 0 h, le-ltb 6 k g))
-
--- the statement that a kind stands for, of one statement of each kind
-module _ (l : ℕ) (s : Ast.Select) (d : Ast.Create) (e : Ast.Drop) (f : Ast.Delete) (g : Ast.Insert) (h : Ast.Update) where
-  abbrev of_kind : ℕ → Statement
-  of_kind k = coded (Ast.other l) (Ast.select s ∷ Ast.create d ∷ Ast.drop e ∷ Ast.delete f ∷ Ast.insert g ∷ Ast.update h ∷ []) 1 k
-
-  texts-of-kind : (ts : Catalog) (k n m : ℕ) → n ≡ statement_size (of_kind k) → m ≡ length ts → texts_of (not_other (of_kind k) >>= λ s'. ok (ts, s')) ≡ texts_by k l n m
-  unfolding coded texts_of texts_by is_other not_other kind_of ◌>>=◌ refuse named text_named
-  texts-of-kind ts zero n m i j = refl
-  texts-of-kind ts (suc zero) n m i j = rw (i, j)
-  texts-of-kind ts (suc (suc zero)) n m i j = rw (i, j)
-  texts-of-kind ts (suc (suc (suc zero))) n m i j = rw (i, j)
-  texts-of-kind ts (suc (suc (suc (suc zero)))) n m i j = rw (i, j)
-  texts-of-kind ts (suc (suc (suc (suc (suc zero))))) n m i j = rw (i, j)
-  texts-of-kind ts (suc (suc (suc (suc (suc (suc zero)))))) n m i j = rw (i, j)
-  texts-of-kind ts (suc (suc (suc (suc (suc (suc (suc k))))))) n m i j =
-      rw (coded-above (Ast.other l) (Ast.select s ∷ Ast.create d ∷ Ast.drop e ∷ Ast.delete f ∷ Ast.insert g ∷ Ast.update h ∷ []) 1 (suc (suc (suc (suc (suc (suc (suc k))))))) (omega arith))
-      (texts-above {k = suc (suc (suc (suc (suc (suc (suc k))))))} l n m (omega arith))
+-- the statement that a kind stands for, of the numbers in the slices
+texts-of-kind : (b q : Bytes) (cells froms parts : List ℕ) (ts : Catalog) (k : Kind) (n m : ℕ) → n ≡ statement_size (access.statement_of b q cells froms parts k) → m ≡ length ts
+    → texts_of (not_other (access.statement_of b q cells froms parts k) >>= λ s'. ok (ts, s')) ≡ texts_by k (access.line_at parts) n m
+unfolding access.statement_of texts_of texts_by not_other statement_kind ◌>>=◌ refuse named text_named
+texts-of-kind b q cells froms parts ts K.Select n m i j = rw (i, j)
+texts-of-kind b q cells froms parts ts K.Create n m i j = rw (i, j)
+texts-of-kind b q cells froms parts ts K.Drop n m i j = rw (i, j)
+texts-of-kind b q cells froms parts ts K.Delete n m i j = rw (i, j)
+texts-of-kind b q cells froms parts ts K.Insert n m i j = rw (i, j)
+texts-of-kind b q cells froms parts ts K.Update n m i j = rw (i, j)
+texts-of-kind b q cells froms parts ts K.Other n m i j = refl
 
 same_read : (ts : Catalog) (s : Statement) (x : Catalog × Statement) → (not_other s >>= λ s'. ok (ts, s')) ≡ ok x → (ts, s) ≡ x
 unfolding not_other ◌>>=◌ refuse
@@ -143,10 +135,12 @@ module _ {c q : Bytes} {tables : List ℕ} {k : Result (Unit {0}) code.Refusal} 
     unfolding SelectStays
     staying y = rw y at h.stays
 
-    pub texts-read : {n : ℕ} → o ≡ Ok n → TextsRead c q tables cells froms parts (texts_by (get_or parts 0 0) (get_or parts 1 0) n (get_or tables 0 0))
-    unfolding statement_at catalog_at
-    texts-read {n} y = record {
-      is = sym (ap texts_of (taken y) ∙ texts-of-kind _ _ _ _ _ _ _ (catalog_at c q tables) (get_or parts 0 0) n (get_or tables 0 0) (counted y) (sym (tables-length c q tables 0 (get_or tables 0 0))));
-      stands = λ x e. same_read _ _ x (sym (taken y) ∙ e);
-      stays = λ x e. staying y;
-    }
+    pub texts-read : {n : ℕ} → o ≡ Ok n → {k : Kind} → k ≡ access.kind_of (access.kind_number parts) → TextsRead c q tables cells froms parts (texts_by k (access.line_at parts) n (get_or tables 0 0))
+    unfolding catalog_at
+    texts-read {n} y {k} e =
+        let s : statement_at c q cells froms parts ≡ access.statement_of c q cells froms parts k = access.statement-kind c q cells froms parts k e in
+        record {
+          is = sym (ap texts_of (taken y) ∙ rw s (texts-of-kind c q cells froms parts (catalog_at c q tables) k n (get_or tables 0 0) (rw s at (counted y)) (sym (tables-length c q tables 0 (get_or tables 0 0)))));
+          stands = λ x e. same_read _ _ x (sym (taken y) ∙ e);
+          stays = λ x e. staying y;
+        }

@@ -1,7 +1,7 @@
 -- What reading both texts hands on: where they are accepted, the answer, what the slices stand for and all that holds
 -- of it; where they are refused, the refusal.
 use Rattle.std.specs.Prelude.{ℕ, ◌≤◌, Bool, true, false, List, ltb, Ok, Err}
-use Rattle.std.proofs.Common.{arith, ltb-false}
+use Rattle.std.proofs.Common.{◌∙◌, arith, ltb-false}
 use Rattle.std.proofs.Math.Path.{◌≡◌, refl, ap}
 use Rattle.std.proofs.Math.ListN.{length}
 use Rattle.rules.specs.Refusals.{catalog, statement, limit_passed, refusal_number, Refusal, Answer, ok, refused, refuse}
@@ -21,8 +21,10 @@ use Rattle.statement.specs.Layout.{statement_at}
 use Rattle.statement.specs.Stays.{SectionsStay}
 use Rattle.statement.specs.Access as access
 use Rattle.statement.specs.declared.access.Kind.TheVariants as K
+use Rattle.statement.specs.Kinds.{number_of}
+use Rattle.statement.specs.declared.access.Kind.{Kind}
 use Rattle.reader.specs.Texts.{kind_of, not_other, both_of, read_texts}
-use Rattle.reader.specs.Reading.{text_of, text_named, text-named, texts_of, TextsRead}
+use Rattle.reader.specs.Reading.{text_of, text_named, text-named, texts_of, statement_kind, kind-numbers, TextsRead}
 use Rattle.numbers.specs.Reasons.{named, reason_of, reason-named}
 use Rattle.reader.specs.declared.Texts.{Texts}
 use Rattle.reader.specs.declared.TextRefusal.{TextRefusal}
@@ -98,28 +100,28 @@ pub record TextsRefused (c q : Bytes) (k t l : ℕ) : Type 0 where
   pub line : l ≡ refusal.line
 
 module _ {c q : Bytes} {tables cells froms parts : List ℕ} where
-  pub texts-accepted : {k n m : ℕ} → TextsRead c q tables cells froms parts (Ok (record { kind = k; cells = n; tables = m }))
-      → Accepted c q tables cells froms parts k n m
+  pub texts-accepted : {k : Kind} {n m : ℕ} → TextsRead c q tables cells froms parts (Ok (record { kind = k; cells = n; tables = m }))
+      → Accepted c q tables cells froms parts (number_of k) n m
   unfolding texts_of
   texts-accepted {k} {n} {m} h = go (read_texts c q) refl h.is
     where
       go : (a : Answer (Catalog × Statement)) → read_texts c q ≡ a → Ok (record { kind = k; cells = n; tables = m }) ≡ texts_of a
-          → Accepted c q tables cells froms parts k n m
+          → Accepted c q tables cells froms parts (number_of k) n m
       go (refused r) e z = absurd (let y : ◌≡◌ {A = ℕ} 0 1 = cc in omega arith)
       go (ok x) e z =
           let p : (catalog_at c q tables, statement_at c q cells froms parts) ≡ x = h.stands x e in
           let f : read_texts c q ≡ ok (catalog_at c q tables, statement_at c q cells froms parts) = rw p e in
-          let y : ◌≡◌ {A = Texts} (record { kind = k; cells = n; tables = m }) (record { kind = kind_of x.1; cells = statement_size x.1; tables = length x.0 }) = cc in
+          let y : ◌≡◌ {A = Texts} (record { kind = k; cells = n; tables = m }) (record { kind = statement_kind x.1; cells = statement_size x.1; tables = length x.0 }) = cc in
           record {
             read = f;
             within = read-within c q (catalog_at c q tables, statement_at c q cells froms parts) f;
-            kind = rw (← p) at (ap (λ (t : Texts). t.kind) y);
+            kind = rw (← p) at (ap (λ (t : Texts). number_of t.kind) y ∙ kind-numbers x.1);
             size = rw (← p) at (ap (λ (t : Texts). t.cells) y);
             count = rw (← p) at (ap (λ (t : Texts). t.tables) y);
           }
 
   -- what is stored behind the rows of a SELECT changes none of its sections
-  pub select-stays : {k n m : ℕ} → TextsRead c q tables cells froms parts (Ok (record { kind = k; cells = n; tables = m }))
+  pub select-stays : {k : Kind} {n m : ℕ} → TextsRead c q tables cells froms parts (Ok (record { kind = k; cells = n; tables = m }))
       → K.Select ≡ access.kind_of (access.kind_number parts) → SectionsStay q cells parts
   select-stays h e = h.stays _ (texts-accepted h).read e
 

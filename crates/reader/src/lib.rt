@@ -8,6 +8,7 @@ ghost use Rattle.reader.specs.Reading.{text_of, texts_by, TextsRead};
 
 use numbers::refusals::{Reason, Refusal};
 use schema::read::read_catalog;
+use statement::access::{Kind, kind_of, line};
 use statement::{CELL_NUMBERS, FROM_NUMBERS, PART_NUMBERS, read_statement};
 
 // The two texts, by document 01's numbers.
@@ -38,39 +39,33 @@ impl Text {
 }
 
 // Two texts that were read: the statement's kind, how many expression cells it has and how many tables the catalog has.
-#[derive(Clone, Copy)]
+#[derive(Clone, Copy, Debug, PartialEq, Eq)]
 pub struct Texts {
-    pub kind: u32,
+    pub kind: Kind,
     pub cells: u32,
     pub tables: u32,
 }
 
 // Why a text is refused, which of the two, and the line of the record where it arose.
-#[derive(Clone, Copy)]
+#[derive(Clone, Copy, Debug, PartialEq, Eq)]
 pub struct TextRefusal {
     pub reason: Reason,
     pub text: Text,
     pub line: u32,
 }
 
-// The last of the kinds of statements that can be planned (parts[0]).
-const LAST_KIND: u32 = 6;
-
-// A statement that was read, by its kind and line: refused where it is none of the six.
-fn taken(kind: u32, line: u32, cells: u32, tables: u32) -> Result<Texts, TextRefusal>
+// A statement that was read, by its kind and line: refused where it is none of the six that can be planned.
+fn taken(kind: Kind, line: u32, cells: u32, tables: u32) -> Result<Texts, TextRefusal>
     ensures { result ≡ texts_by kind line cells tables }
 {
-    if kind == 0 {
-        return Err(Text::Statement.refuses(Reason::OtherStatement.at(line)));
+    match kind {
+        Kind::Other => Err(Text::Statement.refuses(Reason::OtherStatement.at(line))),
+        _ => Ok(Texts {
+            kind,
+            cells,
+            tables,
+        }),
     }
-    if LAST_KIND < kind {
-        return Err(Text::Statement.refuses(Reason::OtherStatement.at(line)));
-    }
-    Ok(Texts {
-        kind,
-        cells,
-        tables,
-    })
 }
 
 // Both texts, whatever they are; `tables` has enough numbers for the catalog (schema::read::numbers_for). Where the texts
@@ -96,7 +91,7 @@ pub fn read_texts(
         return Err(Text::Catalog.refuses(w));
     }
     match read_statement(statement, cells, froms, parts) {
-        Ok(n) => taken(parts[0], parts[1], n, tables[0]),
+        Ok(n) => taken(kind_of(parts), line(parts), n, tables[0]),
         Err(w) => Err(Text::Statement.refuses(w)),
     }
 }

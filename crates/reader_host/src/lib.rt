@@ -17,7 +17,7 @@ use statement::{CELL_NUMBERS, FROM_NUMBERS, PART_NUMBERS};
 // Document 01's number of a refusal, its text (1 catalog, 2 statement) and line; or 0, and the statement's kind, how many
 // expression cells it has and how many tables the catalog has.
 #[repr(C)]
-#[derive(Clone, Copy)]
+#[derive(Clone, Copy, Debug, PartialEq, Eq)]
 pub struct Answer {
     pub number: u32,
     pub text: u32,
@@ -27,6 +27,7 @@ pub struct Answer {
     pub tables: u32,
 }
 
+#[tactic(auto, unfolding(crate::specs::Numbers::answered))]
 fn answered(t: Result<Texts, TextRefusal>) -> Answer
     ensures { result ≡ answeredBy t }
 {
@@ -35,7 +36,7 @@ fn answered(t: Result<Texts, TextRefusal>) -> Answer
             number: 0,
             text: 0,
             line: 0,
-            kind: t.kind,
+            kind: t.kind as u32,
             cells: t.cells,
             tables: t.tables,
         },

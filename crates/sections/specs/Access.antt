@@ -2,19 +2,16 @@
 -- entry stand for.
 use Prim.Native.Nat.{ℕ, zero, suc, ◌+◌, ◌*◌, ◌<◌}
 use native.Mathlib.Omega.{arith}
-use Rattle.std.proofs.Math.Decide.{dec_lt}
 use Rattle.std.specs.Prelude.{◌≡◌, List, [], ◌∷◌, length, get_or, drop}
 use Rattle.std.proofs.Math.Path.{refl, ap}
 use Rattle.std.proofs.Common.{sym, ◌∙◌}
 use Rattle.std.proofs.Math.Option.{some}
-use Rattle.std.proofs.Math.ListN.{get_or-eq_default}
 use Rattle.rules.specs.Lists.{Bytes, entry_after}
 use Rattle.ast.specs.Table.{arguments_at, tree_at}
 use Rattle.ast.specs.Names.{name_at}
 use Rattle.entries.specs.Entries as E
-use Rattle.sections.specs.Layout.{numbers, start_of, head_at, entry_at, entries_at, section_at}
+use Rattle.sections.specs.Layout.{start_of, head_at, entry_at, entries_at, section_at}
 use Rattle.sections.specs.Store.{entries-length}
-use Rattle.sections.specs.Kinds.{start-within}
 use Rattle.sections.specs.OneEntry.{entry_start}
 use Rattle.sections.specs.declared.entry.Entry.{Entry}
 
@@ -55,18 +52,6 @@ set_kind = 10
 abbrev pub column_kind : ℕ
 column_kind = 11
 
--- what is no kind has no section
-pub start-past : (k : ℕ) → column_kind < k → start_of k ≡ 0
-unfolding start_of
-start-past k h = get_or-eq_default
-    (8 ∷ 777 ∷ 790 ∷ 1559 ∷ 1572 ∷ 2341 ∷ 2354 ∷ 8 ∷ 21 ∷ 790 ∷ 8 ∷ 8 ∷ []) 0 h
-
-pub start_small : (k : ℕ) → start_of k < numbers
-start_small k = elim (dec_lt column_kind k) [
-  | yes y ↦ omega (arith, start-past k y)
-  | no y ↦ start-within k (omega (arith, y))
-]
-
 -- NUMBERS
 -- the numbers of an entry from i on, and those of entry k of a section
 unfoldable pub numbers_from : List ℕ → ℕ → Entry
@@ -87,11 +72,6 @@ numbers_from parts i = record {
 
 unfoldable pub numbers_at : List ℕ → ℕ → ℕ → Entry
 numbers_at parts kind k = numbers_from parts (entry_start kind k)
-
-pub numbers-start : (parts : List ℕ) (kind k s : ℕ) → s ≡ start_of kind
-    → numbers_from parts (s + 1 + 12 * k) ≡ numbers_at parts kind k
-unfolding numbers_at entry_start
-numbers-start parts kind k s h = rw h
 
 -- what an entry's numbers stand for, of the catalog b, the statement q and the rows of the expressions
 unfoldable pub entry_of : Bytes → Bytes → List ℕ → Entry → E.Entry

@@ -27,9 +27,7 @@ use Rattle.read_expression.specs.Times.{times-count}
 use Rattle.sections.specs.Kinds.{entry-within, keyword-inside}
 use Rattle.sections.specs.Store.{entry_numbers, entry-twelve, entry-back}
 use Rattle.entries.specs.declared.Head.{Head}
-use Rattle.entries.specs.declared.Record as Re
-use Rattle.entries.specs.declared.Record.TheVariants as En
-use Rattle.numbers.specs.declared.refusals.Reason.TheVariants.{WrongRecord, LimitPassed}
+use Rattle.numbers.specs.declared.refusals.Reason.TheVariants.{LimitPassed}
 use Rattle.numbers.specs.declared.refusals.Refusal as code
 use Rattle.numbers.specs.Reasons.{reason_of, told}
 use Rattle.read_expression.specs.declared.reading.Cursor.{Cursor}
@@ -112,17 +110,17 @@ numbers_as : {t : Bytes} {kind : ℕ} {b : Option Bytes} {p : Place} {r : Head} 
 unfolding entry_numbers
 numbers_as {t} {kind} {b} {p} {r} v l c = ap (λ xs. l ∷ v.head.expressions ∷ c ∷ xs) v.numbers ∙ ap (λ n. l ∷ n ∷ c ∷ numbers_of r) (sym v.expressions)
 
-module _ {t : Bytes} {p l c kind n : ℕ} {cells parts : List ℕ} (w : EntryReady t p l c kind n cells parts) (last len : ℕ) {said : Re.Record}
-    (h : (l c k : ℕ) → IsHead t kind (last_name t last len) (here t p l c k) said) where
-  pub entry-end : said ≡ En.Missing → (k : ℕ) → EntryRead t p l c kind n last len cells cells parts parts k (Ok None)
+module _ {t : Bytes} {p l c kind n : ℕ} {cells parts : List ℕ} (w : EntryReady t p l c kind n cells parts) (last len : ℕ) {said : Result (std.Option Head) code.Refusal}
+    (h : (l' c' k : ℕ) → IsHead t kind (last_name t last len) l (here t p l' c' k) said) where
+  pub entry-end : said ≡ Ok None → (k : ℕ) → EntryRead t p l c kind n last len cells cells parts parts k (Ok None)
   unfolding EntryRead
   entry-end e k = record { is = λ fuel. entries-end kind fuel n _ _ ((h l c k).missing e); cells_same = refl; parts_same = refl }
 
-  pub entry-wrong : said ≡ En.Wrong → (k : ℕ) → EntryRead t p l c kind n last len cells cells parts parts k (Err (record { reason = WrongRecord; line = l }))
+  pub entry-wrong : (x : code.Refusal) → said ≡ Err x → (k : ℕ) → EntryRead t p l c kind n last len cells cells parts parts k (Err x)
   unfolding EntryRead reason_of stop place
-  entry-wrong e k fuel = entries-wrong kind fuel n _ _ ((h l c k).wrong e).0 ((h l c k).wrong e).1
+  entry-wrong x e k fuel = let y = (h l c k).wrong x e in rw y.0 (entries-wrong kind fuel n _ _ y.1 y.2)
 
-  module _ {r : Head} (z : said ≡ En.Fits r) where
+  module _ {r : Head} (z : said ≡ Ok (Some r)) where
     entered : (k : ℕ) → Entered t kind (last_name t last len) (here t p l c k) r
     entered k = (h l c k).entered r z
 

@@ -1,37 +1,14 @@
 // The sections as they were read: how many entries one has, and each entry by its numbers, whatever the parts hold.
 ghost use Rattle.std.specs.Prelude.{◌≡◌, List, ℕ, ◌+◌, ◌≤◌, ◌<◌, ◌^◌, length};
 ghost use Rattle.rules.specs.Lists.{Bytes};
-ghost use Rattle.sections.specs.Layout.{start_of, section_at};
+ghost use Rattle.entries.specs.Sections.{number_of};
+ghost use Rattle.sections.specs.Layout.{section_at};
 ghost use Rattle.sections.specs.Access as access;
 ghost use Rattle.sections.specs.Expressions as expressions;
 
-use super::{ENTRY_SIZE, start_of};
+use super::{ENTRY_SIZE, entry_start, room_of};
+use entries::Section;
 use numbers::number;
-
-// The kinds of sections: numbers, since a SELECT's clauses are read by counting through them (statement::bodies::read_run).
-pub const ITEM: u32 = 0;
-
-pub const WHERE: u32 = 1;
-
-pub const GROUP: u32 = 2;
-
-pub const HAVING: u32 = 3;
-
-pub const ORDER: u32 = 4;
-
-pub const OFFSET: u32 = 5;
-
-pub const LIMIT: u32 = 6;
-
-pub const COLUMNS: u32 = 7;
-
-pub const NAME: u32 = 8;
-
-pub const ROW: u32 = 9;
-
-pub const SET: u32 = 10;
-
-pub const COLUMN: u32 = 11;
 
 // A row past the end of every table: what stands there is a star.
 pub const OUTSIDE: usize = 9223372036854775808;
@@ -54,21 +31,11 @@ pub struct Entry {
     pub extent: u32,
 }
 
-// Where a section starts; 0 for what is no kind.
-fn start(kind: u32) -> usize
-    ensures { result ≡ start_of kind }
-{
-    if COLUMN < kind {
-        return 0;
-    }
-    start_of(kind)
-}
-
 // How many entries a section has.
-pub fn count(parts: &[u32], kind: u32) -> u32
-    ensures { (b q : Bytes) (cells : List ℕ) → result ≡ length (section_at b q cells parts.now kind) }
+pub fn count(parts: &[u32], kind: Section) -> u32
+    ensures { (b q : Bytes) (cells : List ℕ) → result ≡ length (section_at b q cells parts.now (number_of kind)) }
 {
-    number(parts, start(kind))
+    number(parts, room_of(kind).start)
 }
 
 // The entry whose numbers start at i, all of them inside.
@@ -117,11 +84,10 @@ fn numbers_from(parts: &[u32], i: usize) -> Entry
 }
 
 // Entry k of a section, from 0 on.
-pub fn entry_at(parts: &[u32], kind: u32, k: u32) -> Entry
-    ensures { result ≡ access.numbers_at parts.now kind k }
+pub fn entry_at(parts: &[u32], kind: Section, k: u32) -> Entry
+    ensures { result ≡ access.numbers_at parts.now (number_of kind) k }
 {
-    let i = start(kind) + 1 + ENTRY_SIZE * (k as usize);
-    numbers_from(parts, i)
+    numbers_from(parts, entry_start(kind, k))
 }
 
 // The row of an entry's first expression; a row past the end where it has none.

@@ -3,17 +3,18 @@
 
 pub mod entry;
 
-ghost use Rattle.std.specs.Prelude.{◌≡◌, [], ◌∷◌, ℕ, ◌+◌, ◌≤◌, ◌<◌, length};
+ghost use Rattle.std.specs.Prelude.{◌≡◌, [], ◌∷◌, ℕ, ◌+◌, ◌≤◌, ◌<◌, ◌^◌, length};
 ghost use Rattle.std.proofs.lemmas.List.Edits.{sets};
 ghost use Rattle.read_expression.specs.Reading.{Position, Given};
 ghost use Rattle.entries.specs.Entries.{most_of, is_once, section, some_section};
+ghost use Rattle.entries.specs.Sections.{number_of};
 ghost use Rattle.sections.specs.Layout.{start_of};
 ghost use Rattle.sections.specs.Terms.{SectionRead};
 ghost use Rattle.entries.specs.Heads.{numbers_of};
 ghost use Rattle.sections.specs.OneEntry.{entry_start, EntryReady, EntryRead};
 ghost use Rattle.ast.specs.Table.{table_size};
 
-use entries::{Head, Record, entry_head};
+use entries::{Head, Section, entry_head};
 use numbers::put_four;
 use numbers::refusals::{Reason, Refusal};
 use read_expression::reading::{Cursor, read_expressions};
@@ -29,64 +30,70 @@ struct EntryEnd {
     length: u32,
 }
 
-// Where a section starts in the parts.
-fn start_of(kind: u32) -> usize
-    requires { kind ≤ 11 }
-    ensures { result ≡ start_of kind }
-{
-    match kind {
-        0 => 8,
-        1 => 777,
-        2 => 790,
-        3 => 1559,
-        4 => 1572,
-        5 => 2341,
-        6 => 2354,
-        7 => 8,
-        8 => 21,
-        9 => 790,
-        10 => 8,
-        11 => 8,
-        _ => 0,
-    }
+// Where a section starts in the parts, and the most entries that it has.
+#[derive(Clone, Copy)]
+struct Room {
+    start: usize,
+    most: u32,
 }
 
-// Most entries of a section.
-fn most_of(kind: u32) -> u32
-    requires { kind ≤ 11 }
-    ensures { result ≡ most_of kind }
+// Sections that no statement has together share their numbers.
+#[tactic(auto, unfolding(crate::specs::Layout::start_of, entries::specs::Entries::most_of))]
+fn room_of(kind: Section) -> Room
+    ensures { (result.start ≡ start_of (number_of kind)) × (result.most ≡ most_of (number_of kind)) }
 {
     match kind {
-        0 => 64,
-        1 => 1,
-        2 => 64,
-        3 => 1,
-        4 => 64,
-        5 => 1,
-        6 => 1,
-        7 => 1,
-        8 => 64,
-        9 => 256,
-        10 => 64,
-        11 => 64,
-        _ => 0,
+        Section::Item => Room { start: 8, most: 64 },
+        Section::Where => Room {
+            start: 777,
+            most: 1,
+        },
+        Section::Group => Room {
+            start: 790,
+            most: 64,
+        },
+        Section::Having => Room {
+            start: 1559,
+            most: 1,
+        },
+        Section::Order => Room {
+            start: 1572,
+            most: 64,
+        },
+        Section::Offset => Room {
+            start: 2341,
+            most: 1,
+        },
+        Section::Limit => Room {
+            start: 2354,
+            most: 1,
+        },
+        Section::Columns => Room { start: 8, most: 1 },
+        Section::Name => Room {
+            start: 21,
+            most: 64,
+        },
+        Section::Row => Room {
+            start: 790,
+            most: 256,
+        },
+        Section::Set => Room { start: 8, most: 64 },
+        Section::Column => Room { start: 8, most: 64 },
     }
 }
 
 // Whether a section is a clause: one record at most.
-fn is_once(kind: u32) -> bool
-    requires { kind ≤ 11 }
-    ensures { result ≡ is_once kind }
+fn is_once(kind: Section) -> bool
+    ensures { result ≡ is_once (number_of kind) }
 {
-    most_of(kind) == 1
+    room_of(kind).most == 1
 }
 
 // Where the n-th entry of a section starts.
-fn entry_start(kind: u32, n: u32) -> usize
-    requires { (kind ≤ 11) × (n < most_of kind) }
-    ensures { result ≡ entry_start kind n }
+fn entry_start(kind: Section, n: u32) -> usize
+    ensures { (result ≡ entry_start (number_of kind) n) × (result < 2 ^ 63) }
 {
-    let start = start_of(kind);
+    let start = room_of(kind).start;
     start + 1 + ENTRY_SIZE * (n as usize)
 }
 
@@ -104,23 +111,21 @@ fn put_entry(parts: &mut [u32], i: usize, line: u32, row: u32, h: Head)
 fn read_entry(
     t: &[u8],
     at: Cursor,
-    kind: u32,
+    kind: Section,
     n: u32,
     last: u32,
     len: u32,
     cells: &mut [u32],
     parts: &mut [u32],
 ) -> Result<Option<EntryEnd>, Refusal>
-    requires { EntryReady t.now at.position at.line at.rows kind n cells.old parts.old }
-    ensures { (k : ℕ) → EntryRead t.now at.position at.line at.rows kind n last len cells.old cells.new parts.old parts.new k result }
+    requires { EntryReady t.now at.position at.line at.rows (number_of kind) n cells.old parts.old }
+    ensures { (k : ℕ) → EntryRead t.now at.position at.line at.rows (number_of kind) n last len cells.old cells.new parts.old parts.new k result }
 {
     let f = text::fields(t, at.position);
-    let h = match entry_head(t, at.position, f, kind, last, len) {
-        Record::Missing => return Ok(None),
-        Record::Wrong => return Err(Reason::WrongRecord.at(at.line)),
-        Record::Fits(h) => h,
+    let Some(h) = entry_head(t, at, f, kind, last, len)? else {
+        return Ok(None);
     };
-    let most = most_of(kind);
+    let most = room_of(kind).most;
     if most <= n {
         return Err(Reason::LimitPassed.at(at.line));
     }
@@ -143,16 +148,16 @@ fn read_entry(
 pub fn read_section(
     t: &[u8],
     at: Cursor,
-    kind: u32,
+    kind: Section,
     cells: &mut [u32],
     parts: &mut [u32],
 ) -> Result<Cursor, Refusal>
     requires fact_1 { Position t.now at.position at.line at.rows }
-    requires fact_2 { (kind ≤ 11) × (length cells.old ≡ table_size) × (length parts.old ≡ 3863) }
-    ensures { (k : ℕ) → Given (section kind) (SectionRead t.now kind at.rows cells.old cells.new parts.old parts.new) t.now at.position at.line at.rows k result }
+    requires fact_2 { (length cells.old ≡ table_size) × (length parts.old ≡ 3863) }
+    ensures { (k : ℕ) → Given (section (number_of kind)) (SectionRead t.now (number_of kind) at.rows cells.old cells.new parts.old parts.new) t.now at.position at.line at.rows k result }
 {
     let once = is_once(kind);
-    let start = start_of(kind);
+    let start = room_of(kind).start;
     let mut behind = at;
     let mut n: u32 = 0;
     let mut last: u32 = 0;
@@ -175,16 +180,16 @@ pub fn read_section(
 pub fn read_some(
     t: &[u8],
     at: Cursor,
-    kind: u32,
+    kind: Section,
     cells: &mut [u32],
     parts: &mut [u32],
 ) -> Result<Cursor, Refusal>
     requires fact_1 { Position t.now at.position at.line at.rows }
-    requires fact_2 { (kind ≤ 11) × (length cells.old ≡ table_size) × (length parts.old ≡ 3863) }
-    ensures { (k : ℕ) → Given (some_section kind) (SectionRead t.now kind at.rows cells.old cells.new parts.old parts.new) t.now at.position at.line at.rows k result }
+    requires fact_2 { (length cells.old ≡ table_size) × (length parts.old ≡ 3863) }
+    ensures { (k : ℕ) → Given (some_section (number_of kind)) (SectionRead t.now (number_of kind) at.rows cells.old cells.new parts.old parts.new) t.now at.position at.line at.rows k result }
 {
     let behind = read_section(t, at, kind, cells, parts)?;
-    let start = start_of(kind);
+    let start = room_of(kind).start;
     if parts[start] == 0 {
         return Err(Reason::WrongRecord.at(at.line));
     }

@@ -1,7 +1,6 @@
 -- What stands behind a statement's first record, read into the slices.
 use Rattle.std.specs.Prelude.{ℕ, ◌≤◌, ◌≡◌, Bool, List, length, get_or, Result, Ok, Err}
 use Rattle.std.proofs.Common.{arith, ap, ◌∙◌}
-use Rattle.std.proofs.Math.Decide.{ℕ_discrete}
 use Rattle.std.proofs.Math.Path.{refl}
 use Rattle.rules.specs.Refusals.{statement, Refusal, ok, refused}
 use Rattle.rules.specs.Lists.{Bytes}
@@ -12,7 +11,6 @@ use Rattle.rules.specs.Reader.{Place, Read, give, ◌>>=◌}
 use Rattle.rules.specs.ReadStatement.{StatementHead, select_head, other_head, delete_head, insert_head, update_head, create_head, drop_head}
 use Rattle.ast.specs.Table.{statement_rows, table_size}
 use Rattle.text.specs.Answers.{bind_ok, bind-no}
-use Rattle.numbers.specs.Codes.{coded, coded-miss, coded-end}
 use Rattle.numbers.specs.Kept.{Kept, kept-all}
 use Rattle.read_expression.specs.Reading.{here, Position, Given}
 use Rattle.entries.specs.Entries.{Entry, most_of, section, some_section}
@@ -24,7 +22,6 @@ use Rattle.statement.specs.Bodies.{update_sections, delete_sections, create_sect
 use Rattle.statement.specs.Stays.{stays-begin, stays_on, stays-end, SectionsStay}
 use Rattle.statement.specs.Answers.{bind-same}
 use Rattle.read_expression.specs.Given.{given-done, given-refused}
-use Rattle.statement.specs.FirstRecord.{head_of}
 use Rattle.numbers.specs.declared.refusals.Refusal as code
 use Rattle.numbers.specs.Reasons.{told}
 use Rattle.read_expression.specs.declared.reading.Cursor.{Cursor}
@@ -153,26 +150,10 @@ unfolding sections_of give
 drop-is n y p = refl
 
 module _ (t : Bytes) (p : ℕ) (cells froms parts : List ℕ) (h : Position t p 2 0) where
-  other-read : BodyRead t other_head p cells froms parts parts (Ok (record { position = p; line = 2; rows = 0 }))
+  pub other-read : BodyRead t other_head p cells froms parts parts (Ok (record { position = p; line = 2; rows = 0 }))
   unfolding BodyBy body_at
   other-read = record { value = _; tables = 0; is = other-is _; position = h; stand = λ b. refl; kept = kept-all 0 _ _; sections = λ e. record { same = λ x k b kind l. cc } }
 
-  drop-read : (n : Word) (y : Bool) → BodyRead t (drop_head n y) p cells froms parts parts (Ok (record { position = p; line = 2; rows = 0 }))
+  pub drop-read : (n : Word) (y : Bool) → BodyRead t (drop_head n y) p cells froms parts parts (Ok (record { position = p; line = 2; rows = 0 }))
   unfolding BodyBy body_at
   drop-read n y = record { value = _; tables = 0; is = drop-is n y _; position = h; stand = λ b. refl; kept = kept-all 0 _ _; sections = λ e. record { same = λ x k b kind l. cc } }
-
--- BY THE KIND
--- what a code does not stand for
--- no other kind has a body
-pub no_body : (t : Bytes) (p : ℕ) (cells froms parts : List ℕ) → Position t p 2 0 → (kind : ℕ) → (kind ≡ 1 → ⊥) → (kind ≡ 2 → ⊥) → (kind ≡ 4 → ⊥) → (kind ≡ 5 → ⊥) → (kind ≡ 6 → ⊥) → (n : Word) (y : Bool)
-    → BodyRead t (head_of kind n y) p cells froms parts parts (Ok (record { position = p; line = 2; rows = 0 }))
-no_body t p cells froms parts w kind e₁ e₂ e₄ e₅ e₆ n y = elim (ℕ_discrete kind 3) [
-  | yes z ↦ rw (kind-drop z) (drop-read t p cells froms parts w n y)
-  | no z ↦ rw (kind-other z) (other-read t p cells froms parts w)
-]
-  where
-    kind-drop : kind ≡ 3 → head_of kind n y ≡ drop_head n y
-    kind-drop z = unfold head_of coded in rw z
-
-    kind-other : (kind ≡ 3 → ⊥) → head_of kind n y ≡ other_head
-    kind-other z = unfold head_of in coded-miss _ _ _ 1 kind e₁ ∙ coded-miss _ _ _ 2 kind e₂ ∙ coded-miss _ _ _ 3 kind z ∙ coded-miss _ _ _ 4 kind e₄ ∙ coded-miss _ _ _ 5 kind e₅ ∙ coded-miss _ _ _ 6 kind e₆ ∙ coded-end _ _ _

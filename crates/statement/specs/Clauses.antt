@@ -9,6 +9,9 @@ use Rattle.numbers.specs.Kept.{Kept, kept-all, kept_on, kept-first}
 use Rattle.ast.specs.Table.{row_size}
 use Rattle.read_expression.specs.Reading.{here, Position, Took, Given}
 use Rattle.entries.specs.Entries.{Entry, most_of, section}
+use Rattle.entries.specs.Sections.{number_of}
+use Rattle.entries.specs.declared.Section.{Section}
+use Rattle.entries.specs.declared.Section.TheVariants as S
 use Rattle.sections.specs.Layout.{start_of, section_at}
 use Rattle.sections.specs.Terms.{end_of, SectionRead}
 use Rattle.statement.specs.Stays.{Stays, stays-more}
@@ -164,6 +167,52 @@ module _ (t : Bytes) (kind n p l c k : ℕ) (cells cells' parts parts' : List �
           moved = omega (arith, took.moved, h.moved);
           more = omega (arith, took.more, h.more);
           holds = run-read cells'' parts'' z.rows h.value h.more h.holds;
+        }
+
+-- CLAUSE AFTER CLAUSE
+abbrev pub clauses : List Section
+clauses = S.Where ∷ S.Group ∷ S.Having ∷ S.Order ∷ S.Offset ∷ S.Limit ∷ []
+
+-- the clause behind i of them has the number 1 + i
+pub clause-number : (i : ℕ) → i < 6 → number_of (get_or clauses i S.Item) ≡ 1 + i
+clause-number zero l = refl
+clause-number (suc zero) l = refl
+clause-number (suc (suc zero)) l = refl
+clause-number (suc (suc (suc zero))) l = refl
+clause-number (suc (suc (suc (suc zero)))) l = refl
+clause-number (suc (suc (suc (suc (suc zero))))) l = refl
+clause-number (suc (suc (suc (suc (suc (suc i)))))) l = absurd (omega arith)
+
+-- i clauses of a SELECT are read, from p₀ on, and the next may stand at p: what the rest reads from here, the whole reads
+pub record ClausesLoop (t : Bytes) (p₀ l₀ c₀ : ℕ) (cells₀ parts₀ : List ℕ) (i p l c : ℕ) (cells parts : List ℕ) : Type 0 where
+  pub position : Position t p l c
+  pub rest : (k : ℕ) (x y : List ℕ) (r : Result Cursor code.Refusal) → Given (run (1 + i) (6 - i)) (RunRead t (1 + i) (6 - i) c cells x parts y) t p l c k r
+      → Given (run 1 6) (RunRead t 1 6 c₀ cells₀ x parts₀ y) t p₀ l₀ c₀ k r
+
+pub clauses-begin : (t : Bytes) (p l c : ℕ) (cells parts : List ℕ) → Position t p l c → ClausesLoop t p l c cells parts 0 p l c cells parts
+clauses-begin t p l c cells parts w = record { position = w; rest = λ k x y r g. g }
+
+module _ {t : Bytes} {p₀ l₀ c₀ : ℕ} {cells₀ parts₀ : List ℕ} {i p l c : ℕ} {cells parts : List ℕ} (h : ClausesLoop t p₀ l₀ c₀ cells₀ parts₀ i p l c cells parts) where
+  pub clauses-end : 6 ≤ i → (k : ℕ) → Given (run 1 6) (RunRead t 1 6 c₀ cells₀ cells parts₀ parts) t p₀ l₀ c₀ k (Ok (record { position = p; line = l; rows = c }))
+  clauses-end m k = h.rest k cells parts _ (run_none t (1 + i) (6 - i) p l c k cells parts h.position (omega arith))
+
+  module _ (m : i < 6) (cells' parts' : List ℕ) where
+    less : 6 - i ≡ suc (6 - i - 1)
+    less = omega arith
+
+    pub clauses-refused : (w : code.Refusal) → ((k : ℕ) → Given (section (1 + i)) (SectionRead t (1 + i) c cells cells' parts parts') t p l c k (Err w))
+        → (k : ℕ) → Given (run 1 6) (RunRead t 1 6 c₀ cells₀ cells' parts₀ parts') t p₀ l₀ c₀ k (Err w)
+    clauses-refused w s k = h.rest k cells' parts' (Err w) (run-refused t (1 + i) (6 - i) p l c k cells cells' parts parts' less cells' parts' w (s k))
+
+    pub clauses-on : (q : Cursor) → ((k : ℕ) → Given (section (1 + i)) (SectionRead t (1 + i) c cells cells' parts parts') t p l c k (Ok q))
+        → ClausesLoop t p₀ l₀ c₀ cells₀ parts₀ (i + 1) q.position q.line q.rows cells' parts'
+    clauses-on q s =
+        let u : 1 + (i + 1) ≡ 1 + i + 1 = omega arith in
+        let v : 6 - (i + 1) ≡ 6 - i - 1 = omega arith in
+        record {
+          position = (given-done _ _ _ _ _ _ _ _ (s 0)).position;
+          rest = λ k x y r g. h.rest k x y r
+              (run_more t (1 + i) (6 - i) p l c k cells cells' parts parts' less (omega arith) q (s k) x y r (rw (u, v) at g));
         }
 
 -- A RUN MORE

@@ -22,6 +22,8 @@ use Rattle.text.specs.Fields.{Inside, field-length}
 use Rattle.numbers.specs.Codes.{coded}
 use Rattle.numbers.specs.Values.{is_one}
 use Rattle.read_expression.specs.Reading.{here}
+use Rattle.statement.specs.Kinds.{number_of}
+use Rattle.statement.specs.declared.access.Kind.TheVariants as K
 use Rattle.statement.specs.declared.first.First.{First}
 
 -- the first record of a kind, with this name and flag where it has them
@@ -31,14 +33,14 @@ head_of kind n y = coded other_head (select_head ∷ create_head n ∷ drop_head
 -- what the numbers say, of the catalog c and the statement t
 unfoldable pub first_said : Bytes → Bytes → std.Option First → Option StatementHead
 first_said c t None = none
-first_said c t (Some r) = some (head_of r.kind (word_at c t r.a r.b) (is_one r.flag))
+first_said c t (Some r) = some (head_of (number_of r.kind) (word_at c t r.a r.b) (is_one r.flag))
 
 module _ (c t : Bytes) (r : First) where
-  pub said-select : r.kind ≡ 1 → first_said c t (Some r) ≡ some select_head
+  pub said-select : r.kind ≡ K.Select → first_said c t (Some r) ≡ some select_head
   unfolding first_said head_of coded
   said-select e = rw e
 
-  pub said-other : r.kind ≡ 7 → first_said c t (Some r) ≡ some other_head
+  pub said-other : r.kind ≡ K.Other → first_said c t (Some r) ≡ some other_head
   unfolding first_said head_of coded
   said-other e = rw e
 
@@ -67,7 +69,7 @@ module _ (t : Bytes) (a n : ℕ) (i : Inside t a n) where
     unfolding text_of base_address
     word-is = rw (ea, en) (sym (field-word statement c t a n (omega (arith, i.short, i.inside))))
 
-    pub named_some : (k : ℕ) → 1 ≤ k → k ≤ 4 → is_name n ≡ true → r.kind ≡ get_or (0 ∷ 4 ∷ 5 ∷ 6 ∷ 2 ∷ []) k 0 → first_said c t (Some r) ≡ apply (nth statement_heads k) (field most_bytes t a n ∷ [])
+    pub named_some : (k : ℕ) → 1 ≤ k → k ≤ 4 → is_name n ≡ true → number_of r.kind ≡ get_or (0 ∷ 4 ∷ 5 ∷ 6 ∷ 2 ∷ []) k 0 → first_said c t (Some r) ≡ apply (nth statement_heads k) (field most_bytes t a n ∷ [])
     unfolding first_said head_of coded statement_heads nth apply one_field map_option
     named_some zero l m h e = absurd (omega arith)
     named_some (suc zero) l m h e = rw (e, word-is, field-name h)
@@ -103,7 +105,7 @@ module _ (t : Bytes) (a n : ℕ) (i : Inside t a n) where
           go (suc zero) l = unfold answers nth is_one in refl
           go (suc (suc y)) l = absurd (omega arith)
 
-      pub drop-some : (c : Bytes) (r : First) → y < 2 → r.kind ≡ 3 → r.a ≡ most_bytes + a → r.b ≡ n → r.flag ≡ 1 - y → first_said c t (Some r) ≡ apply (nth statement_heads 5) (field most_bytes t a n ∷ field most_bytes t b m ∷ [])
+      pub drop-some : (c : Bytes) (r : First) → y < 2 → r.kind ≡ K.Drop → r.a ≡ most_bytes + a → r.b ≡ n → r.flag ≡ 1 - y → first_said c t (Some r) ≡ apply (nth statement_heads 5) (field most_bytes t a n ∷ field most_bytes t b m ∷ [])
       unfolding first_said head_of coded statement_heads nth apply two_fields both map_option
       drop-some c r l ek ea en ef = rw (ek, word-is c r ea en, ef, field-name h, answered l)
 

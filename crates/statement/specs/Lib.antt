@@ -13,5 +13,6 @@ pub mod InsertReads
 pub mod SelectReads
 pub mod EndRecord
 pub mod Whole
+pub mod Kinds
 pub mod Access
 pub mod EntryAccess

@@ -4,9 +4,11 @@ ghost use Rattle.std.specs.Prelude.{◌≡◌};
 ghost use Rattle.rules.specs.Area.{type_code};
 ghost use Rattle.numbers.specs.Values.{is_one};
 ghost use Rattle.numbers.specs.Values.{type_at};
+ghost use Rattle.entries.specs.Sections.{number_of};
 ghost use Rattle.statement.specs.Access as access;
 ghost use Rattle.statement.specs.EntryAccess as entryAccess;
 
+use entries::Section;
 use numbers::number;
 use sections::entry::{Entry, count, entry_at, first_row};
 
@@ -23,9 +25,10 @@ const FLAG: usize = 4;
 
 pub const FROM_ROWS: usize = 2367;
 
-#[derive(Clone, Copy)]
+// The kinds of statements by the numbers that stand in the parts.
+#[derive(Clone, Copy, Debug, PartialEq, Eq)]
 pub enum Kind {
-    Select,
+    Select = 1,
     Create,
     Drop,
     Delete,
@@ -35,7 +38,7 @@ pub enum Kind {
 }
 
 // A clause: the line of its record, and the row of its expression.
-#[derive(Clone, Copy)]
+#[derive(Clone, Copy, Debug, PartialEq, Eq)]
 pub struct Clause {
     pub line: u32,
     pub row: usize,
@@ -91,8 +94,8 @@ pub fn from_rows(parts: &[u32]) -> u32
 }
 
 // The clause of a kind of section, if there is one.
-pub fn clause_at(parts: &[u32], kind: u32) -> Option<Clause>
-    ensures { result ≡ entryAccess.clause_at parts.now kind }
+pub fn clause_at(parts: &[u32], kind: Section) -> Option<Clause>
+    ensures { result ≡ entryAccess.clause_at parts.now (number_of kind) }
 {
     if count(parts, kind) == 0 {
         return None;

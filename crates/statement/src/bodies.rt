@@ -8,42 +8,47 @@ ghost use Rattle.read_expression.specs.Reading.{Position, Given};
 ghost use Rattle.entries.specs.Entries.{Entry};
 ghost use Rattle.sections.specs.Layout.{section_at};
 ghost use Rattle.statement.specs.Bodies.{names_behind};
+ghost use Rattle.statement.specs.Kinds.{number_of};
 ghost use Rattle.statement.specs.FirstRecord.{head_of};
 ghost use Rattle.statement.specs.Clauses.{run, RunRead};
 ghost use Rattle.statement.specs.BodyReads.{Room, BodyRead};
 ghost use Rattle.statement.specs.InsertReads.{NamesRead};
 
-use crate::access::FROM_ROWS;
-use crate::first::{CREATE, DELETE, INSERT, SELECT, UPDATE};
+use crate::access::{FROM_ROWS, Kind};
+use entries::Section;
 use from::read_froms;
 use numbers::refusals::Refusal;
 use read_expression::reading::Cursor;
-use sections::entry::{COLUMN, COLUMNS, ITEM, NAME, ROW, SET, WHERE};
 use sections::{read_section, read_some};
 
-// The sections from `where` on to `limit`.
-const CLAUSES: u32 = 6;
+// The clauses of a SELECT behind its FROM.
+const CLAUSES: [Section; 6] = [
+    Section::Where,
+    Section::Group,
+    Section::Having,
+    Section::Order,
+    Section::Offset,
+    Section::Limit,
+];
 
 // The part that says how many `columns` there are.
 const COLUMNS_COUNT: usize = 8;
 
-// The sections of n kinds in a row, from a kind on.
-fn read_run(
+// The clauses that stand here.
+fn read_clauses(
     t: &[u8],
     at: Cursor,
-    kind: u32,
-    n: u32,
     cells: &mut [u32],
     parts: &mut [u32],
 ) -> Result<Cursor, Refusal>
-    requires { (Position t.now at.position at.line at.rows) × ((1 ≤ kind) × (kind + n ≤ 7) × (length cells.old ≡ table_size) × (length parts.old ≡ 3863)) }
-    ensures { (k : ℕ) → Given (run kind n) (RunRead t.now kind n at.rows cells.old cells.new parts.old parts.new) t.now at.position at.line at.rows k result }
+    requires { (Position t.now at.position at.line at.rows) × (length cells.old ≡ table_size) × (length parts.old ≡ 3863) }
+    ensures { (k : ℕ) → Given (run 1 6) (RunRead t.now 1 6 at.rows cells.old cells.new parts.old parts.new) t.now at.position at.line at.rows k result }
 {
-    if n == 0 {
-        return Ok(at);
+    let mut behind = at;
+    for clause in CLAUSES {
+        behind = read_section(t, behind, clause, cells, parts)?;
     }
-    let behind = read_section(t, at, kind, cells, parts)?;
-    read_run(t, behind, kind + 1, n - 1, cells, parts)
+    Ok(behind)
 }
 
 // A SELECT's items, FROM and clauses.
@@ -63,9 +68,9 @@ fn read_select(
         line: 2,
         rows: 0,
     };
-    let items = read_some(t, at, ITEM, cells, parts)?;
+    let items = read_some(t, at, Section::Item, cells, parts)?;
     let f = read_froms(t, items, cells, froms)?;
-    let clauses = read_run(t, f.at, WHERE, CLAUSES, cells, parts)?;
+    let clauses = read_clauses(t, f.at, cells, parts)?;
     parts[FROM_ROWS] = f.rows;
     Ok(clauses)
 }
@@ -79,7 +84,7 @@ fn read_names(t: &[u8], at: Cursor, cells: &mut [u32], parts: &mut [u32]) -> Res
     if parts[COLUMNS_COUNT] == 0 {
         return Ok(at);
     }
-    read_section(t, at, NAME, cells, parts)
+    read_section(t, at, Section::Name, cells, parts)
 }
 
 // An INSERT's names and rows.
@@ -93,9 +98,9 @@ fn read_insert(t: &[u8], p: usize, cells: &mut [u32], parts: &mut [u32]) -> Resu
         line: 2,
         rows: 0,
     };
-    let columns = read_section(t, at, COLUMNS, cells, parts)?;
+    let columns = read_section(t, at, Section::Columns, cells, parts)?;
     let names = read_names(t, columns, cells, parts)?;
-    read_some(t, names, ROW, cells, parts)
+    read_some(t, names, Section::Row, cells, parts)
 }
 
 // An UPDATE's sets and `where`.
@@ -109,22 +114,22 @@ fn read_update(t: &[u8], p: usize, cells: &mut [u32], parts: &mut [u32]) -> Resu
         line: 2,
         rows: 0,
     };
-    let sets = read_some(t, at, SET, cells, parts)?;
-    read_section(t, sets, WHERE, cells, parts)
+    let sets = read_some(t, at, Section::Set, cells, parts)?;
+    read_section(t, sets, Section::Where, cells, parts)
 }
 
 // What stands behind the first record of a statement of a kind.
 pub fn read_body(
     t: &[u8],
     p: usize,
-    kind: u32,
+    kind: Kind,
     cells: &mut [u32],
     froms: &mut [u32],
     parts: &mut [u32],
 ) -> Result<Cursor, Refusal>
     requires fact_1 { Position t.now p 2 0 }
     requires fact_2 { Room cells.old froms.old parts.old }
-    ensures { (n : Word) (y : Bool) → BodyRead t.now (head_of kind n y) p cells.new froms.new parts.old parts.new result }
+    ensures { (n : Word) (y : Bool) → BodyRead t.now (head_of (number_of kind) n y) p cells.new froms.new parts.old parts.new result }
 {
     let at = Cursor {
         position: p,
@@ -132,11 +137,11 @@ pub fn read_body(
         rows: 0,
     };
     match kind {
-        SELECT => read_select(t, p, cells, froms, parts),
-        CREATE => read_section(t, at, COLUMN, cells, parts),
-        DELETE => read_section(t, at, WHERE, cells, parts),
-        INSERT => read_insert(t, p, cells, parts),
-        UPDATE => read_update(t, p, cells, parts),
-        _ => Ok(at),
+        Kind::Select => read_select(t, p, cells, froms, parts),
+        Kind::Create => read_section(t, at, Section::Column, cells, parts),
+        Kind::Delete => read_section(t, at, Section::Where, cells, parts),
+        Kind::Insert => read_insert(t, p, cells, parts),
+        Kind::Update => read_update(t, p, cells, parts),
+        Kind::Drop | Kind::Other => Ok(at),
     }
 }

@@ -9,40 +9,27 @@ ghost use Rattle.text.specs.Lines.{field, Fields};
 ghost use Rattle.text.specs.Words.{nth};
 ghost use Rattle.text.specs.Fields.{Inside};
 ghost use Rattle.read_expression.specs.Reading.{here};
+ghost use Rattle.statement.specs.Kinds.{number_of};
 ghost use Rattle.statement.specs.FirstRecord.{first_said};
 
+use crate::access::Kind;
 use text::places::address;
-
-// The kinds of statements: numbers, as they stand in the parts (fixed memory).
-pub const SELECT: u32 = 1;
-
-pub const CREATE: u32 = 2;
-
-pub const DROP: u32 = 3;
-
-pub const DELETE: u32 = 4;
-
-pub const INSERT: u32 = 5;
-
-pub const UPDATE: u32 = 6;
-
-pub const OTHER: u32 = 7;
 
 // A first record: a and b are the address and the length of its name, or 0; flag is 1 where a `drop` says yes.
 #[derive(Clone, Copy)]
 pub struct First {
-    pub kind: u32,
+    pub kind: Kind,
     pub a: u32,
     pub b: u32,
     pub flag: u32,
 }
 
 // A statement with no name.
-fn plain(kind: u32) -> First
+fn plain(kind: Kind) -> First
     ensures { result.kind ≡ kind }
 {
     First {
-        kind: kind,
+        kind,
         a: 0,
         b: 0,
         flag: 0,
@@ -58,9 +45,14 @@ fn named(t: &[u8], k: usize, a: usize, n: usize) -> Option<First>
     if !text::is_name(n) {
         return None;
     }
-    let kinds = [0, DELETE, INSERT, UPDATE, CREATE];
+    let kind = match k {
+        1 => Kind::Delete,
+        2 => Kind::Insert,
+        3 => Kind::Update,
+        _ => Kind::Create,
+    };
     Some(First {
-        kind: kinds[k],
+        kind,
         a: address(a),
         b: n as u32,
         flag: 0,
@@ -80,7 +72,7 @@ fn dropped(t: &[u8], a: usize, n: usize, b: usize, m: usize) -> Option<First>
         return None;
     }
     Some(First {
-        kind: DROP,
+        kind: Kind::Drop,
         a: address(a),
         b: n as u32,
         flag: 1 - y as u32,
@@ -107,13 +99,13 @@ pub fn first_record(t: &[u8], f: text::Line) -> Option<First>
         if n != 1 {
             return None;
         }
-        return Some(plain(SELECT));
+        return Some(plain(Kind::Select));
     }
     if k == 6 {
         if n != 1 {
             return None;
         }
-        return Some(plain(OTHER));
+        return Some(plain(Kind::Other));
     }
     if k == 5 {
         if n != 3 {
@@ -130,9 +122,9 @@ pub fn first_record(t: &[u8], f: text::Line) -> Option<First>
 // The first five numbers of the parts: the kind, the line, the name and the flag.
 pub fn put_first(parts: &mut [u32], f: First)
     requires { 5 ≤ length parts.old }
-    ensures { parts.new ≡ sets parts.old 0 (f.kind ∷ 1 ∷ f.a ∷ f.b ∷ f.flag ∷ []) }
+    ensures { parts.new ≡ sets parts.old 0 (number_of f.kind ∷ 1 ∷ f.a ∷ f.b ∷ f.flag ∷ []) }
 {
-    parts[0] = f.kind;
+    parts[0] = f.kind as u32;
     parts[1] = 1;
     parts[2] = f.a;
     parts[3] = f.b;

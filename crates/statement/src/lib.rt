@@ -12,11 +12,13 @@ ghost use Rattle.rules.specs.Sizes.{statement_size};
 ghost use Rattle.rules.specs.Lines.{Word};
 ghost use Rattle.statement.specs.Layout.{statement_at};
 ghost use Rattle.read_expression.specs.Reading.{Position, Given};
+ghost use Rattle.statement.specs.Kinds.{number_of};
 ghost use Rattle.statement.specs.FirstRecord.{head_of};
 ghost use Rattle.statement.specs.BodyReads.{Room};
 ghost use Rattle.statement.specs.EndRecord.{ended, Is, WholeRead};
 ghost use Rattle.statement.specs.Whole.{statement_of, statement_answer, Counts, SelectStays};
 
+use crate::access::Kind;
 use crate::bodies::read_body;
 use crate::first::{first_record, put_first};
 use numbers::refusals::{Reason, Refusal};
@@ -57,14 +59,14 @@ fn read_end(t: &[u8], at: Cursor) -> Result<Cursor, Refusal>
 fn read_behind(
     t: &[u8],
     p: usize,
-    kind: u32,
+    kind: Kind,
     cells: &mut [u32],
     froms: &mut [u32],
     parts: &mut [u32],
 ) -> Result<Cursor, Refusal>
     requires fact_1 { Position t.now p 2 0 }
     requires fact_2 { Room cells.old froms.old parts.old }
-    ensures { (n : Word) (y : Bool) → WholeRead t.now (head_of kind n y) p cells.new froms.new parts.old parts.new result }
+    ensures { (n : Word) (y : Bool) → WholeRead t.now (head_of (number_of kind) n y) p cells.new froms.new parts.old parts.new result }
 {
     let behind = read_body(t, p, kind, cells, froms, parts)?;
     read_end(t, behind)

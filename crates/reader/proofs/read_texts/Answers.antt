@@ -13,7 +13,7 @@ pub returns-in-Err : goal.returns-in-Err
 returns-in-Err c = rw c.refuses-in-Err.ensures (catalog-refused (record { short = c.if-catalog.false; short_statement = omega arith; is = c.read_catalog.ensures _ }) c.in-Err.is)
 
 pub returns-in-Ok : goal.returns-in-Ok
-returns-in-Ok c = rw c.taken.ensures (texts-read (record { short = c.if-catalog.false; short_statement = omega arith; is = c.read_catalog.ensures _ }) c.in_default.is (record { is = c.read_statement.ensures.0 _; size = c.read_statement.ensures.1 _; stays = c.read_statement.ensures.2 }) c.in-Ok.is)
+returns-in-Ok c = rw (c.taken.ensures, c.line.ensures) (texts-read (record { short = c.if-catalog.false; short_statement = omega arith; is = c.read_catalog.ensures _ }) c.in_default.is (record { is = c.read_statement.ensures.0 _; size = c.read_statement.ensures.1 _; stays = c.read_statement.ensures.2 }) c.in-Ok.is c.kind_of.ensures)
 
 pub returns-in-Err-read_statement : goal.returns-in-Err-read_statement
 returns-in-Err-read_statement c = rw c.refuses-in-Err-read_statement.ensures (statement-refused (record { short = c.if-catalog.false; short_statement = omega arith; is = c.read_catalog.ensures _ }) c.in_default.is (record { is = c.read_statement.ensures.0 _; size = c.read_statement.ensures.1 _; stays = c.read_statement.ensures.2 }) c.in-Err-read_statement.is)

@@ -3,4 +3,4 @@ use Rattle.entries.specs.Entries.{once-one}
 use Rattle.sections.proofs.is_once.Goals as goal
 
 pub returns : goal.returns
-returns c = rw c.most_of.ensures (once-one _)
+returns c = rw c.room_of.ensures.1 (once-one _)

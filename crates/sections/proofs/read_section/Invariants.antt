@@ -2,12 +2,14 @@
 use Prim.Native.Nat.{ℕ, ◌-◌}
 use mathlib.Core.Path.{◌≡◌}
 use lib.ListN.{length}
+use Rattle.entries.specs.Sections.{number_of}
+use Rattle.entries.specs.Sections.{number_of}
 use Rattle.sections.specs.Runs.{SectionLoop}
 use Rattle.sections.proofs.read_section.Given as goal
 
 abbrev pub invariant-loop-e : goal.invariant-loop-e
 invariant-loop-e l =
-    (length l.cells ≡ length l.initial.cells) × (length l.parts ≡ length l.initial.parts) × ((k : ℕ) → SectionLoop l.t l.fn.at.position l.fn.at.line l.fn.at.rows l.kind l.initial.cells l.initial.parts k l.behind.position l.behind.line l.behind.rows l.n l.last l.len l.cells l.parts)
+    (length l.cells ≡ length l.initial.cells) × (length l.parts ≡ length l.initial.parts) × ((k : ℕ) → SectionLoop l.t l.fn.at.position l.fn.at.line l.fn.at.rows (number_of l.kind) l.initial.cells l.initial.parts k l.behind.position l.behind.line l.behind.rows l.n l.last l.len l.cells l.parts)
 
 abbrev pub decreases-loop-e : goal.decreases-loop-e
 decreases-loop-e l =

@@ -1,29 +1,33 @@
 -- `read_body`: by the kind.
-use native.Mathlib.Omega.{arith}
+use mathlib.Core.Logic.{inl, inr}
 use Rattle.numbers.specs.Codes.{coded}
 use Rattle.statement.specs.FirstRecord.{head_of}
-use Rattle.statement.specs.BodyReads.{delete-read, create-read, no_body}
+use Rattle.statement.specs.BodyReads.{delete-read, create-read, drop-read, other-read}
 use Rattle.statement.proofs.bodies.read_body.Goals as goal
 
-pub returns-in-1 : goal.returns-in-1
+pub returns-in-Select : goal.returns-in-Select
 unfolding head_of coded
-returns-in-1 c = λ n y. rw c.in-1.is c.read_select.ensures
+returns-in-Select c = λ n y. rw c.in-Select.is c.read_select.ensures
 
-pub returns-in-2 : goal.returns-in-2
+pub returns-in-Create : goal.returns-in-Create
 unfolding head_of coded
-returns-in-2 c = λ n y. rw c.in-2.is (create-read _ _ _ _ _ _ _ _ (c.read_section.ensures 0) n)
+returns-in-Create c = λ n y. rw c.in-Create.is (create-read _ _ _ _ _ _ _ _ (c.read_section.ensures 0) n)
 
-pub returns-in-4 : goal.returns-in-4
+pub returns-in-Delete : goal.returns-in-Delete
 unfolding head_of coded
-returns-in-4 c = λ n y. rw c.in-4.is (delete-read _ _ _ _ _ _ _ _ (c.read_section-in-4.ensures 0) n)
+returns-in-Delete c = λ n y. rw c.in-Delete.is (delete-read _ _ _ _ _ _ _ _ (c.read_section-in-Delete.ensures 0) n)
 
-pub returns-in-5 : goal.returns-in-5
+pub returns-in-Insert : goal.returns-in-Insert
 unfolding head_of coded
-returns-in-5 c = λ n y. rw c.in-5.is (c.read_insert.ensures n _)
+returns-in-Insert c = λ n y. rw c.in-Insert.is (c.read_insert.ensures n _)
 
-pub returns-in-6 : goal.returns-in-6
+pub returns-in-Update : goal.returns-in-Update
 unfolding head_of coded
-returns-in-6 c = λ n y. rw c.in-6.is (c.read_update.ensures n _)
+returns-in-Update c = λ n y. rw c.in-Update.is (c.read_update.ensures n _)
 
-pub returns-in_default : goal.returns-in_default
-returns-in_default c = λ n y. no_body _ _ _ _ _ c.requires.fact_1 _ (omega arith) (omega arith) (omega arith) (omega arith) (omega arith) n y
+pub returns-in-Drop : goal.returns-in-Drop
+unfolding head_of coded
+returns-in-Drop c = λ n y. elim c.in-Drop.is [
+  | inl e ↦ rw e (drop-read _ _ _ _ _ c.requires.fact_1 n y)
+  | inr e ↦ rw e (other-read _ _ _ _ _ c.requires.fact_1)
+]

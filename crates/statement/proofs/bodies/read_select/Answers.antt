@@ -9,11 +9,11 @@ use Rattle.statement.proofs.bodies.read_select.Goals as goal
 pub read_froms-requires : goal.read_froms-requires
 read_froms-requires c = record { fact_1 = (given-done _ _ _ _ _ _ _ _ (c.in_ok-items.ensures 0)).position; fact_2 = (c.read_some.auto.cells ∙ c.requires.fact_2.rows, c.requires.fact_2.from-rows) }
 
-pub read_run-requires : goal.read_run-requires
-read_run-requires c = ((from-took _ _ _ _ _ _ _ (c.in_ok-items.ensures 0) _ _ _ c.in_ok-f.ensures).position, (omega arith, omega arith, c.read_froms.auto.cells ∙ c.read_some.auto.cells ∙ c.requires.fact_2.rows, c.read_some.auto.parts ∙ c.requires.fact_2.numbers))
+pub read_clauses-requires : goal.read_clauses-requires
+read_clauses-requires c = ((from-took _ _ _ _ _ _ _ (c.in_ok-items.ensures 0) _ _ _ c.in_ok-f.ensures).position, c.read_froms.auto.cells ∙ c.read_some.auto.cells ∙ c.requires.fact_2.rows, c.read_some.auto.parts ∙ c.requires.fact_2.numbers)
 
 pub bounds-parts-2367 : goal.bounds-parts-2367
-bounds-parts-2367 c = omega (arith, c.read_run.auto.parts ∙ c.read_some.auto.parts ∙ c.requires.fact_2.numbers)
+bounds-parts-2367 c = omega (arith, c.read_clauses.auto.parts ∙ c.read_some.auto.parts ∙ c.requires.fact_2.numbers)
 
 pub returns-in_err-items : goal.returns-in_err-items
 returns-in_err-items c = let p = err_from_is_err_and c.from_residual.result c.from_residual.ensures.1 in rw (p.1, p.2) (select-refused _ _ _ _ _ _ _ _ (c.in_err-items.ensures 0))
@@ -22,7 +22,7 @@ pub returns-in_err-f : goal.returns-in_err-f
 returns-in_err-f c = let p = err_from_is_err_and c.from_residual-in_err-f.result c.from_residual-in_err-f.ensures.1 in rw (p.1, p.2) (select-from-refused _ _ _ _ _ _ _ (c.in_ok-items.ensures 0) _ _ _ c.in_err-f.ensures)
 
 pub returns-in_err-clauses : goal.returns-in_err-clauses
-returns-in_err-clauses c = let p = err_from_is_err_and c.from_residual-in_err-clauses.result c.from_residual-in_err-clauses.ensures.1 in rw (p.1, p.2) (select-run-refused _ _ _ _ _ _ _ (c.in_ok-items.ensures 0) _ _ _ c.in_ok-f.ensures _ _ _ c.in_err-clauses.ensures (c.read_run.auto.parts ∙ c.read_some.auto.parts ∙ c.requires.fact_2.numbers))
+returns-in_err-clauses c = let p = err_from_is_err_and c.from_residual-in_err-clauses.result c.from_residual-in_err-clauses.ensures.1 in rw (p.1, p.2) (select-run-refused _ _ _ _ _ _ _ (c.in_ok-items.ensures 0) _ _ _ c.in_ok-f.ensures _ _ _ c.in_err-clauses.ensures (c.read_clauses.auto.parts ∙ c.read_some.auto.parts ∙ c.requires.fact_2.numbers))
 
 pub returns : goal.returns
-returns c = select_read _ _ _ _ _ _ _ (c.in_ok-items.ensures 0) _ _ _ c.in_ok-f.ensures _ _ _ c.in_ok-clauses.ensures (c.read_run.auto.parts ∙ c.read_some.auto.parts ∙ c.requires.fact_2.numbers)
+returns c = select_read _ _ _ _ _ _ _ (c.in_ok-items.ensures 0) _ _ _ c.in_ok-f.ensures _ _ _ c.in_ok-clauses.ensures (c.read_clauses.auto.parts ∙ c.read_some.auto.parts ∙ c.requires.fact_2.numbers)
