@@ -24,6 +24,8 @@ use Rattle.ast.specs.Table.{row_size}
 use Rattle.numbers.specs.declared.refusals.Reason.TheVariants.{WrongRecord, LimitPassed}
 use Rattle.numbers.specs.declared.refusals.Refusal as code
 use Rattle.read_expression.specs.declared.reading.Cursor.{Cursor}
+use Rattle.ast.specs.Row.{number_of}
+use Rattle.ast.specs.declared.row.Kind.TheVariants as K
 use Rattle.read_expression.specs.declared.heads.Row.{Row}
 use Rattle.read_expression.specs.Encode.{head_numbers, is_numbers, arity, row_of, encode, encode_all}
 use Rattle.read_expression.proofs.Encoded.{encode-length}
@@ -185,16 +187,16 @@ module _ {t : Bytes} (p l c k : ℕ) {row : Row} (s : (l c k : ℕ) → RowOf t 
   passed : p ≤ q
   passed = line-passed t (head-inside t p l c k h.0 h.1) f
 
-  pub deep-done : (cells₂ : List ℕ) → (row.kind ≡ 7 → ⊥)
+  pub deep-done : (cells₂ : List ℕ) → (row.kind ≡ K.Is → ⊥)
       → cells₂ ≡ sets cells₁ (row_size * c)
-      (row.kind ∷ l ∷ (c₁ - c) ∷ row.code ∷ row.a ∷ row.b ∷ row.c ∷ row.d ∷ [])
+      (number_of row.kind ∷ l ∷ (c₁ - c) ∷ row.code ∷ row.a ∷ row.b ∷ row.c ∷ row.d ∷ [])
       → Given (deep d) (λ c' e. Rows t c cells cells₂ c' (cons e nil)) t p l c k (Ok (record { position = p₁; line = l₁; rows = c₁ }))
   deep-done cells₂ n e =
       let other = row-of-not-is h.0 h.2 n in
       let b = built h.0 l took.value other (times-count _ _ _ _ _ many) in
       let rows = took.holds in
       let same : suc (size_all took.value) ≡ c₁ - c = omega (arith, rows.rows) in
-      let row_is : row_of l (suc (size_all took.value)) (head_numbers h.0) ≡ row.kind ∷ l ∷ (c₁ - c) ∷ row.code ∷ row.a ∷ row.b ∷ row.c ∷ row.d ∷ [] = head-row l h.2.is same in
+      let row_is : row_of l (suc (size_all took.value)) (head_numbers h.0) ≡ number_of row.kind ∷ l ∷ (c₁ - c) ∷ row.code ∷ row.a ∷ row.b ∷ row.c ∷ row.d ∷ [] = head-row l h.2.is same in
       gives-done _ _ _ _ _ _ _ p₁ l₁ c₁ (record {
         value = build h.0 l took.value;
         is = deep-read t p l c k d h.0 h.1 m y f ∙ operands-ok h.0 l (deep (d - 1)) _ _ took.value other many;
@@ -202,7 +204,7 @@ module _ {t : Bytes} (p l c k : ℕ) {row : Row} (s : (l c k : ℕ) → RowOf t 
         moved = omega (arith, passed, took.moved);
         more = omega (arith, took.more);
         holds = rows-one
-            (row_first c (row.kind ∷ l ∷ (c₁ - c) ∷ row.code ∷ row.a ∷ row.b ∷ row.c ∷ row.d ∷ [])
+            (row_first c (number_of row.kind ∷ l ∷ (c₁ - c) ∷ row.code ∷ row.a ∷ row.b ∷ row.c ∷ row.d ∷ [])
             (encode_all took.value) cells cells₁ cells₂ refl rows.written e
             ∙ ap (sets cells (row_size * c)) (sym (b.rows ∙ ap (λ x. x ++ encode_all took.value) row_is)))
             (omega (arith, rows.rows, b.size))
@@ -210,7 +212,7 @@ module _ {t : Bytes} (p l c k : ℕ) {row : Row} (s : (l c k : ℕ) → RowOf t 
       })
 
   -- the operand of an `is`
-  module _ (i : row.kind ≡ 7) where
+  module _ (i : row.kind ≡ K.Is) where
     is-head : h.0 ≡ is_head
     is-head = row-of-is h.0 h.2 i
 
@@ -252,7 +254,7 @@ module _ {t : Bytes} (p l c k : ℕ) {row : Row} (s : (l c k : ℕ) → RowOf t 
 
 -- A LEAF
 module _ {t : Bytes} (p l c k : ℕ) {row : Row} (s : (l c k : ℕ) → RowOf t (one_of heads (line_here (here t p l c k))) (Some row)) (d : ℕ) (o : row.operands ≡ 0) where
-  no-is : row.kind ≡ 7 → ⊥
+  no-is : row.kind ≡ K.Is → ⊥
   unfolding arity
   no-is i =
       let h = row-of-some (s l c k) in
@@ -261,7 +263,7 @@ module _ {t : Bytes} (p l c k : ℕ) {row : Row} (s : (l c k : ℕ) → RowOf t 
 
   -- a record without operands
   pub leaf-done : Position t p l c → c < most_cells → (d ≡ 0 → ⊥) → {q : ℕ} → q ≡ line_end t p → (cells cells' : List ℕ)
-      → cells' ≡ sets cells (row_size * c) (row.kind ∷ l ∷ 1 ∷ row.code ∷ row.a ∷ row.b ∷ row.c ∷ row.d ∷ [])
+      → cells' ≡ sets cells (row_size * c) (number_of row.kind ∷ l ∷ 1 ∷ row.code ∷ row.a ∷ row.b ∷ row.c ∷ row.d ∷ [])
       → Given (deep d) (λ c' e. Rows t c cells cells' c' (cons e nil)) t p l c k (Ok (record { position = q; line = l + 1; rows = c + 1 }))
   leaf-done w m y {q} f cells cells' e =
       let one : c + 1 - c ≡ 1 = omega arith in

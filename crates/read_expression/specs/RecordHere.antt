@@ -18,6 +18,9 @@ use Rattle.rules.specs.Area.{value_numbers}
 use Rattle.text.specs.Lines.{line_end, line-moves, line-most}
 use Rattle.text.specs.Reading.{place, place-next}
 use Rattle.text.specs.Answers.{wrong_at, limit_at, bind_ok, bind-no}
+use Rattle.ast.specs.Row.{number_of}
+use Rattle.ast.specs.declared.row.Kind.{Kind}
+use Rattle.ast.specs.declared.row.Kind.TheVariants as K
 use Rattle.read_expression.specs.declared.heads.Row.{Row}
 use Rattle.read_expression.specs.Encode.{head_numbers}
 use Rattle.read_expression.specs.RowOf.{RowIs, RowSays, RowOf}
@@ -34,20 +37,36 @@ unfolding RowSays
 row-of-some {h = none} s = absurd s.says
 row-of-some {h = some x} s = (x, refl, s.says)
 
-pub row-of-is : {t : Bytes} (h : Head) {r : Row} → RowIs t h r → r.kind ≡ 7 → h ≡ is_head
+-- the kind of an `is`
+kind-is : (k : Kind) → number_of k ≡ 7 → k ≡ K.Is
+unfolding number_of
+kind-is K.Star e = absurd (omega arith)
+kind-is K.Column e = absurd (omega arith)
+kind-is K.Qualified e = absurd (omega arith)
+kind-is K.Call e = absurd (omega arith)
+kind-is K.Unary e = absurd (omega arith)
+kind-is K.Binary e = absurd (omega arith)
+kind-is K.Is e = refl
+kind-is K.Literal e = absurd (omega arith)
+
+seven : {t : Bytes} {h : Head} {r : Row} → RowIs t h r → r.kind ≡ K.Is → head_numbers h ≡ 7 ∷ r.code ∷ r.a ∷ r.b ∷ r.c ∷ r.d ∷ []
+unfolding number_of
+seven s e = rw e at s.is
+
+pub row-of-is : {t : Bytes} (h : Head) {r : Row} → RowIs t h r → r.kind ≡ K.Is → h ≡ is_head
 unfolding head_numbers value_numbers
 row-of-is is_head s e = refl
-row-of-is star_head s e = let z : ◌≡◌ {A = ℕ} 1 7 = cc s.is in absurd (omega arith)
-row-of-is (column_head none n) s e = let z : ◌≡◌ {A = ℕ} 2 7 = cc s.is in absurd (omega arith)
-row-of-is (column_head (some t) n) s e = let z : ◌≡◌ {A = ℕ} 3 7 = cc s.is in absurd (omega arith)
-row-of-is (value_head v) s e = let z : ◌≡◌ {A = ℕ} 8 7 = cc s.is in absurd (omega arith)
-row-of-is (call_head n k) s e = let z : ◌≡◌ {A = ℕ} 4 7 = cc s.is in absurd (omega arith)
-row-of-is (unary_head o) s e = let z : ◌≡◌ {A = ℕ} 5 7 = cc s.is in absurd (omega arith)
-row-of-is (binary_head o) s e = let z : ◌≡◌ {A = ℕ} 6 7 = cc s.is in absurd (omega arith)
+row-of-is star_head s e = let z : ◌≡◌ {A = ℕ} 1 7 = cc (seven s e) in absurd (omega arith)
+row-of-is (column_head none n) s e = let z : ◌≡◌ {A = ℕ} 2 7 = cc (seven s e) in absurd (omega arith)
+row-of-is (column_head (some t) n) s e = let z : ◌≡◌ {A = ℕ} 3 7 = cc (seven s e) in absurd (omega arith)
+row-of-is (value_head v) s e = let z : ◌≡◌ {A = ℕ} 8 7 = cc (seven s e) in absurd (omega arith)
+row-of-is (call_head n k) s e = let z : ◌≡◌ {A = ℕ} 4 7 = cc (seven s e) in absurd (omega arith)
+row-of-is (unary_head o) s e = let z : ◌≡◌ {A = ℕ} 5 7 = cc (seven s e) in absurd (omega arith)
+row-of-is (binary_head o) s e = let z : ◌≡◌ {A = ℕ} 6 7 = cc (seven s e) in absurd (omega arith)
 
-pub row-of-not-is : {t : Bytes} (h : Head) {r : Row} → RowIs t h r → (r.kind ≡ 7 → ⊥) → h ≡ is_head → ⊥
+pub row-of-not-is : {t : Bytes} (h : Head) {r : Row} → RowIs t h r → (r.kind ≡ K.Is → ⊥) → h ≡ is_head → ⊥
 unfolding head_numbers
-row-of-not-is h s n e = n (let w : head_numbers h ≡ head_numbers is_head = rw e in cc s.is)
+row-of-not-is h {r} s n e = n (kind-is r.kind (let w : head_numbers h ≡ head_numbers is_head = rw e in cc s.is))
 
 -- POSITIONS
 -- behind the end of the text no record stands

@@ -5,12 +5,13 @@ use Rattle.std.proofs.Math.Option.{Option, none, some}
 use Rattle.rules.specs.Limits.{most_cells}
 use Rattle.rules.specs.Lists.{Bytes}
 use Rattle.rules.specs.ReadExpression.{Head}
+use Rattle.ast.specs.Row.{number_of}
 use Rattle.read_expression.specs.declared.heads.Row.{Row}
 use Rattle.read_expression.specs.Encode.{head_numbers, arity}
 use Rattle.read_expression.specs.Fits.{HeadFits}
 
 abbrev pub numbers_of : Row → List ℕ
-numbers_of r = r.kind ∷ r.code ∷ r.a ∷ r.b ∷ r.c ∷ r.d ∷ []
+numbers_of r = number_of r.kind ∷ r.code ∷ r.a ∷ r.b ∷ r.c ∷ r.d ∷ []
 
 -- a row with no place and no literal
 abbrev pub Plain : Row → ℕ → ℕ → ℕ → Type 0

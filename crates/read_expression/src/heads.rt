@@ -1,28 +1,32 @@
 // What one record says of an expression, as the numbers of its row (specs/Table.antt).
-ghost use Rattle.std.specs.Prelude.{List, [], ◌∷◌, ℕ, ◌≤◌, length};
-ghost use Rattle.std.proofs.Math.Option.{Option};
+ghost use Rattle.std.specs.Prelude.{List, [], ◌∷◌, ℕ, ◌≤◌, length, Some};
+ghost use Rattle.std.proofs.Math.Option.{Option, some};
 ghost use Rattle.rules.specs.Refusals.{statement};
 ghost use Rattle.rules.specs.Limits.{most_bytes};
 ghost use Rattle.rules.specs.Lists.{map_option};
 ghost use Rattle.rules.specs.Schema.{Value};
 ghost use Rattle.rules.specs.Reader.{line_here, one_of, word};
-ghost use Rattle.rules.specs.ReadExpression.{value_head, operators, column_fields, call_fields, heads};
+ghost use Rattle.rules.specs.ReadExpression.{unary_head, binary_head, value_head, operators, column_fields, call_fields, heads};
 ghost use Rattle.text.specs.Lines.{field, Fields};
 ghost use Rattle.text.specs.Reading.{place};
 ghost use Rattle.text.specs.Fields.{Inside};
+ghost use Rattle.numbers.specs.Operators.{unary_operator, binary_operator};
 ghost use Rattle.literal.specs.Records.{IsLiteral};
+ghost use Rattle.ast.specs.Row.{number_of};
 ghost use Rattle.read_expression.specs.RowOf.{Plain, RowOf};
 
-use ast::rows::{BINARY, CALL, COLUMN, IS, LITERAL, QUALIFIED, STAR, UNARY};
+use ast::row::Kind;
 use literal::record::literal_at;
 use numbers::literals::Literal;
+use numbers::operators::{Binary, Unary};
 use text::places::address;
 use text::{Line, MOST_BYTES};
 
-// A row but its line and its size, and how many operands follow its record.
-#[derive(Clone, Copy)]
+// A row but its line and its size, and how many operands follow its record. The code is an operator's, a literal's kind by its number, or how
+// many arguments a call has: a number, as it stands in the table.
+#[derive(Clone, Copy, Debug, PartialEq, Eq)]
 pub struct Row {
-    pub kind: u32,
+    pub kind: Kind,
     pub code: u32,
     pub a: u32,
     pub b: u32,
@@ -32,8 +36,8 @@ pub struct Row {
 }
 
 // A row with no place and no literal.
-fn plain_row(kind: u32, code: u32, operands: u32) -> Row
-    ensures { Plain result kind code operands }
+fn plain_row(kind: Kind, code: u32, operands: u32) -> Row
+    ensures { Plain result (number_of kind) code operands }
 {
     Row {
         kind,
@@ -46,32 +50,44 @@ fn plain_row(kind: u32, code: u32, operands: u32) -> Row
     }
 }
 
+fn unary(operator: Unary) -> Row
+    ensures { (t : List ℕ) → RowOf t (some (unary_head (unary_operator operator))) (Some result) }
+{
+    plain_row(Kind::Unary, operator.code(), 1)
+}
+
+fn binary(operator: Binary) -> Row
+    ensures { (t : List ℕ) → RowOf t (some (binary_head (binary_operator operator))) (Some result) }
+{
+    plain_row(Kind::Binary, operator.code(), 2)
+}
+
 // An operator by its field.
 fn operator(t: &[u8], a: usize, n: usize) -> Option<Row>
     ensures { RowOf t.now (word operators (field most_bytes t.now a n)) result }
 {
     let w = text::packed(t, a, n);
     match w {
-        text::words::AND => Some(plain_row(BINARY, 16, 2)),
-        text::words::NOT => Some(plain_row(UNARY, 8, 1)),
-        text::words::OR => Some(plain_row(BINARY, 17, 2)),
-        text::words::EQ => Some(plain_row(BINARY, 18, 2)),
-        text::words::GT => Some(plain_row(BINARY, 19, 2)),
-        text::words::GE => Some(plain_row(BINARY, 28, 2)),
-        text::words::IS => Some(plain_row(IS, 0, 1)),
-        text::words::LT => Some(plain_row(BINARY, 20, 2)),
-        text::words::LE => Some(plain_row(BINARY, 29, 2)),
-        text::words::NE => Some(plain_row(BINARY, 30, 2)),
-        text::words::ADD => Some(plain_row(BINARY, 21, 2)),
-        text::words::DIV => Some(plain_row(BINARY, 22, 2)),
-        text::words::POW => Some(plain_row(BINARY, 23, 2)),
-        text::words::FACT => Some(plain_row(UNARY, 9, 1)),
-        text::words::IDENT => Some(plain_row(UNARY, 10, 1)),
-        text::words::MUL => Some(plain_row(BINARY, 24, 2)),
-        text::words::NEG => Some(plain_row(UNARY, 11, 1)),
-        text::words::REM => Some(plain_row(BINARY, 25, 2)),
-        text::words::SUB => Some(plain_row(BINARY, 26, 2)),
-        text::words::LIKE => Some(plain_row(BINARY, 27, 2)),
+        text::words::AND => Some(binary(Binary::And)),
+        text::words::NOT => Some(unary(Unary::Not)),
+        text::words::OR => Some(binary(Binary::Or)),
+        text::words::EQ => Some(binary(Binary::Equal)),
+        text::words::GT => Some(binary(Binary::GreaterThan)),
+        text::words::GE => Some(binary(Binary::GreaterThanOrEqual)),
+        text::words::IS => Some(plain_row(Kind::Is, 0, 1)),
+        text::words::LT => Some(binary(Binary::LessThan)),
+        text::words::LE => Some(binary(Binary::LessThanOrEqual)),
+        text::words::NE => Some(binary(Binary::NotEqual)),
+        text::words::ADD => Some(binary(Binary::Add)),
+        text::words::DIV => Some(binary(Binary::Divide)),
+        text::words::POW => Some(binary(Binary::Exponentiate)),
+        text::words::FACT => Some(unary(Unary::Factorial)),
+        text::words::IDENT => Some(unary(Unary::Identity)),
+        text::words::MUL => Some(binary(Binary::Multiply)),
+        text::words::NEG => Some(unary(Unary::Negate)),
+        text::words::REM => Some(binary(Binary::Remainder)),
+        text::words::SUB => Some(binary(Binary::Subtract)),
+        text::words::LIKE => Some(binary(Binary::Like)),
         _ => None,
     }
 }
@@ -85,7 +101,7 @@ fn column(t: &[u8], a: usize, n: usize) -> Option<Row>
         return None;
     }
     Some(Row {
-        kind: COLUMN,
+        kind: Kind::Column,
         code: 0,
         a: address(a),
         b: n as u32,
@@ -108,7 +124,7 @@ fn qualified(t: &[u8], a: usize, n: usize, b: usize, m: usize) -> Option<Row>
         return None;
     }
     Some(Row {
-        kind: QUALIFIED,
+        kind: Kind::Qualified,
         code: 0,
         a: address(b),
         b: m as u32,
@@ -129,7 +145,7 @@ fn call(t: &[u8], a: usize, n: usize, b: usize, m: usize) -> Option<Row>
     let v = text::count(t, b, m)?;
     let k = v as u32;
     Some(Row {
-        kind: CALL,
+        kind: Kind::Call,
         code: k,
         a: address(a),
         b: n as u32,
@@ -145,7 +161,7 @@ fn literal_row(literal: Option<Literal>) -> Option<Row>
 {
     let v = literal?;
     Some(Row {
-        kind: LITERAL,
+        kind: Kind::Literal,
         code: v.kind.number(),
         a: v.first,
         b: v.second,
@@ -188,7 +204,7 @@ pub fn head(t: &[u8], p: usize, f: Line) -> Option<Row>
         if n != 1 {
             return None;
         }
-        return Some(plain_row(STAR, 0, 0));
+        return Some(plain_row(Kind::Star, 0, 0));
     }
     literal_row(literal_at(t, MOST_BYTES, p, f))
 }

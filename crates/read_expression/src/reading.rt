@@ -5,11 +5,13 @@ ghost use Rattle.rules.specs.Limits.{most_cells};
 ghost use Rattle.rules.specs.Ast.{cons, nil};
 ghost use Rattle.rules.specs.Reader.{literal_here};
 ghost use Rattle.rules.specs.ReadExpression.{deep, times, expression};
+ghost use Rattle.ast.specs.Row.{number_of};
 ghost use Rattle.ast.specs.Table.{row_size, statement_rows, starred_rows, table_size};
 ghost use Rattle.read_expression.specs.Reading.{Position, Given, Rows, IsRow};
 
 use crate::heads::{Row, head};
-use ast::rows::{IS, ROW_SIZE, STATEMENT_ROWS};
+use ast::row::Kind;
+use ast::rows::{ROW_SIZE, STATEMENT_ROWS};
 use literal::record::literal_at;
 use numbers::refusals::{Reason, Refusal};
 use text::MOST_BYTES;
@@ -19,7 +21,7 @@ const DEPTH: u32 = 32;
 
 // Where reading stands: the line, how many expression rows there are so far, and the position in the text. In this order a
 // refusal's line lies where the line does, so that a Result of either is read back as it was written.
-#[derive(Clone, Copy)]
+#[derive(Clone, Copy, Debug, PartialEq, Eq)]
 pub struct Cursor {
     pub line: u32,
     pub rows: u32,
@@ -29,10 +31,10 @@ pub struct Cursor {
 // The row c of a record: what it says, its line, and how many rows its tree has.
 pub fn put_row(cells: &mut [u32], c: u32, line: u32, rows: u32, h: Row)
     requires { (c < statement_rows + starred_rows) × (length cells.old ≡ table_size) }
-    ensures { cells.new ≡ sets cells.old (row_size * c) (h.kind ∷ line ∷ rows ∷ h.code ∷ h.a ∷ h.b ∷ h.c ∷ h.d ∷ []) }
+    ensures { cells.new ≡ sets cells.old (row_size * c) (number_of h.kind ∷ line ∷ rows ∷ h.code ∷ h.a ∷ h.b ∷ h.c ∷ h.d ∷ []) }
 {
     let i = ROW_SIZE * c as usize;
-    cells[i] = h.kind;
+    cells[i] = h.kind as u32;
     cells[i + 1] = line;
     cells[i + 2] = rows;
     cells[i + 3] = h.code;
@@ -53,7 +55,7 @@ fn read_is(t: &[u8], at: Cursor, c: u32, line: u32, cells: &mut [u32]) -> Result
         return Err(Reason::WrongRecord.at(at.line));
     };
     let h = Row {
-        kind: IS,
+        kind: Kind::Is,
         code: v.kind.number(),
         a: v.first,
         b: v.second,
@@ -114,11 +116,13 @@ fn read_deep(t: &[u8], at: Cursor, depth: u32, cells: &mut [u32]) -> Result<Curs
         return Ok(operands);
     }
     let behind = read_times(t, operands, depth - 1, h.operands, cells)?;
-    if h.kind == IS {
-        return read_is(t, behind, at.rows, at.line, cells);
+    match h.kind {
+        Kind::Is => read_is(t, behind, at.rows, at.line, cells),
+        _ => {
+            put_row(cells, at.rows, at.line, behind.rows - at.rows, h);
+            Ok(behind)
+        }
     }
-    put_row(cells, at.rows, at.line, behind.rows - at.rows, h);
-    Ok(behind)
 }
 
 // n expressions in a row. Where they are refused the rows from this one on mean nothing.

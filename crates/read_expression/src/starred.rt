@@ -4,7 +4,8 @@ ghost use Rattle.read_expression.specs.Starred.{with_starred};
 
 use crate::heads::Row;
 use crate::reading::put_row;
-use ast::rows::{QUALIFIED, STARRED_ROWS, STATEMENT_ROWS, TABLE_SIZE};
+use ast::row::Kind;
+use ast::rows::{STARRED_ROWS, STATEMENT_ROWS, TABLE_SIZE};
 use text::places::Place;
 
 // Starred column k: its star's line, its table's name and its own. Where the table has no such row nothing is written.
@@ -18,7 +19,7 @@ pub fn put_starred(cells: &mut [u32], k: u32, line: u32, table: Place, name: Pla
         return;
     }
     let h = Row {
-        kind: QUALIFIED,
+        kind: Kind::Qualified,
         code: 0,
         a: name.address,
         b: name.length,

@@ -1,6 +1,7 @@
 -- `call`: a name and a count, or none.
 use native.Mathlib.Omega.{arith}
 use mathlib.Core.Path.{refl, sym, ◌∙◌}
+use Rattle.ast.specs.Row.{number_of}
 use Rattle.read_expression.specs.RowOf.{no_row}
 use Rattle.read_expression.specs.Heads.{call-unnamed, call-uncounted, call-some}
 use Rattle.text.specs.Numbers.{count_small}
@@ -16,4 +17,5 @@ pub returns-in_err-v : goal.returns-in_err-v
 returns-in_err-v c = rw c.from_residual.ensures (no_row (call-uncounted _ _ _ c.requires _ _ (sym c.is_name.ensures ∙ c.if-not-is_name.false) c.in_err-v.ensures))
 
 pub returns : goal.returns
+unfolding number_of
 returns c = call-some _ _ _ c.requires _ _ _ _ (sym c.is_name.ensures ∙ c.if-not-is_name.false) c.in_ok-v.ensures (rw c.address.ensures refl) refl

@@ -5,6 +5,7 @@ use Rattle.rules.specs.Lines.{bytes}
 use Rattle.rules.specs.Refusals as rule
 use Rattle.rules.specs.Reader.{base_address}
 use Rattle.text.specs.Fields.{inside-field}
+use Rattle.ast.specs.Row.{number_of}
 use Rattle.read_expression.specs.RowOf.{row-of-as, no_row}
 use Rattle.read_expression.specs.Operators.{row-of-plain, star-plainly}
 use Rattle.read_expression.specs.Records.{other-words, head-op, head-op-not, head-column, head-qualified, head-column-not, head-call, head-call-not, head-star, head-star-not, head-literal}
@@ -52,7 +53,7 @@ unfolding bytes
 returns-then-n-ne1 c = λ l d k. no_row (head-star-not _ _ l d k _ c.requires.fact_2 _ _ other-words c.head-k.ensures c.if-k-eq3.true c.if-n-ne1.true)
 
 pub returns-then-k-eq3 : goal.returns-then-k-eq3
-unfolding bytes
+unfolding bytes number_of
 returns-then-k-eq3 c = λ l d k. row-of-as _ _ _ _ (head-star _ _ l d k _ c.requires.fact_2 _ _ other-words c.head-k.ensures c.if-k-eq3.true c.if-n-ne1.false) (row-of-plain _ _ _ _ _ _ star-plainly c.plain_row.ensures)
 
 pub returns : goal.returns

@@ -34,17 +34,17 @@ read_deep-returns-in_err-behind t c = λ k. let p = err_from_is_err_and c.from_r
 pub read_deep-read_is-requires : goal.read_deep-read_is-requires
 read_deep-read_is-requires t c = let w = given-done _ _ _ _ _ _ 0 _ (c.in_ok-behind.ensures 0) in record { fact_1 = w.position; fact_2 = (omega (arith, w.more), rows-length w.holds ∙ c.requires.1.1) }
 
-pub read_deep-returns-then-h-eq-IS : goal.read_deep-returns-then-h-eq-IS
-read_deep-returns-then-h-eq-IS t c = λ k. deep_is _ _ _ k c.in-Some.ensures _ (omega arith) c.if-depth-eq0.false c.fields-f.ensures.next _ _ _ _ _ (c.in_ok-behind.ensures k) c.if-h-eq-IS.true _ _ (c.read_is.ensures k)
+pub read_deep-returns-in-Is : goal.read_deep-returns-in-Is
+read_deep-returns-in-Is t c = λ k. deep_is _ _ _ k c.in-Some.ensures _ (omega arith) c.if-depth-eq0.false c.fields-f.ensures.next _ _ _ _ _ (c.in_ok-behind.ensures k) c.in-Is.is _ _ (c.read_is.ensures k)
 
 pub read_deep-overflow_sub-behind : goal.read_deep-overflow_sub-behind
 read_deep-overflow_sub-behind t c = omega (arith, (given-done _ _ _ _ _ _ 0 _ (c.in_ok-behind.ensures 0)).more)
 
-pub read_deep-put_row-requires-2 : goal.read_deep-put_row-requires-2
-read_deep-put_row-requires-2 t c = (omega arith, rows-length (given-done _ _ _ _ _ _ 0 _ (c.in_ok-behind.ensures 0)).holds ∙ c.requires.1.1)
+pub read_deep-put_row-requires-in_default-kind : goal.read_deep-put_row-requires-in_default-kind
+read_deep-put_row-requires-in_default-kind t c = (omega arith, rows-length (given-done _ _ _ _ _ _ 0 _ (c.in_ok-behind.ensures 0)).holds ∙ c.requires.1.1)
 
-pub read_deep-returns : goal.read_deep-returns
-read_deep-returns t c = λ k. deep-done _ _ _ k c.in-Some.ensures _ (omega arith) c.if-depth-eq0.false c.fields-f.ensures.next _ _ _ _ _ (c.in_ok-behind.ensures k) _ c.if-h-eq-IS.false c.put_row-2.ensures
+pub read_deep-returns-in_default-kind : goal.read_deep-returns-in_default-kind
+read_deep-returns-in_default-kind t c = λ k. deep-done _ _ _ k c.in-Some.ensures _ (omega arith) c.if-depth-eq0.false c.fields-f.ensures.next _ _ _ _ _ (c.in_ok-behind.ensures k) _ c.in_default-kind.not-Is c.put_row-in_default-kind.ensures
 
 pub read_times-loop-init : goal.read_times-loop-init
 read_times-loop-init t c = let e : c.args.n - 0 ≡ c.args.n = omega arith in λ k. rw e (loop-start c.requires.0)

@@ -1,7 +1,9 @@
 -- `reading::put_row`: eight stores one behind the other are the row.
 use native.Mathlib.Omega.{arith}
+use mathlib.Core.Path.{sym}
 use lib.ListN.{length-set}
 use Rattle.numbers.specs.Stores.{eight-stores}
+use Rattle.ast.proofs.KindNumbers.{number-is}
 use Rattle.read_expression.proofs.reading.put_row.Goals as goal
 
 pub bounds-cells-i-2 : goal.bounds-cells-i-2
@@ -26,4 +28,4 @@ pub bounds-cells-i-8 : goal.bounds-cells-i-8
 bounds-cells-i-8 c = simp length-set (omega (arith, c.requires.0, c.requires.1))
 
 pub returns : goal.returns
-returns c = eight-stores c.args.cells.now _ _ _ _ _ _ _ _ _
+returns c = rw (sym (number-is c.args.h.kind)) (eight-stores c.args.cells.now _ _ _ _ _ _ _ _ _)

@@ -1,0 +1,9 @@
+-- `binary`: the kind, the operator's code, and its operands.
+use Rattle.numbers.specs.Operators.{binary_operator}
+use Rattle.ast.specs.Row.{number_of}
+use Rattle.read_expression.specs.Operators.{row-of-plain, binary-plainly}
+use Rattle.read_expression.proofs.heads.binary.Goals as goal
+
+pub returns : goal.returns
+unfolding number_of
+returns c = λ t. row-of-plain t _ _ _ _ _ (binary-plainly (binary_operator c.args.operator)) (rw c.code.ensures at c.plain_row.ensures)
