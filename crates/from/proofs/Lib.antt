@@ -1,1 +1,2 @@
 pub mod RowKinds
+pub mod RowNumbers

@@ -17,6 +17,10 @@ use Rattle.ast.specs.Table.{row_size}
 use Rattle.read_expression.specs.Reading.{here, Given, Took}
 use Rattle.from.specs.Layout.{trees_before}
 use Rattle.from.specs.Rules.{Frame, first, second, rest_of, rest-right, rest-close, rest-close-no, rest_end}
+use Rattle.from.specs.Numbers.{number_of}
+use Rattle.from.specs.KindNumbers.{number-kind}
+use Rattle.from.specs.Access.{kind_of}
+use Rattle.from.specs.Records.{join_number}
 use Rattle.from.specs.Trees.{line_in, kind_in, on_in, Closed, TreeTook}
 use Rattle.from.specs.Rows.{sides_before, join-row}
 use Rattle.from.specs.Stack.{code_of, Holds, lefts, holds-push, line-in, kind-in, on_in_lem}
@@ -149,7 +153,7 @@ module _ {t : Bytes} {p₀ l₀ c₀ k₀ n₀ : ℕ} {cells₀ rows₀ : List �
               go (second m j o a ∷ fs) is opened holds count stand =
                   let x : d - 1 ≡ length fs = omega (arith, opened) in
                   let y = ev ∙ ap (λ i. get_or stack i 0) x ∙ holds.0 in
-                  let ek = kind-in m j o v y in
+                  let ek : number_of (kind_of (kind_in v)) ≡ join_number j = ap (λ (k : ℕ). number_of (kind_of k)) (kind-in m j o v y) ∙ number-kind j in
                   let el = line-in m j o v y in
                   let w = took.holds in
                   record {
@@ -169,7 +173,7 @@ module _ {t : Bytes} {p₀ l₀ c₀ k₀ n₀ : ℕ} {cells₀ rows₀ : List �
                     begun = h.begun;
                     count = omega (arith, count);
                     stand = λ cells'' u b. rw (add-one n, ← el)
-                        (join-row rows rows' n (kind_in v) (line_in v) w.number 0 0 0 0 (sides_before rows n)
+                        (join-row rows rows' n (number_of (kind_of (kind_in v))) (line_in v) w.number 0 0 0 0 (sides_before rows n)
                         (omega (arith, close-room, h.rows-room)) w.written b t cells'' j a h.tree
                         (lefts fs ++ trees_before b t cells'' rows₀ n₀) took.value ek refl
                         (stand cells'' (below cells'' u) b) (w.stands cells'' u b));

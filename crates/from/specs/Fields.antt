@@ -1,5 +1,5 @@
 -- What a FROM record says, by its keyword and its fields.
-use Rattle.std.specs.Prelude.{ℕ, zero, suc, ◌+◌, ◌-◌, ◌≤◌, ◌<◌, ◌≡◌, refl, Bool, true, false, [], ◌∷◌, get_or, take, drop, Some, None}
+use Rattle.std.specs.Prelude.{eqb, ℕ, zero, suc, ◌+◌, ◌-◌, ◌≤◌, ◌<◌, ◌≡◌, refl, Bool, true, false, [], ◌∷◌, get_or, take, drop, Some, None}
 use Rattle.std.specs.Prelude as std
 use Rattle.std.proofs.Common.{arith, sym, ap, ◌∙◌}
 use Rattle.std.proofs.Math.Option.{Option, none, some}
@@ -91,6 +91,13 @@ module _ (t : Bytes) (a n b m : ℕ) (i : Inside t a n) (j : Inside t b m) where
   }
 
 -- JOINS
+-- whether a word has the number 0, as a number
+pub flag-zero : (o : ℕ) → o < 2 → flag (eqb o 0) ≡ 1 - o
+unfolding flag
+flag-zero zero h = refl
+flag-zero (suc zero) h = refl
+flag-zero (suc (suc o)) h = absurd (omega arith)
+
 pub join-words : keys joins ≡ words_of (bytes "cross inner left right ")
 unfolding joins keys words_of push bytes
 join-words = refl
@@ -192,26 +199,26 @@ module _ (t : Bytes) (p l c n : ℕ) (r : Line) (f : Fields t p r) where
   without : (i : ℕ) → suc i < kept_fields → (r.count ≡ suc i → ⊥) → length (rest (here t p l c n)) ≡ i → ⊥
   without = rest-other statement t p l c n r f
 
+  pub fields-one : r.count ≡ 2 → table_fields (rest (here t p l c n)) ≡ table_fields (field most_bytes t (get_or r.starts 1 0) (get_or r.lens 1 0) ∷ [])
+  fields-one m = ap table_fields (with-one m)
+
+  pub fields-two : r.count ≡ 3
+      → table_fields (rest (here t p l c n)) ≡ table_fields (field most_bytes t (get_or r.starts 1 0) (get_or r.lens 1 0) ∷ field most_bytes t (get_or r.starts 2 0) (get_or r.lens 2 0) ∷ [])
+  fields-two m = ap table_fields (with_two m)
+
+  pub fields-other : (r.count ≡ 2 → ⊥) → (r.count ≡ 3 → ⊥) → table_fields (rest (here t p l c n)) ≡ none
+  unfolding table_fields map_option
+  fields-other m o = rw (name-alias _ (without 1 (omega arith) m) (without 2 (omega arith) o))
+
   module _ (k : ℕ) (words : Bytes) (e : keys from_heads ≡ words_of words) (h : k ≡ find (words_of words) (take (get_or r.lens 0 0) (drop (get_or r.starts 0 0) t))) where
     from_is : one_of from_heads (line_here (here t p l c n)) ≡ apply (nth from_heads k) (rest (here t p l c n))
     from_is = one-of statement t p l c n r f from_heads words k e h
 
-    at_from : k ≡ 0 → one_of from_heads (line_here (here t p l c n)) ≡ table_fields (rest (here t p l c n))
+    pub at_from : k ≡ 0 → one_of from_heads (line_here (here t p l c n)) ≡ table_fields (rest (here t p l c n))
     at_from z = from_is ∙ (unfold from_heads nth apply table_fields in rw z)
 
     at_join : k ≡ 1 → one_of from_heads (line_here (here t p l c n)) ≡ join_fields (rest (here t p l c n))
     at_join z = from_is ∙ (unfold from_heads nth apply join_fields in rw z)
-
-    pub from_one : k ≡ 0 → r.count ≡ 2 → one_of from_heads (line_here (here t p l c n)) ≡ table_fields (field most_bytes t (get_or r.starts 1 0) (get_or r.lens 1 0) ∷ [])
-    from_one z m = at_from z ∙ ap table_fields (with-one m)
-
-    pub from-two : k ≡ 0 → r.count ≡ 3
-        → one_of from_heads (line_here (here t p l c n)) ≡ table_fields (field most_bytes t (get_or r.starts 1 0) (get_or r.lens 1 0) ∷ field most_bytes t (get_or r.starts 2 0) (get_or r.lens 2 0) ∷ [])
-    from-two z m = at_from z ∙ ap table_fields (with_two m)
-
-    pub from-not : k ≡ 0 → (r.count ≡ 2 → ⊥) → (r.count ≡ 3 → ⊥) → one_of from_heads (line_here (here t p l c n)) ≡ none
-    unfolding table_fields map_option
-    from-not z m o = at_from z ∙ rw (name-alias _ (without 1 (omega arith) m) (without 2 (omega arith) o))
 
     pub join-two : k ≡ 1 → r.count ≡ 3
         → one_of from_heads (line_here (here t p l c n)) ≡ join_fields (field most_bytes t (get_or r.starts 1 0) (get_or r.lens 1 0) ∷ field most_bytes t (get_or r.starts 2 0) (get_or r.lens 2 0) ∷ [])

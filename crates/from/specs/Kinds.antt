@@ -13,6 +13,9 @@ use Rattle.numbers.specs.Values.{WordFits}
 use Rattle.ast.specs.Names.{NameFits, name_at}
 use Rattle.from.specs.Records.{join_number, from_numbers, FromFits, numbers_of, FromRow, RowSays, IsFromRow}
 use Rattle.from.specs.Stack.{join-small}
+use Rattle.from.specs.Numbers.{number_of}
+use Rattle.from.specs.KindNumbers.{kind-table}
+use Rattle.from.specs.declared.row.Kind.TheVariants as K
 use Rattle.from.specs.declared.record.FromRecord.{FromRecord}
 
 -- a table, and its names read back from their places
@@ -20,16 +23,16 @@ pub record IsTable (t : Bytes) (h : Option FromHead) (r : FromRecord) : Type 0 w
   pub name : Word
   pub alias : Option Word
   pub is : h ≡ some (table_head name alias)
-  pub word : (b : Bytes) → word_at b t r.a r.b ≡ name
-  pub other : (b : Bytes) → name_at b t r.c r.d ≡ alias
+  pub word : (b : Bytes) → word_at b t r.name.address r.name.length ≡ name
+  pub other : (b : Bytes) → name_at b t r.alias.address r.alias.length ≡ alias
 
 -- a join
 pub record IsJoin (h : Option FromHead) (r : FromRecord) : Type 0 where
   pub join : Join
   pub on : Bool
   pub is : h ≡ some (join_head join on)
-  pub kind : r.kind ≡ join_number join
-  pub flag : r.on ≡ flag on
+  pub kind : number_of r.kind ≡ join_number join
+  pub flag : flag r.on ≡ flag on
 
 name_back : (b t : Bytes) (w : Word) → NameFits b t (some w) → name_at b t w.start (length w.bytes) ≡ some w
 unfolding NameFits WordFits
@@ -48,11 +51,11 @@ module _ {t : Bytes} {e : ℕ} {r : FromRecord} where
   row-end none s = absurd s.says
   row-end (some h) s = s.says.next
 
-  pub row-table : (h : Option FromHead) → IsFromRow t e h (Some r) → r.kind ≡ 1 → IsTable t h r
+  pub row-table : (h : Option FromHead) → IsFromRow t e h (Some r) → r.kind ≡ K.Table → IsTable t h r
   unfolding RowSays from_numbers option_span span FromFits WordFits NameFits name_at
   row-table none s z = absurd s.says
   row-table (some (join_head j o)) s z =
-      absurd (let y : join_number j ≡ r.kind = number _ 0 s.says in omega (arith, y, (join-small j).0))
+      absurd (let y : join_number j ≡ 1 = rw z at (number _ 0 s.says) in omega (arith, y, (join-small j).0))
   row-table (some (table_head n none)) s z = record {
     name = n;
     alias = none;
@@ -68,11 +71,11 @@ module _ {t : Bytes} {e : ℕ} {r : FromRecord} where
     other = λ b. rw (← number _ 4 s.says, ← number _ 5 s.says) (name_back b t w (s.says.fits b).1);
   }
 
-  pub row-join : (h : Option FromHead) → IsFromRow t e h (Some r) → (r.kind ≡ 1 → ⊥) → IsJoin h r
+  pub row-join : (h : Option FromHead) → IsFromRow t e h (Some r) → (r.kind ≡ K.Table → ⊥) → IsJoin h r
   unfolding RowSays from_numbers
   row-join none s y = absurd s.says
   row-join (some (table_head n a)) s y =
-      absurd (let w : 1 ≡ r.kind = number _ 0 s.says in y (sym w))
+      absurd (let w : 1 ≡ number_of r.kind = number _ 0 s.says in y (kind-table r.kind (sym w)))
   row-join (some (join_head j o)) s y = record {
     join = j;
     on = o;

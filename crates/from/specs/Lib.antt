@@ -1,3 +1,5 @@
+pub mod Numbers
+pub mod KindNumbers
 pub mod Layout
 pub mod Roots
 pub mod Access

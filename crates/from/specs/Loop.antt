@@ -29,6 +29,8 @@ use Rattle.from.specs.Trees.{TreeReady}
 use Rattle.from.specs.Rows.{table-row}
 use Rattle.from.specs.Stack.{code_of, Holds, lefts, join-small, flag_small, holds-push}
 use Rattle.from.specs.Kinds.{IsTable, IsJoin, row-end, row-table, row-join, row-none}
+use Rattle.from.specs.Numbers.{number_of}
+use Rattle.from.specs.declared.row.Kind.TheVariants as K
 use Rattle.from.specs.declared.record.FromRecord.{FromRecord}
 
 -- the tree that was read, before the left sides of the open joins
@@ -119,7 +121,7 @@ module _ {t : Bytes} {p₀ l₀ c₀ k₀ n₀ : ℕ} {cells₀ rows₀ : List �
     pub next-within : r.next ≤ length t
     next-within = omega (arith, row-end _ said, line-most t p, h.position.within)
 
-    module _ (z : r.kind ≡ 1) where
+    module _ (z : r.kind ≡ K.Table) where
       named : IsTable t (one_of from_heads (line_here (here t p l c k))) r
       named = row-table _ said z
 
@@ -139,7 +141,7 @@ module _ {t : Bytes} {p₀ l₀ c₀ k₀ n₀ : ℕ} {cells₀ rows₀ : List �
       table-next = (unfold place in place-next statement t p l c (suc k)) ∙ rw ((row-end _ said), add-one k)
 
       pub loop-table : k < most_from_tables → (rows' : List ℕ)
-          → rows' ≡ sets rows (row_size * n) (1 ∷ l ∷ 0 ∷ r.a ∷ r.b ∷ r.c ∷ r.d ∷ 0 ∷ []) → length rows' ≡ length rows
+          → rows' ≡ sets rows (row_size * n) (1 ∷ l ∷ 0 ∷ r.name.address ∷ r.name.length ∷ r.alias.address ∷ r.alias.length ∷ 0 ∷ []) → length rows' ≡ length rows
           → TreeLoop t p₀ l₀ c₀ k₀ n₀ cells₀ rows₀ true r.next (l + 1) c (k + 1) (n + 1) d stack cells rows'
       unfolding held place
       loop-table m rows' e g = record {
@@ -159,7 +161,7 @@ module _ {t : Bytes} {p₀ l₀ c₀ k₀ n₀ : ℕ} {cells₀ rows₀ : List �
         tables = omega arith;
         begun = h.begun;
         count = omega (arith, h.count);
-        stand = λ cells'' y b. rw (add-one n) (table-row rows rows' n 1 l 0 r.a r.b r.c r.d 0
+        stand = λ cells'' y b. rw (add-one n) (table-row rows rows' n 1 l 0 r.name.address r.name.length r.alias.address r.alias.length 0
             (omega (arith, row_room m, h.rows-room)) e b t cells'' refl refl
             ∙ rw (named.word b, named.other b, h.stand cells'' y b));
         cells-kept = h.cells-kept;
@@ -169,7 +171,7 @@ module _ {t : Bytes} {p₀ l₀ c₀ k₀ n₀ : ℕ} {cells₀ rows₀ : List �
       }
 
     -- one more join is open
-    module _ (y : r.kind ≡ 1 → ⊥) where
+    module _ (y : r.kind ≡ K.Table → ⊥) where
       joins : IsJoin (one_of from_heads (line_here (here t p l c k))) r
       joins = row-join _ said y
 
@@ -182,13 +184,13 @@ module _ {t : Bytes} {p₀ l₀ c₀ k₀ n₀ : ℕ} {cells₀ rows₀ : List �
       pub push-within : d < length stack
       push-within = omega (arith, push-moves, next-within, h.stack-room, h.deep)
 
-      pub push-small : (r.kind ≤ 5) × (r.on ≤ 1)
+      pub push-small : (number_of r.kind ≤ 5) × (flag r.on ≤ 1)
       push-small = (omega (arith, joins.kind, (join-small joins.join).1), omega (arith, joins.flag, flag_small joins.on))
 
       join-next : next (here t p l c k) ≡ here t r.next (l + 1) c k
       join-next = place-next statement t p l c k ∙ rw (row-end _ said)
 
-      pub loop-push : TreeLoop t p₀ l₀ c₀ k₀ n₀ cells₀ rows₀ false r.next (l + 1) c k n (d + 1) (set stack d (l * 32 + r.kind * 4 + r.on * 2)) cells rows
+      pub loop-push : TreeLoop t p₀ l₀ c₀ k₀ n₀ cells₀ rows₀ false r.next (l + 1) c k n (d + 1) (set stack d (l * 32 + number_of r.kind * 4 + flag r.on * 2)) cells rows
       unfolding held lefts code_of place
       loop-push =
           let o = joins.on in
@@ -212,7 +214,7 @@ module _ {t : Bytes} {p₀ l₀ c₀ k₀ n₀ : ℕ} {cells₀ rows₀ : List �
             count = h.count;
             stand = h.stand;
             cells-kept = h.cells-kept;
-            stack-room = omega (arith, length-set stack d (l * 32 + r.kind * 4 + r.on * 2), h.stack-room);
+            stack-room = omega (arith, length-set stack d (l * 32 + number_of r.kind * 4 + flag r.on * 2), h.stack-room);
             cells-room = h.cells-room;
             rows-room = h.rows-room;
           }

@@ -20,6 +20,8 @@ use Rattle.from.specs.Layout.{predicate_at}
 use Rattle.read_expression.proofs.Rows.{rows-kept, tree-back}
 use Rattle.from.specs.Rules.{single, single-no, without}
 use Rattle.from.specs.Rows.{sides_before}
+use Rattle.from.specs.Numbers.{number_of}
+use Rattle.from.specs.Access.{kind_of}
 use Rattle.from.specs.Trees.{line_in, kind_in, on_in, Closed}
 use Rattle.numbers.specs.declared.refusals.Refusal as code
 use Rattle.read_expression.specs.declared.reading.Cursor.{Cursor}
@@ -27,7 +29,7 @@ use Rattle.read_expression.specs.declared.reading.Cursor.{Cursor}
 module _ (t : Bytes) (p l c n v : ℕ) (cells rows : List ℕ) where
   -- none follows
   pub bare-closed : (on_in v ≡ 1 → ⊥) → Position t p l c → (s : ℕ) → s ≡ sides_before rows n → (rows' : List ℕ)
-      → rows' ≡ sets rows (row_size * n) (kind_in v ∷ line_in v ∷ 0 ∷ 0 ∷ 0 ∷ 0 ∷ 0 ∷ s ∷ [])
+      → rows' ≡ sets rows (row_size * n) (number_of (kind_of (kind_in v)) ∷ line_in v ∷ 0 ∷ 0 ∷ 0 ∷ 0 ∷ 0 ∷ s ∷ [])
       → (k : ℕ) → Given (optional (is_one (on_in v)) expression) (Closed t c n v cells cells rows rows') t p l c k (Ok (record { position = p; line = l; rows = c }))
   unfolding Given is_one predicate_at
   bare-closed h w s y rows' e k = record {
@@ -59,7 +61,7 @@ module _ (t : Bytes) (p l c n v : ℕ) (cells rows : List ℕ) where
       took k = g k
 
       pub predicate-closed : length cells ≡ table_size → (s : ℕ) → s ≡ sides_before rows n
-          → rows' ≡ sets rows (row_size * n) (kind_in v ∷ line_in v ∷ (c + 1) ∷ 0 ∷ 0 ∷ 0 ∷ 0 ∷ s ∷ [])
+          → rows' ≡ sets rows (row_size * n) (number_of (kind_of (kind_in v)) ∷ line_in v ∷ (c + 1) ∷ 0 ∷ 0 ∷ 0 ∷ 0 ∷ s ∷ [])
           → (k : ℕ) → Given (optional (is_one (on_in v)) expression) (Closed t c n v cells cells' rows rows') t p l c k (Ok q)
       unfolding Given predicate_at
       predicate-closed h s u e k =

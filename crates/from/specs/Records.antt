@@ -10,6 +10,7 @@ use Rattle.rules.specs.ReadStatement.{FromHead, table_head, join_head, joins, pr
 use Rattle.rules.specs.Area.{flag, option_span}
 use Rattle.numbers.specs.Values.{WordFits}
 use Rattle.ast.specs.Names.{NameFits}
+use Rattle.from.specs.Numbers.{number_of}
 use Rattle.from.specs.declared.record.FromRecord.{FromRecord}
 
 -- the kind of a join's row
@@ -37,7 +38,7 @@ FromFits c q (table_head n a) = WordFits c q n × NameFits c q a
 FromFits c q (join_head j o) = Unit {0}
 
 abbrev pub numbers_of : FromRecord → List ℕ
-numbers_of r = r.kind ∷ r.on ∷ r.a ∷ r.b ∷ r.c ∷ r.d ∷ []
+numbers_of r = number_of r.kind ∷ flag r.on ∷ r.name.address ∷ r.name.length ∷ r.alias.address ∷ r.alias.length ∷ []
 
 -- the numbers of a record of the statement t, behind which position e lies
 pub record FromRow (t : Bytes) (e : ℕ) (h : FromHead) (r : FromRecord) : Type 0 where

@@ -15,6 +15,8 @@ use Rattle.ast.specs.Table.{row_size, table_size}
 use Rattle.read_expression.specs.Reading.{here, Position}
 use Rattle.from.specs.Layout.{predicate_at, trees_before}
 use Rattle.from.specs.Rows.{sides_before}
+use Rattle.from.specs.Numbers.{number_of}
+use Rattle.from.specs.Access.{kind_of}
 use Rattle.from.specs.declared.Froms.{Froms}
 
 -- the numbers of an open join: its line, its kind, whether a predicate follows, and whether its left side is read
@@ -30,7 +32,7 @@ on_in v = v / 2 % 2
 -- a join closed in FROM row n: its row is written, and stands for its predicate e, whatever is written behind that later
 pub record Closed (t : Bytes) (c n v : ℕ) (cells cells' rows rows' : List ℕ) (c' : ℕ) (e : Option Expr) : Type 0 where
   pub number : ℕ
-  pub written : rows' ≡ sets rows (row_size * n) (kind_in v ∷ line_in v ∷ number ∷ 0 ∷ 0 ∷ 0 ∷ 0 ∷ sides_before rows n ∷ [])
+  pub written : rows' ≡ sets rows (row_size * n) (number_of (kind_of (kind_in v)) ∷ line_in v ∷ number ∷ 0 ∷ 0 ∷ 0 ∷ 0 ∷ sides_before rows n ∷ [])
   pub stands : (cells'' : List ℕ) → Kept 0 (row_size * c') cells' cells'' → (b : Bytes) → predicate_at b t cells'' number ≡ e
   pub cells-kept : Kept 0 (row_size * c) cells cells'
 

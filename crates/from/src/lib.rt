@@ -12,15 +12,19 @@ ghost use Rattle.rules.specs.ReadExpression.{expression};
 ghost use Rattle.numbers.specs.Values.{is_one};
 ghost use Rattle.ast.specs.Table.{row_size, table_size};
 ghost use Rattle.read_expression.specs.Reading.{Position, Given};
+ghost use Rattle.from.specs.Numbers.{number_of};
+ghost use Rattle.from.specs.declared.row.Kind.TheVariants.{Table};
 ghost use Rattle.from.specs.Terms.{FromsRead};
 ghost use Rattle.from.specs.Trees.{on_in, Closed, TreeReady, TreeRead};
 ghost use Rattle.from.specs.Turns.{TreeBegun, RowsBegun, TurnFrom};
 
-use self::record::{TABLE, from_record, from_stands};
+use self::record::{FromRecord, NOWHERE, from_record, from_stands};
 use self::roots::sides;
+use self::row::{Kind, kind_by};
 use ast::rows::ROW_SIZE;
 use numbers::refusals::{Reason, Refusal};
 use read_expression::reading::{Cursor, read_expressions};
+use text::places::Place;
 
 // Most tables in FROM.
 const MOST_TABLES: u32 = 16;
@@ -49,31 +53,57 @@ struct Stand {
     done: bool,
 }
 
-// FROM row n.
-fn put_row(
-    rows: &mut [u32],
-    n: u32,
-    kind: u32,
+// A FROM row: 0 for the predicate of a join that has none, else its row and 1 more; and how many rows its sides have.
+#[derive(Clone, Copy)]
+struct FromRow {
+    kind: Kind,
     line: u32,
     predicate: u32,
-    a: u32,
-    b: u32,
-    c: u32,
-    d: u32,
+    name: Place,
+    alias: Place,
     sides: u32,
-)
+}
+
+// Row n.
+fn put_row(rows: &mut [u32], n: u32, row: FromRow)
     requires { row_size * n + row_size ≤ length rows.old }
-    ensures { rows.new ≡ sets rows.old (row_size * n) (kind ∷ line ∷ predicate ∷ a ∷ b ∷ c ∷ d ∷ sides ∷ []) }
+    ensures { rows.new ≡ sets rows.old (row_size * n) (number_of row.kind ∷ row.line ∷ row.predicate ∷ row.name.address ∷ row.name.length ∷ row.alias.address ∷ row.alias.length ∷ row.sides ∷ []) }
 {
     let i = ROW_SIZE * n as usize;
-    rows[i] = kind;
-    rows[i + 1] = line;
-    rows[i + 2] = predicate;
-    rows[i + 3] = a;
-    rows[i + 4] = b;
-    rows[i + 5] = c;
-    rows[i + 6] = d;
-    rows[i + 7] = sides;
+    rows[i] = row.kind as u32;
+    rows[i + 1] = row.line;
+    rows[i + 2] = row.predicate;
+    rows[i + 3] = row.name.address;
+    rows[i + 4] = row.name.length;
+    rows[i + 5] = row.alias.address;
+    rows[i + 6] = row.alias.length;
+    rows[i + 7] = row.sides;
+}
+
+fn table_row(line: u32, h: FromRecord) -> FromRow
+    ensures { result ≡ record { kind = Table; line = line; predicate = 0; name = h.name; alias = h.alias; sides = 0 } }
+{
+    FromRow {
+        kind: Kind::Table,
+        line,
+        predicate: 0,
+        name: h.name,
+        alias: h.alias,
+        sides: 0,
+    }
+}
+
+fn join_row(kind: Kind, line: u32, predicate: u32, sides: u32) -> FromRow
+    ensures { result ≡ record { kind = kind; line = line; predicate = predicate; name = record { address = 0; length = 0 }; alias = record { address = 0; length = 0 }; sides = sides } }
+{
+    FromRow {
+        kind,
+        line,
+        predicate,
+        name: NOWHERE,
+        alias: NOWHERE,
+        sides,
+    }
 }
 
 // The predicate of an open join, if it has one, and its row.
@@ -90,15 +120,15 @@ fn close_join(
     ensures { (k : ℕ) → Given (optional (is_one (on_in v)) expression) (Closed t.now at.rows n v cells.old cells.new rows.old rows.new) t.now at.position at.line at.rows k result }
 {
     let line = v / 32;
-    let kind = v / 4 % 8;
+    let kind = kind_by(v / 4 % 8);
     let on = v / 2 % 2;
     let s = sides(rows, n);
     if on != 1 {
-        put_row(rows, n, kind, line, 0, 0, 0, 0, 0, s);
+        put_row(rows, n, join_row(kind, line, 0, s));
         return Ok(at);
     }
     let behind = read_expressions(t, at, 1, cells)?;
-    put_row(rows, n, kind, line, at.rows + 1, 0, 0, 0, 0, s);
+    put_row(rows, n, join_row(kind, line, at.rows + 1, s));
     Ok(behind)
 }
 
@@ -123,31 +153,35 @@ fn next_side(
         rows: at.rows,
     };
     let d = s.open;
-    if h.kind != TABLE {
-        stack[d] = at.line * 32 + h.kind * 4 + h.on * 2;
-        return Ok(Some(Stand {
-            froms: Froms {
-                at: next,
-                ..s.froms
-            },
-            open: d + 1,
-            done: false,
-        }));
+    match h.kind {
+        Kind::Table => {
+            let froms = s.froms;
+            if MOST_TABLES <= froms.tables {
+                return Err(Reason::LimitPassed.at(at.line));
+            }
+            put_row(rows, froms.rows, table_row(at.line, h));
+            Ok(Some(Stand {
+                froms: Froms {
+                    at: next,
+                    tables: froms.tables + 1,
+                    rows: froms.rows + 1,
+                },
+                open: d,
+                done: true,
+            }))
+        }
+        kind => {
+            stack[d] = at.line * 32 + kind as u32 * 4 + u32::from(h.on) * 2;
+            Ok(Some(Stand {
+                froms: Froms {
+                    at: next,
+                    ..s.froms
+                },
+                open: d + 1,
+                done: false,
+            }))
+        }
     }
-    let froms = s.froms;
-    if MOST_TABLES <= froms.tables {
-        return Err(Reason::LimitPassed.at(at.line));
-    }
-    put_row(rows, froms.rows, TABLE, at.line, 0, h.a, h.b, h.c, h.d, 0);
-    Ok(Some(Stand {
-        froms: Froms {
-            at: next,
-            tables: froms.tables + 1,
-            rows: froms.rows + 1,
-        },
-        open: d,
-        done: true,
-    }))
 }
 
 // Behind a side that was read: the right one follows, or the join is closed, or the tree has ended.
@@ -252,13 +286,13 @@ fn read_tree(t: &[u8], froms: Froms, cells: &mut [u32], rows: &mut [u32]) -> Res
     let Some(h) = from_record(t, at.position) else {
         return Err(Reason::WrongRecord.at(at.line));
     };
-    if h.kind != TABLE {
+    let Kind::Table = h.kind else {
         return read_joined(t, froms, cells, rows);
-    }
+    };
     if MOST_TABLES <= froms.tables {
         return Err(Reason::LimitPassed.at(at.line));
     }
-    put_row(rows, froms.rows, TABLE, at.line, 0, h.a, h.b, h.c, h.d, 0);
+    put_row(rows, froms.rows, table_row(at.line, h));
     Ok(Froms {
         at: Cursor {
             position: h.next,

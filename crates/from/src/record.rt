@@ -1,92 +1,101 @@
 // What one record of FROM says, as numbers.
-ghost use Rattle.std.specs.Prelude.{◌≡◌, [], ◌∷◌, ℕ, ◌≤◌, length};
+ghost use Rattle.std.specs.Prelude.{◌≡◌, true, false, [], ◌∷◌, ℕ, ◌+◌, ◌≤◌, length, MatchOption};
 ghost use Rattle.rules.specs.Limits.{most_bytes};
 ghost use Rattle.rules.specs.Lists.{same, any};
 ghost use Rattle.rules.specs.Lines.{bytes};
-ghost use Rattle.rules.specs.Reader.{key, line_here, one_of};
+ghost use Rattle.rules.specs.Reader.{key, line_here, one_of, rest};
 ghost use Rattle.rules.specs.ReadStatement.{from_heads};
 ghost use Rattle.text.specs.Lines.{field, line_end};
-ghost use Rattle.text.specs.Fields.{Inside};
+ghost use Rattle.text.specs.Lines.{Fields};
+ghost use Rattle.text.specs.Numbers.{is_name};
 ghost use Rattle.read_expression.specs.Reading.{here};
+ghost use Rattle.from.specs.declared.row.Kind.TheVariants.{Table};
 ghost use Rattle.from.specs.Records.{table_fields, join_fields, IsFromRow};
 
-// The kind of a table's row; those of joins are 2 to 5: numbers, as they stand in the rows (fixed memory).
-pub const TABLE: u32 = 1;
+use crate::row::Kind;
+use text::Line;
+use text::places::{Place, address};
 
-// A FROM record: the kind of its row, whether a predicate follows a join (1), the table's address and length in a and b, the alias's
-// in c and d (0 0 where there is none), and the position behind it.
-#[derive(Clone, Copy)]
+// The place of a name that is not there.
+pub(crate) const NOWHERE: Place = Place {
+    address: 0,
+    length: 0,
+};
+
+// A FROM record: the kind of its row, whether a predicate follows a join, the places of a table's name and of its alias (none: 0 0), and the
+// position behind it.
+#[derive(Clone, Copy, Debug, PartialEq, Eq)]
 pub struct FromRecord {
-    pub kind: u32,
-    pub on: u32,
-    pub a: u32,
-    pub b: u32,
-    pub c: u32,
-    pub d: u32,
+    pub kind: Kind,
+    pub on: bool,
+    pub name: Place,
+    pub alias: Place,
     pub next: usize,
 }
 
-// A table's name.
-fn table_record(t: &[u8], a: usize, n: usize, e: usize) -> Option<FromRecord>
-    requires { Inside t.now a n }
-    ensures { IsFromRow t.now e (table_fields (field most_bytes t.now a n ∷ [])) result }
+// The place of the n bytes at a, if they are a name.
+fn name_at(a: usize, n: usize) -> Option<Place>
+    requires { (a ≤ 65536) × (n ≤ 65536) }
+    ensures { MatchOption result (is_name n ≡ false) (λ x. (is_name n ≡ true) × (x ≡ record { address = most_bytes + a; length = n })) }
 {
     if !text::is_name(n) {
         return None;
     }
-    Some(FromRecord {
-        kind: TABLE,
-        on: 0,
-        a: text::MOST_BYTES + a as u32,
-        b: n as u32,
-        c: 0,
-        d: 0,
-        next: e,
+    Some(Place {
+        address: address(a),
+        length: n as u32,
     })
 }
 
-// A table's name and its alias.
-fn alias_record(t: &[u8], a: usize, n: usize, b: usize, m: usize, e: usize) -> Option<FromRecord>
-    requires fact_1 { Inside t.now a n }
-    requires fact_2 { Inside t.now b m }
-    ensures { IsFromRow t.now e (table_fields (field most_bytes t.now a n ∷ field most_bytes t.now b m ∷ [])) result }
+// A table by its places.
+fn table(name: Place, alias: Place, next: usize) -> FromRecord
+    ensures { result ≡ record { kind = Table; on = false; name = name; alias = alias; next = next } }
 {
-    if !text::is_name(n) {
-        return None;
+    FromRecord {
+        kind: Kind::Table,
+        on: false,
+        name,
+        alias,
+        next,
     }
-    if !text::is_name(m) {
-        return None;
+}
+
+// A table's name, and its alias where the line has one.
+fn table_record(t: &[u8], p: usize, f: Line) -> Option<FromRecord>
+    requires { (length t.now ≤ 65536) × (p ≤ length t.now) × Fields t.now p f }
+    ensures { (l c k : ℕ) → IsFromRow t.now f.next (table_fields (rest (here t.now p l c k))) result }
+{
+    match f.count {
+        2 => Some(table(name_at(f.starts[1], f.lens[1])?, NOWHERE, f.next)),
+        3 => {
+            let name = name_at(f.starts[1], f.lens[1])?;
+            let alias = name_at(f.starts[2], f.lens[2])?;
+            Some(table(name, alias, f.next))
+        }
+        _ => None,
     }
-    Some(FromRecord {
-        kind: TABLE,
-        on: 0,
-        a: text::MOST_BYTES + a as u32,
-        b: n as u32,
-        c: text::MOST_BYTES + b as u32,
-        d: m as u32,
-        next: e,
-    })
 }
 
 // A join's two words.
 fn join_record(t: &[u8], a: usize, n: usize, b: usize, m: usize, e: usize) -> Option<FromRecord>
     ensures { IsFromRow t.now e (join_fields (field most_bytes t.now a n ∷ field most_bytes t.now b m ∷ [])) result }
 {
-    let j = text::which(b"cross inner left right ", t, a, n);
-    if 4 <= j {
-        return None;
-    }
+    let kind = match text::which(b"cross inner left right ", t, a, n) {
+        0 => Kind::Cross,
+        1 => Kind::Inner,
+        2 => Kind::Left,
+        3 => Kind::Right,
+        _ => return None,
+    };
     let o = text::which(b"on bare ", t, b, m);
     if 2 <= o {
         return None;
     }
     Some(FromRecord {
-        kind: j as u32 + 2,
-        on: 1 - o as u32,
-        a: 0,
-        b: 0,
-        c: 0,
-        d: 0,
+        kind,
+        on: o == 0,
+        name: NOWHERE,
+        alias: NOWHERE,
         next: e,
     })
 }
@@ -100,13 +109,7 @@ pub fn from_record(t: &[u8], p: usize) -> Option<FromRecord>
     let n = f.count;
     let k = text::which(b"from join ", t, f.starts[0], f.lens[0]);
     if k == 0 {
-        if n == 2 {
-            return table_record(t, f.starts[1], f.lens[1], f.next);
-        }
-        if n != 3 {
-            return None;
-        }
-        return alias_record(t, f.starts[1], f.lens[1], f.starts[2], f.lens[2], f.next);
+        return table_record(t, p, f);
     }
     if k != 1 {
         return None;

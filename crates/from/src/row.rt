@@ -5,23 +5,20 @@ ghost use Rattle.from.specs.Access as access;
 
 use ast::rows::at;
 
-#[derive(Clone, Copy)]
+// The kinds of rows, by their numbers in the rows.
+#[derive(Clone, Copy, Debug, PartialEq, Eq)]
 pub enum Kind {
-    Table,
+    Table = 1,
     Cross,
     Inner,
     Left,
     Right,
 }
 
-// The first row is a table.
-pub fn kind_of(rows: &[u32], r: u32) -> Kind
-    ensures { result ≡ access.kind_at rows.now r }
+// The kind of a number; a right join where it is no other's.
+pub(crate) fn kind_by(k: u32) -> Kind
+    ensures { result ≡ access.kind_of k }
 {
-    if r == 0 {
-        return Kind::Table;
-    }
-    let k = at(rows, r as usize, 0);
     match k {
         1 => Kind::Table,
         2 => Kind::Cross,
@@ -29,6 +26,16 @@ pub fn kind_of(rows: &[u32], r: u32) -> Kind
         4 => Kind::Left,
         _ => Kind::Right,
     }
+}
+
+// The kind of a row; the first is a table.
+pub fn kind_of(rows: &[u32], r: u32) -> Kind
+    ensures { result ≡ access.kind_at rows.now r }
+{
+    if r == 0 {
+        return Kind::Table;
+    }
+    kind_by(at(rows, r as usize, 0))
 }
 
 pub fn line(rows: &[u32], r: u32) -> u32

@@ -1,9 +1,11 @@
 -- `put_row`: eight stores are one.
 use Prim.Native.Nat.{◌*◌}
 use native.Mathlib.Omega.{arith}
+use mathlib.Core.Path.{sym}
 use lib.ListN.{length-set}
 use Rattle.numbers.specs.Stores.{eight-stores}
 use Rattle.ast.specs.Table.{row_size}
+use Rattle.from.proofs.RowNumbers.{number-is}
 use Rattle.from.proofs.put_row.Goals as goal
 
 pub bounds-rows-i-2 : goal.bounds-rows-i-2
@@ -28,4 +30,4 @@ pub bounds-rows-i-8 : goal.bounds-rows-i-8
 bounds-rows-i-8 c = simp length-set (omega (arith, c.requires))
 
 pub returns : goal.returns
-returns c = eight-stores c.args.rows.now (row_size * c.args.n) c.args.kind c.args.line c.args.predicate c.args.a c.args.b c.args.c c.args.d c.args.sides
+returns c = rw (sym (number-is c.args.row.kind)) (eight-stores c.args.rows.now (row_size * c.args.n) _ _ _ _ _ _ _ _)

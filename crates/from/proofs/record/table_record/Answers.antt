@@ -1,10 +1,54 @@
--- `table_record`: a name, or none.
-use mathlib.Core.Path.{refl, sym, ◌∙◌}
-use Rattle.from.specs.Fields.{no_row, table_none, table-some}
+-- `table_record`: by the number of fields, and whether each is a name.
+use native.Mathlib.Omega.{arith}
+use mathlib.Core.Path.{refl}
+use Rattle.rules.specs.Area.{flag}
+use Rattle.text.specs.Fields.{inside-field}
+use Rattle.from.specs.Fields.{row_as, no_row, fields-one, fields-two, fields-other, table_none, table-some, alias-first, alias-second, alias-some}
 use Rattle.from.proofs.record.table_record.Goals as goal
 
-pub returns-then-not-is_name : goal.returns-then-not-is_name
-returns-then-not-is_name c = no_row (table_none _ _ _ c.requires (sym c.is_name.ensures ∙ c.if-not-is_name.true))
+pub name_at-requires : goal.name_at-requires
+name_at-requires c = let i = inside-field _ _ _ c.requires.2 1 c.requires.0 c.requires.1 (omega (arith, c.in-2.is)) in (omega (arith, i.short, i.inside), omega (arith, i.short, i.inside))
 
-pub returns : goal.returns
-returns c = table-some _ _ _ c.requires _ _ (sym c.is_name.ensures ∙ c.if-not-is_name.false) refl refl
+pub returns-in_err-name_at-in-2 : goal.returns-in_err-name_at-in-2
+returns-in_err-name_at-in-2 c = let i = inside-field _ _ _ c.requires.2 1 c.requires.0 c.requires.1 (omega (arith, c.in-2.is)) in
+    λ l d k. rw c.from_residual.ensures (row_as _ (fields-one _ _ l d k _ c.requires.2 c.in-2.is) (no_row (table_none _ _ _ i c.in_err-name_at-in-2.ensures)))
+
+pub returns-in_ok-name_at-in-2 : goal.returns-in_ok-name_at-in-2
+unfolding flag
+returns-in_ok-name_at-in-2 c =
+    let i = inside-field _ _ _ c.requires.2 1 c.requires.0 c.requires.1 (omega (arith, c.in-2.is)) in
+    let n = c.in_ok-name_at-in-2.ensures in
+    λ l d k. row_as _ (fields-one _ _ l d k _ c.requires.2 c.in-2.is)
+    (table-some _ _ _ i _ _ n.0 (rw (c.table.ensures, n.1) refl) (rw c.table.ensures refl))
+
+pub name_at-requires-in-3 : goal.name_at-requires-in-3
+name_at-requires-in-3 c = let i = inside-field _ _ _ c.requires.2 1 c.requires.0 c.requires.1 (omega (arith, c.in-3.is)) in (omega (arith, i.short, i.inside), omega (arith, i.short, i.inside))
+
+pub name_at-requires-in-3-2 : goal.name_at-requires-in-3-2
+name_at-requires-in-3-2 c = let i = inside-field _ _ _ c.requires.2 2 c.requires.0 c.requires.1 (omega (arith, c.in-3.is)) in (omega (arith, i.short, i.inside), omega (arith, i.short, i.inside))
+
+pub returns-in_err-name-in-3 : goal.returns-in_err-name-in-3
+returns-in_err-name-in-3 c =
+    let i = inside-field _ _ _ c.requires.2 1 c.requires.0 c.requires.1 (omega (arith, c.in-3.is)) in
+    let j = inside-field _ _ _ c.requires.2 2 c.requires.0 c.requires.1 (omega (arith, c.in-3.is)) in
+    λ l d k. rw c.from_residual-in_err-name-in-3.ensures (row_as _ (fields-two _ _ l d k _ c.requires.2 c.in-3.is) (no_row (alias-first _ _ _ _ _ i j c.in_err-name-in-3.ensures)))
+
+pub returns-in_err-alias-in-3 : goal.returns-in_err-alias-in-3
+returns-in_err-alias-in-3 c =
+    let i = inside-field _ _ _ c.requires.2 1 c.requires.0 c.requires.1 (omega (arith, c.in-3.is)) in
+    let j = inside-field _ _ _ c.requires.2 2 c.requires.0 c.requires.1 (omega (arith, c.in-3.is)) in
+    let n = c.in_ok-name-in-3.ensures in
+    λ l d k. rw c.from_residual-in_err-alias-in-3.ensures (row_as _ (fields-two _ _ l d k _ c.requires.2 c.in-3.is) (no_row (alias-second _ _ _ _ _ i j n.0 c.in_err-alias-in-3.ensures)))
+
+pub returns-in_ok-alias-in-3 : goal.returns-in_ok-alias-in-3
+unfolding flag
+returns-in_ok-alias-in-3 c =
+    let i = inside-field _ _ _ c.requires.2 1 c.requires.0 c.requires.1 (omega (arith, c.in-3.is)) in
+    let j = inside-field _ _ _ c.requires.2 2 c.requires.0 c.requires.1 (omega (arith, c.in-3.is)) in
+    let n = c.in_ok-name-in-3.ensures in
+    let m = c.in_ok-alias-in-3.ensures in
+    λ l d k. row_as _ (fields-two _ _ l d k _ c.requires.2 c.in-3.is)
+    (alias-some _ _ _ _ _ i j _ _ n.0 m.0 (rw (c.table-in-3.ensures, n.1, m.1) refl) (rw c.table-in-3.ensures refl))
+
+pub returns-in_default : goal.returns-in_default
+returns-in_default c = λ l d k. no_row (fields-other _ _ l d k _ c.requires.2 (omega arith) (omega arith))
