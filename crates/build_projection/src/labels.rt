@@ -6,7 +6,7 @@ ghost use Rattle.plan.specs.Layout.{cells_end};
 ghost use Rattle.scope.specs.UsedMatches.{used_matches};
 ghost use Rattle.build_projection.specs.Labels.{label_number, cell_label, ItemStands};
 
-use crate::projection::{alias_address, alias_length, item_row};
+use crate::projection::{alias_at, item_row};
 use ast::Expressions;
 use ast::row::{Kind, kind_of};
 use numbers::number;
@@ -14,7 +14,6 @@ use plan::{CELL_SIZE, HEADER_SIZE};
 use scope::expressions::label_of;
 use scope::labels::label;
 use scope::view::View;
-use text::places::Place;
 
 // The position of the column that cell n of a plan is.
 fn position(area: &[u32], n: u32) -> usize
@@ -57,12 +56,8 @@ pub fn item_label(
     ensures { result ≡ label_number exprs.now.texts.catalog.now exprs.now.texts.statement.now exprs.now.table.now parts.now
         scope.now.labels.now scope.now.matches.now scope.now.tables.now x }
 {
-    let size = alias_length(&exprs.texts, parts, x);
-    if size != 0 {
-        let alias = Place {
-            address: alias_address(parts, x),
-            length: size,
-        };
+    let alias = alias_at(&exprs.texts, parts, x);
+    if alias.length != 0 {
         return label(0, alias);
     }
     let r = item_row(parts, x);

@@ -33,28 +33,23 @@ pub fn item_row(parts: &[u32], x: u32) -> usize
     x as usize
 }
 
-// The address of its alias, and how many bytes of it there are; 0 0 for none.
-pub fn alias_address(parts: &[u32], x: u32) -> u32
-    ensures { result ≡ alias_address parts.now x }
+// The place of its alias, as many bytes of it as there are; 0 0 for none.
+pub(crate) fn alias_at(texts: &Texts, parts: &[u32], x: u32) -> Place
+    ensures { result ≡ record { address = alias_address parts.now x; length = alias_length texts.now.catalog.now texts.now.statement.now parts.now x } }
 {
     if x < STATEMENT_ROWS {
         let e = entry_at(parts, Section::Item, x);
-        return name_start(e);
-    }
-    0
-}
-
-pub fn alias_length(texts: &Texts, parts: &[u32], x: u32) -> u32
-    ensures { result ≡ alias_length texts.now.catalog.now texts.now.statement.now parts.now x }
-{
-    if x < STATEMENT_ROWS {
-        let e = entry_at(parts, Section::Item, x);
-        return texts.length_at(Place {
-            address: name_start(e),
+        let address = name_start(e);
+        let length = texts.length_at(Place {
+            address,
             length: e.length,
         });
+        return Place { address, length };
     }
-    0
+    Place {
+        address: 0,
+        length: 0,
+    }
 }
 
 // Item x: its cells from the n-th on, its part of the record behind k numbers.
@@ -75,10 +70,7 @@ fn put_item(
 {
     let row = item_row(parts, x);
     let built = build_item(exprs, row, scope, area, at.cell)?;
-    let alias = Place {
-        address: alias_address(parts, x),
-        length: alias_length(&exprs.texts, parts, x),
-    };
+    let alias = alias_at(&exprs.texts, parts, x);
     let used = item(nodes, at.used, built - 1, Some(alias));
     Ok(Part { cell: built, used })
 }

@@ -40,7 +40,7 @@ pub enum Section {
 }
 
 // What a record says: a and b are the address and the length of its name, c and d those of its reference.
-#[derive(Clone, Copy)]
+#[derive(Clone, Copy, Debug, PartialEq, Eq)]
 pub struct Head {
     pub expressions: u32,
     pub a: u32,

@@ -38,7 +38,7 @@ const FEW_OPEN: usize = 64;
 const SHORT_REST: usize = 845;
 
 // Where reading FROM stands: in the text, and how many tables and FROM rows there are so far.
-#[derive(Clone, Copy)]
+#[derive(Clone, Copy, Debug, PartialEq, Eq)]
 pub struct Froms {
     pub at: Cursor,
     pub tables: u32,

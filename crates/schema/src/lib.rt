@@ -29,13 +29,6 @@ const COLUMNS: usize = 161;
 
 const COLUMN_SIZE: usize = 8;
 
-// A name: its address and length.
-#[derive(Clone, Copy)]
-pub struct Name {
-    pub address: u32,
-    pub length: u32,
-}
-
 // The position of the table of the name at a place.
 pub fn get_table(texts: &Texts, tables: &[u32], name: Place) -> Option<u32>
     ensures { found_table texts.now.catalog.now texts.now.statement.now tables.now result ≡ table_from 0 (catalog_at texts.now.catalog.now texts.now.statement.now tables.now) (bytes_at texts.now.catalog.now texts.now.statement.now name.address name.length) }
@@ -100,12 +93,12 @@ fn column_start(tables: &[u32], i: u32, j: u32) -> usize
     COLUMNS + COLUMN_SIZE * (first + j as usize)
 }
 
-// The name of the j-th column of the i-th table, or the empty word.
-pub fn column_name(tables: &[u32], i: u32, j: u32) -> Name
+// The place of the name of the j-th column of the i-th table, or the empty word.
+pub fn column_name(tables: &[u32], i: u32, j: u32) -> Place
     ensures { (c q : Bytes) → word_at c q result.address result.length ≡ name_at c q (table_at c q tables.now i).columns j }
 {
     let k = column_start(tables, i, j);
-    Name {
+    Place {
         address: number(tables, k),
         length: number(tables, k + 1),
     }

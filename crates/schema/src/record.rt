@@ -8,7 +8,7 @@ ghost use Rattle.rules.specs.ReadCatalog.{default_records};
 ghost use Rattle.text.specs.Lines.{Fields};
 ghost use Rattle.schema.specs.Records.{Position, here, names, default_said, ColumnLine, TableLine};
 
-use crate::{Name, TABLE_SIZE, TABLES};
+use crate::{TABLE_SIZE, TABLES};
 use literal::record::literal_at;
 use numbers::literals::Literal;
 use numbers::number;
@@ -17,18 +17,18 @@ use text::Line;
 use text::places::{Place, Texts};
 
 // A column's record: its name, its type, 1 if it is nullable, and the position behind the line.
-#[derive(Clone, Copy)]
+#[derive(Clone, Copy, Debug, PartialEq, Eq)]
 pub struct ColumnRecord {
-    pub name: Name,
+    pub name: Place,
     pub datatype: u32,
     pub nullable: u32,
     pub next: usize,
 }
 
 // A table's record: its name, its key position, and the position behind the line.
-#[derive(Clone, Copy)]
+#[derive(Clone, Copy, Debug, PartialEq, Eq)]
 pub struct TableRecord {
-    pub name: Name,
+    pub name: Place,
     pub key: u32,
     pub next: usize,
 }
@@ -57,7 +57,7 @@ pub fn column_record(catalog: &[u8], at: usize, line: u32) -> Result<Option<Colu
         return Err(Reason::WrongRecord.at(line));
     }
     Ok(Some(ColumnRecord {
-        name: Name {
+        name: Place {
             address: f.starts[1] as u32,
             length: f.lens[1] as u32,
         },

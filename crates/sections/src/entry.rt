@@ -15,7 +15,7 @@ pub const OUTSIDE: usize = 9223372036854775808;
 
 // An entry's line, how many expressions it has and the row of the first, its name's address and length (0 0 where there is
 // none), what else its record says, and the address and the length (extent) of its reference.
-#[derive(Clone, Copy)]
+#[derive(Clone, Copy, Debug, PartialEq, Eq)]
 pub struct Entry {
     pub line: u32,
     pub expressions: u32,

@@ -16,7 +16,7 @@ use crate::access::Kind;
 use text::places::address;
 
 // A first record: a and b are the address and the length of its name, or 0; flag is 1 where a `drop` says yes.
-#[derive(Clone, Copy)]
+#[derive(Clone, Copy, Debug, PartialEq, Eq)]
 pub struct First {
     pub kind: Kind,
     pub a: u32,

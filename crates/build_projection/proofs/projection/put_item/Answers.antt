@@ -19,4 +19,4 @@ returns-in_err-built c = let p = err_from_is_err_and c.from_residual.result c.fr
 pub returns : goal.returns
 returns c = put-done _ _ c.item_row-row.ensures c.in_ok-built.ensures
     (c.item-used.ensures (item_of c.args.exprs.now.texts.catalog.now c.args.exprs.now.texts.statement.now c.args.exprs.now.table.now c.args.parts.now c.args.x).alias
-    (rw (c.alias_address.ensures, c.alias_length.ensures) (alias-span c.args.exprs.now.texts.catalog.now c.args.exprs.now.texts.statement.now c.args.exprs.now.table.now c.args.parts.now c.args.x)))
+    (rw c.alias_at-alias.ensures (alias-span c.args.exprs.now.texts.catalog.now c.args.exprs.now.texts.statement.now c.args.exprs.now.table.now c.args.parts.now c.args.x)))
