@@ -42,44 +42,19 @@ struct Room {
 fn room_of(kind: Section) -> Room
     ensures { (result.start ≡ start_of (number_of kind)) × (result.most ≡ most_of (number_of kind)) }
 {
-    match kind {
-        Section::Item => Room { start: 8, most: 64 },
-        Section::Where => Room {
-            start: 777,
-            most: 1,
-        },
-        Section::Group => Room {
-            start: 790,
-            most: 64,
-        },
-        Section::Having => Room {
-            start: 1559,
-            most: 1,
-        },
-        Section::Order => Room {
-            start: 1572,
-            most: 64,
-        },
-        Section::Offset => Room {
-            start: 2341,
-            most: 1,
-        },
-        Section::Limit => Room {
-            start: 2354,
-            most: 1,
-        },
-        Section::Columns => Room { start: 8, most: 1 },
-        Section::Name => Room {
-            start: 21,
-            most: 64,
-        },
-        Section::Row => Room {
-            start: 790,
-            most: 256,
-        },
-        Section::Set => Room { start: 8, most: 64 },
-        Section::Column => Room { start: 8, most: 64 },
-    }
+    let (start, most) = match kind {
+        Section::Item | Section::Set | Section::Column => (8, 64),
+        Section::Columns => (8, 1),
+        Section::Name => (21, 64),
+        Section::Where => (777, 1),
+        Section::Group => (790, 64),
+        Section::Row => (790, 256),
+        Section::Having => (1559, 1),
+        Section::Order => (1572, 64),
+        Section::Offset => (2341, 1),
+        Section::Limit => (2354, 1),
+    };
+    Room { start, most }
 }
 
 // Whether a section is a clause: one record at most.
