@@ -112,10 +112,7 @@ pub fn table_record(catalog: &[u8], tables: &[u32], n: u32, at: usize) -> Option
         return None;
     }
     Some(TableRecord {
-        name: Name {
-            address: name.address,
-            length: name.length,
-        },
+        name,
         key: k as u32,
         next: f.next,
     })
