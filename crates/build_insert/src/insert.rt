@@ -17,6 +17,7 @@ use crate::rows::build_node;
 use ast::Expressions;
 use numbers::refusals::{Reason, Refusal};
 use plan::finish::{Kind, finish};
+use plan::steps::Step;
 use schema::get_table;
 use statement::access;
 use text::places::{Place, Texts};
@@ -46,7 +47,12 @@ fn end_insert(
         length: texts.length_at(name),
     };
     let e = put_own(columns, map, nodes, k, name);
-    finish(area, nodes, Kind::Insert, m, 1, k, e);
+    let at = Step {
+        cell: m,
+        node: 1,
+        used: k,
+    };
+    finish(area, nodes, Kind::Insert, at, e);
 }
 
 // The rows and the end, of a table that is named by the bytes at a place, by its column map.

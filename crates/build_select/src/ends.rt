@@ -20,15 +20,7 @@ fn select_remap(width: u32, hidden: u32, area: &mut [u32], nodes: &mut [u32], at
         → Plans (select_remap h.select h.stage h.node) area.old area.new (Ok result) }
 {
     let remapped = build_remap(width, hidden, nodes, at);
-    finish(
-        area,
-        nodes,
-        Kind::Select,
-        remapped.cell,
-        remapped.node,
-        remapped.used,
-        remapped.used,
-    );
+    finish(area, nodes, Kind::Select, remapped, remapped.used);
     remapped.cell
 }
 

@@ -27,7 +27,9 @@ use expression::planned::of_value;
 use literal::planned::in_plan;
 use numbers::literals::Literal;
 use numbers::refusals::{Reason, Refusal};
-use plan::{finish, own};
+use plan::finish::{Kind, finish};
+use plan::own;
+use plan::steps::Step;
 use sections::entry;
 use sections::entry::Entry;
 use statement::access;
@@ -208,7 +210,12 @@ fn create_table(
         area.old area.new result }
 {
     let end = table(exprs, parts, key, nodes)?;
-    finish::finish(area, nodes, finish::Kind::Create, 0, 0, 0, end);
+    let at = Step {
+        cell: 0,
+        node: 0,
+        used: 0,
+    };
+    finish(area, nodes, Kind::Create, at, end);
     Ok(0)
 }
 

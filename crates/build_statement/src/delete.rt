@@ -15,6 +15,7 @@ use numbers::refusals::{Reason, Refusal};
 use plan::finish::{Kind, finish};
 use plan::nodes::scan;
 use plan::own;
+use plan::steps::Step;
 use schema::{get_table, key};
 use scope::Scope;
 use statement::access;
@@ -42,7 +43,12 @@ fn end_delete(
     let k = scan(nodes, 0, name, None, m);
     let key = key(tables, i);
     let e = own::delete(nodes, k, name, key);
-    finish(area, nodes, Kind::Delete, m, 1, k, e);
+    let at = Step {
+        cell: m,
+        node: 1,
+        used: k,
+    };
+    finish(area, nodes, Kind::Delete, at, e);
 }
 
 pub fn build_delete(

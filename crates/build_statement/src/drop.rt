@@ -9,6 +9,7 @@ ghost use Rattle.build_statement.specs.Kinds.{Free, name_of};
 
 use plan::finish::{Kind, finish};
 use plan::own;
+use plan::steps::Step;
 use statement::access;
 use text::places::{Place, Texts};
 
@@ -29,5 +30,10 @@ pub fn build_drop_table(texts: &Texts, parts: &[u32], area: &mut [u32], nodes: &
     };
     let exists = access::if_exists(parts);
     let e = own::drop(nodes, 0, name, exists);
-    finish(area, nodes, Kind::Drop, 0, 0, 0, e);
+    let at = Step {
+        cell: 0,
+        node: 0,
+        used: 0,
+    };
+    finish(area, nodes, Kind::Drop, at, e);
 }

@@ -19,7 +19,7 @@ use numbers::refusals::{Reason, Refusal};
 use plan::finish::{Kind, finish};
 use plan::nodes::scan;
 use plan::own;
-use plan::steps::Part;
+use plan::steps::{Part, Step};
 use schema::{get_table, key};
 use scope::Scope;
 use scope::view::View;
@@ -69,7 +69,12 @@ fn end_update(
         nodes,
         Part { cell: m, used: j },
     )?;
-    finish(area, nodes, Kind::Update, written.cell, 1, k, written.used);
+    let at = Step {
+        cell: written.cell,
+        node: 1,
+        used: k,
+    };
+    finish(area, nodes, Kind::Update, at, written.used);
     Ok(written.cell)
 }
 

@@ -7,6 +7,7 @@ ghost use Rattle.plan.specs.Layout.{plan_size, nodes_size, most_plan_cells};
 ghost use Rattle.plan.specs.Kinds.{statement_number};
 ghost use Rattle.plan.specs.Finished.{cleared, finished};
 
+use crate::steps::Step;
 use crate::{CELL_SIZE, HEADER_SIZE};
 use numbers::put_four;
 
@@ -86,14 +87,21 @@ pub fn clear(area: &mut [u32])
     clear_from(area, 0);
 }
 
-// The plan of a statement of a kind: n cells that stand in the area, m nodes whose numbers are the first k of `nodes`, and
-// behind those the own numbers up to place e.
-pub fn finish(area: &mut [u32], nodes: &[u32], kind: Kind, n: u32, m: u32, k: usize, e: usize)
-    requires { (plan_size ≤ length area.old) × (n ≤ most_plan_cells) × (k ≤ e) × (e ≤ nodes_size) × (e ≤ length nodes.now) }
-    ensures { area.new ≡ finished (statement_number kind) n m k e nodes.now area.old }
+// The plan of a statement of a kind: the cells and the nodes before a step, whose cells stand in the area, and behind the
+// nodes' numbers the own numbers up to place e.
+pub fn finish(area: &mut [u32], nodes: &[u32], kind: Kind, at: Step, e: usize)
+    requires { (plan_size ≤ length area.old) × (at.cell ≤ most_plan_cells) × (at.used ≤ e) × (e ≤ nodes_size) × (e ≤ length nodes.now) }
+    ensures { area.new ≡ finished (statement_number kind) at.cell at.node at.used e nodes.now area.old }
 {
-    let i = HEADER_SIZE + CELL_SIZE * (n as usize);
-    put_header(area, kind, n, m, (i + k) as u32, (i + e) as u32);
+    let i = HEADER_SIZE + CELL_SIZE * (at.cell as usize);
+    put_header(
+        area,
+        kind,
+        at.cell,
+        at.node,
+        (i + at.used) as u32,
+        (i + e) as u32,
+    );
     copy(area, i, nodes, e);
     clear_from(area, i + e);
 }

@@ -1,5 +1,5 @@
 // The statement's own numbers (docs/PLAN.md), behind those of its nodes. Each function answers how many numbers are in use
-// then.
+// then. Some have the same shape: one for several statements would be no plainer, as each says whose numbers it appends.
 #![tactic(auto, using(crate::proofs::Flags::byte_flag), unfolding(rules::specs::Area::own_numbers, rules::specs::Area::mapping_numbers, rules::specs::Area::set_numbers, crate::specs::Own::inserting, crate::specs::Own::updating, crate::specs::Own::creating, rules::specs::Lists::concat))]
 
 ghost use Rattle.std.specs.Prelude.{◌≡◌, [], ◌∷◌, ℕ, ◌+◌, ◌≤◌, length};
