@@ -4,9 +4,6 @@ use Rattle.text.specs.Lines.{field}
 use Rattle.literal.specs.Records.{no-literal-as, int-some, int-none, float-some, float-none, text-some, no-literal}
 use Rattle.literal.proofs.record.literal_by.Goals as goal
 
-pub returns-in-1 : goal.returns-in-1
-returns-in-1 c = rw c.in-1.is (c.flag.ensures _)
-
 pub returns-in_err-int-in-2 : goal.returns-in_err-int-in-2
 unfolding field
 returns-in_err-int-in-2 c = rw (c.in-2.is, c.from_residual.ensures) (no-literal-as _ _ (int-none _ c.in_err-int-in-2.ensures))
