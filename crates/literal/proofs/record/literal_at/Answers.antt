@@ -21,6 +21,9 @@ pub returns-then-n-ne2 : goal.returns-then-n-ne2
 unfolding bytes
 returns-then-n-ne2 c = λ x l d k b. no-literal-as _ _ (literal-not x _ _ l d k _ c.requires.fact_2 _ _ literal-words c.literal-k.ensures c.if-k-eq0.false c.if-n-ne2.true)
 
+pub literal_by-requires-clause-fact_1 : goal.literal_by-requires-clause-fact_1
+literal_by-requires-clause-fact_1 c = inside-field _ _ _ c.requires.fact_2 1 c.requires.fact_1.0 c.requires.fact_1.1 (omega arith)
+
 pub returns : goal.returns
 unfolding bytes
 returns c = λ x l d k b. literal-as (literal-field x _ _ l d k _ c.requires.fact_2 _ _ literal-words c.literal-k.ensures c.if-n-ne2.false) (rw b c.literal_by.ensures)
