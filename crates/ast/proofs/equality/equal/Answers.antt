@@ -29,6 +29,3 @@ returns-then-are_apart c = sym (roots-differ _ _ _ _ _ (roots-apart _ _ _ _ _ (a
 
 pub returns-then-i-j : goal.returns-then-i-j
 returns-then-i-j c = one-row _ _ _ _ _ c.if-i-j.true
-
-pub returns : goal.returns
-returns c = c.same_trees.ensures

@@ -1,5 +1,5 @@
 -- `value::bits::to_bits` meets its contract.
-use Rattle.std.proofs.Common.{Bool, not, T, sym, ap, ◌∙◌, subst}
+use Rattle.std.proofs.Common.{sym, ap, ◌∙◌}
 use lib.Ieee.{to_bits, binary64}
 use Rattle.value.proofs.Floats.{only_nan}
 use Rattle.value.proofs.bits.to_bits.Goals as goal
@@ -7,6 +7,3 @@ use Rattle.value.proofs.bits.to_bits.Goals as goal
 pub returns-then-is_nan : goal.returns-then-is_nan
 unfolding to_bits
 returns-then-is_nan c = ap (to_bits binary64) (only_nan c.args.x (sym c.is_nan.ensures.value ∙ c.if-is_nan.true))
-
-pub float_to_bits-result : goal.float_to_bits-result
-float_to_bits-result c = subst (λ (t : Bool). T (not t)) (sym (sym c.is_nan.ensures.value ∙ c.if-is_nan.false)) tt
