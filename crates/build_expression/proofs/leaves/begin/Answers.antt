@@ -1,13 +1,6 @@
 -- `leaves::begin`: matched or not.
-use Rattle.build_expression.specs.Leaves.{begins-matched, not-matched}
+use Rattle.build_expression.specs.Leaves.{begins-matched}
 use Rattle.build_expression.proofs.leaves.begin.Goals as goal
-
-pub unmatched-requires : goal.unmatched-requires
-unmatched-requires c = record {
-  room = c.requires;
-  unmatched = not-matched _ _ _ _ _ _ c.lookup_aggregate-matched.ensures
-      c.in-None.is;
-}
 
 pub returns-in-Some : goal.returns-in-Some
 returns-in-Some c = begins-matched _ _ _ _ _ _ _ _ _ _ _ _ c.lookup_aggregate-matched.ensures

@@ -41,9 +41,6 @@ pub returns-in_err-qualified-in-Qualified : goal.returns-in_err-qualified-in-Qua
 returns-in_err-qualified-in-Qualified c = rw (exit c.from_residual-in_err-qualified-in-Qualified.result c.from_residual-in_err-qualified-in-Qualified.ensures.1)
     (rw c.in_err-qualified-in-Qualified.was at (begins-whole _ _ _ _ _ _ _ _ _ _ _ c.qualified.ensures))
 
-pub returns-in-Call : goal.returns-in-Call
-returns-in-Call c = c.call.ensures _ _ _ _ _ c.requires.unmatched
-
 pub returns-in-Unary : goal.returns-in-Unary
 returns-in-Unary c = begins-unary _ _ _ _ _ _ _ _ _ _ c.requires.unmatched _ c.kind_of-kind.ensures _
     c.in-Unary.is c.unary_operator-operator.ensures refl
