@@ -54,9 +54,6 @@ twice_held n h l = (h.0, suc h.1, (λ t. h.2 t + h.2 t) ∙ twice h.0 h.1, h.3, 
 pub doubled_held : (n k : ℕ) → Held n → n * 2 ^ k < 2 ^ 2098 → Held (n * 2 ^ k)
 doubled_held n k h l = (h.0, h.1 + k, ap (λ (z : ℕ). z * 2 ^ k) h.2 ∙ mul_assoc h.0 (2 ^ h.1) (2 ^ k) ∙ ap (λ (z : ℕ). h.0 * z) (sym (pow-add 2 h.1 k)), h.3, l)
 
-pub doubled_self : (n : ℕ) → IsDoubled n n
-doubled_self n = (0, sym (mul-one n))
-
 pub doubled_more : (m n : ℕ) → IsDoubled m n → IsDoubled m (n + n)
 doubled_more m n d = (suc d.0, (λ t. d.1 t + d.1 t) ∙ twice m d.0)
 
