@@ -1,7 +1,7 @@
 -- The columns of visited rows, hidden one behind the other.
 use Rattle.std.specs.Prelude as std
 use Rattle.std.specs.Prelude.{ℕ, suc, ◌+◌, ◌≤◌, ◌<◌, get_or, take, drop, set, Result, Ok, Err}
-use Rattle.std.proofs.Common.{arith, ◌∙◌, drop_of_length-le, drop-cons, get_or-take, length-take-le}
+use Rattle.std.proofs.Common.{arith, ◌∙◌, drop_of_length-le, drop-cons}
 use Rattle.std.proofs.Math.Numerals.{add-one}
 use Rattle.std.proofs.Math.Path.{◌≡◌, refl, sym, ap}
 use Rattle.std.proofs.Math.Bool.{true}

@@ -62,11 +62,11 @@ first-row : {t : List ℕ} {r n : ℕ} {rows : List ℕ} → RowsFit t r n rows
     → Appended (r ∷ []) n rows (n + 1) (set rows n r)
 first-row {r = r} {n} {rows} f = appended-sets (r ∷ []) rows n (n + 1) refl (omega (arith, first_fits f))
 
-pub visiting-begin : (t : List ℕ) (r : ℕ) (rows : List ℕ) (n j k : ℕ) → RowsFit t r n rows → j ≡ kind_at t r
-    → k ≡ operands_at t r → Visiting t r (set rows n r) (n + 1) (eqb j 4) (set rows n r) k (r + 1) (n + 1)
-visiting-begin t r rows n j k f e g = record {
+pub visiting-begin : (t : List ℕ) (r : ℕ) (rows : List ℕ) (n : ℕ) {b : Bool} (k : ℕ) → RowsFit t r n rows → b ≡ eqb (kind_at t r) 4
+    → k ≡ operands_at t r → Visiting t r (set rows n r) (n + 1) b (set rows n r) k (r + 1) (n + 1)
+visiting-begin t r rows n k f e g = record {
   seen = [];
-  walking = walking-begin t r j k e g;
+  walking = rw e (walking-begin t r (kind_at t r) k refl g);
   appended = appended-none (n + 1) (set rows n r) (omega (arith, first_fits f, length-set rows n r));
   most = λ c q. rw (g, add-one r) (omega (arith, size-at c q t r));
 }

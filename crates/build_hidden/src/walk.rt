@@ -2,7 +2,8 @@
 // visited does not depend on what is hidden.
 ghost use Rattle.build_hidden.specs.Rows.{RowsFit, RowsVisited};
 
-use ast::rows::{CALL, kind, next, operands};
+use ast::row::{Kind, kind_of};
+use ast::rows::{next, operands};
 
 // The rows visited from row r on, written behind `count` others; the walk's answer. An operator's operands are walked until
 // one walk answers false, a function's arguments until one answers true.
@@ -12,7 +13,7 @@ pub fn visit_rows(table: &[u32], r: usize, rows: &mut [usize], count: &mut usize
 {
     rows[*count] = r;
     *count += 1;
-    let any = kind(table, r) == CALL;
+    let any = kind_of(table, r) == Kind::Call;
     let left = operands(table, r);
     if left == 0 {
         return !any;

@@ -44,7 +44,8 @@ pub fn div(x: i64, y: i64) -> Result<i64, Reason>
     x.checked_div(y).ok_or(Reason::IntegerOverflow)
 }
 
-// With the dividend's sign; refused where the quotient is.
+// With the dividend's sign; refused where the quotient is. Apart from `div`: what they share is one test, and a function of it
+// would take a closure.
 pub fn rem(x: i64, y: i64) -> Result<i64, Reason>
     ensures { checked result ≡ remainder x y }
 {

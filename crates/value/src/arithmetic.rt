@@ -65,6 +65,7 @@ pub fn fact(a: Value) -> Result<Value, Reason>
     on_number(a, factorial, |_| Err(Reason::WrongOperand))
 }
 
+// Apart from `power`: what they share is the test of a sign, and each has a refusal of its own.
 fn factorial(x: i64) -> Result<i64, Reason>
     ensures { checked result ≡ rule.factorial x }
 {

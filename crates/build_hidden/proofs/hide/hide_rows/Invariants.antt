@@ -1,5 +1,4 @@
 -- `hide::hide_rows`: what the rows so far hide, and the rows that are left.
-use lib.ListN.{take}
 use Rattle.build_hidden.specs.Hide.{HidingRows}
 use Rattle.build_hidden.proofs.hide.hide_rows.Given as goal
 

@@ -1,9 +1,12 @@
 -- `walk::visit_rows`: what is left of the table falls with each call; the rows so far are those of the walk up to the
 -- operands left.
 use native.Mathlib.Omega.{arith}
-use mathlib.Core.Path.{◌≡◌, ◌∙◌}
+use mathlib.Core.Path.{◌≡◌, refl, ◌∙◌}
 use Prim.Native.Nat.{◌+◌, ◌-◌}
 use Rattle.ast.specs.Operands.{operands-inside}
+use Rattle.ast.specs.Row.{number_of}
+use Rattle.ast.specs.declared.row.Kind.TheVariants as K
+use Rattle.ast.proofs.KindNumbers.{same-kinds}
 use Rattle.build_hidden.specs.Rows.{first_fits, visiting-begin, visiting-fits, visiting-kept}
 use Rattle.build_hidden.specs.Rows.{visiting-end, visiting-stop, visiting-more}
 use Rattle.build_hidden.proofs.walk.+visit_rows.Goals as goal
@@ -12,18 +15,20 @@ pub bounds-rows-count : goal.bounds-rows-count
 bounds-rows-count t c = first_fits c.requires
 
 pub returns-then-left-eq0 : goal.returns-then-left-eq0
-returns-then-left-eq0 t c = visiting-end c.requires (visiting-begin _ _ _ _ _ _ c.requires c.kind-any.ensures
-    c.operands-left.ensures) (omega arith)
+unfolding number_of
+returns-then-left-eq0 t c = visiting-end c.requires (visiting-begin _ _ _ _ _ c.requires
+    (c.eq-any.ensures ∙ same-kinds _ K.Call c.kind_of.ensures refl) c.operands-left.ensures) (omega arith)
 
 pub overflow_add-p : goal.overflow_add-p
 overflow_add-p t c = omega (arith, operands-inside _ _ (λ e. c.if-left-eq0.false (c.operands-left.ensures ∙ e)))
 
 pub loop-i-init : goal.loop-i-init
+unfolding number_of
 loop-i-init t c = (
   omega arith,
   operands-inside _ _ (λ e. c.if-left-eq0.false (c.operands-left.ensures ∙ e)),
   let z : c.operands-left.result - 0 ≡ c.operands-left.result = omega arith in
-      rw z (visiting-begin _ _ _ _ _ _ c.requires c.kind-any.ensures c.operands-left.ensures),
+      rw z (visiting-begin _ _ _ _ _ c.requires (c.eq-any.ensures ∙ same-kinds _ K.Call c.kind_of.ensures refl) c.operands-left.ensures),
 )
 
 pub visit_rows-answer-requires : goal.visit_rows-answer-requires
