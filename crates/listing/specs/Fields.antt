@@ -16,7 +16,7 @@ fields-append (x ∷ xs) ys = rw (fields-append xs ys) (ap (λ r. 9 ∷ r) (sym 
 
 -- the fields that f gives of the two texts, put by a writer, which is w' then
 pub record FieldsIn (w w' : Writer) (f : Bytes → Bytes → List Bytes) : Type 0 where
-  pub puts : Puts w w' (fields (f w.catalog.now w.statement.now))
+  pub puts : Puts w w' (fields (f w.texts.catalog.now w.texts.statement.now))
 
 -- fields that do not depend on the texts
 abbrev pub Fields : Writer → Writer → List Bytes → Type 0
@@ -33,14 +33,14 @@ field {b = b} h g = record { puts = puts-same (puts-then h g) (sym (ap (λ r. 9 
 pub fields-then : {w w₁ w₂ : Writer} {f g : Bytes → Bytes → List Bytes} → FieldsIn w w₁ f → FieldsIn w₁ w₂ g
     → FieldsIn w w₂ (λ c q. f c q ++ g c q)
 fields-then {w} {w₁} {w₂} {f} {g} h k =
-    let e : Puts w₁ w₂ (fields (g w.catalog.now w.statement.now)) =
-    puts-same k.puts (rw (h.puts.catalog, h.puts.statement) refl) in
-    record { puts = puts-same (puts-then h.puts e) (sym (fields-append (f w.catalog.now w.statement.now) _)) }
+    let e : Puts w₁ w₂ (fields (g w.texts.catalog.now w.texts.statement.now)) =
+    puts-same k.puts (rw h.puts.texts refl) in
+    record { puts = puts-same (puts-then h.puts e) (sym (fields-append (f w.texts.catalog.now w.texts.statement.now) _)) }
 
 pub fields-same : {w w' : Writer} {f g : Bytes → Bytes → List Bytes} → FieldsIn w w' f → ((c q : Bytes) → f c q ≡ g c q)
     → FieldsIn w w' g
-fields-same {w} h e = record { puts = puts-same h.puts (ap fields (e w.catalog.now w.statement.now)) }
+fields-same {w} h e = record { puts = puts-same h.puts (ap fields (e w.texts.catalog.now w.texts.statement.now)) }
 
 pub place-in : {w w' : Writer} {b : Bytes} {f : Bytes → Bytes → Bytes} → FieldsIn w w' (λ c q. b ∷ [])
-    → b ≡ f w.catalog.now w.statement.now → FieldsIn w w' (λ c q. f c q ∷ [])
+    → b ≡ f w.texts.catalog.now w.texts.statement.now → FieldsIn w w' (λ c q. f c q ∷ [])
 place-in h e = record { puts = puts-same h.puts (ap (λ b. fields (b ∷ [])) e) }

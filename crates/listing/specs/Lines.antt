@@ -20,7 +20,7 @@ lines-append (x ∷ xs) ys = rw (lines-append xs ys) (sym (append_assoc (tabbed 
 
 -- the lines that f gives of the two texts, put by a writer, which is w' then
 pub record LinesIn (w w' : Writer) (f : Bytes → Bytes → List (List Bytes)) : Type 0 where
-  pub puts : Puts w w' (show_lines (f w.catalog.now w.statement.now))
+  pub puts : Puts w w' (show_lines (f w.texts.catalog.now w.texts.statement.now))
 
 -- lines that do not depend on the texts
 abbrev pub Lines : Writer → Writer → List (List Bytes) → Type 0
@@ -35,8 +35,8 @@ pub line : {w w₁ w₂ w₃ : Writer} {b : Bytes} {f : Bytes → Bytes → List
     → Puts w₂ w₃ (10 ∷ []) → LinesIn w w₃ (λ c q. (b ∷ f c q) ∷ [])
 unfolding show_lines
 line {w} {w₁} {w₂} {w₃} {b} {f} h g k =
-    let fs : List Bytes = f w.catalog.now w.statement.now in
-    let e : Puts w₁ w₂ (fields fs) = puts-same g.puts (rw (h.catalog, h.statement) refl) in
+    let fs : List Bytes = f w.texts.catalog.now w.texts.statement.now in
+    let e : Puts w₁ w₂ (fields fs) = puts-same g.puts (rw h.texts refl) in
     record {
       puts = puts-same (puts-then h (puts-then e k)) (sym (rw (tabbed-fields b fs) (append_assoc b (fields fs) (10 ∷ []))));
     }
@@ -44,13 +44,13 @@ line {w} {w₁} {w₂} {w₃} {b} {f} h g k =
 pub lines_then : {w w₁ w₂ : Writer} {f g : Bytes → Bytes → List (List Bytes)} → LinesIn w w₁ f → LinesIn w₁ w₂ g
     → LinesIn w w₂ (λ c q. f c q ++ g c q)
 lines_then {w} {w₁} {w₂} {f} {g} h k =
-    let e : Puts w₁ w₂ (show_lines (g w.catalog.now w.statement.now)) =
-    puts-same k.puts (rw (h.puts.catalog, h.puts.statement) refl) in
-    record { puts = puts-same (puts-then h.puts e) (sym (lines-append (f w.catalog.now w.statement.now) _)) }
+    let e : Puts w₁ w₂ (show_lines (g w.texts.catalog.now w.texts.statement.now)) =
+    puts-same k.puts (rw h.puts.texts refl) in
+    record { puts = puts-same (puts-then h.puts e) (sym (lines-append (f w.texts.catalog.now w.texts.statement.now) _)) }
 
 pub lines_same : {w w' : Writer} {f g : Bytes → Bytes → List (List Bytes)} → LinesIn w w' f → ((c q : Bytes) → f c q ≡ g c q)
     → LinesIn w w' g
-lines_same {w} h e = record { puts = puts-same h.puts (ap show_lines (e w.catalog.now w.statement.now)) }
+lines_same {w} h e = record { puts = puts-same h.puts (ap show_lines (e w.texts.catalog.now w.texts.statement.now)) }
 
 -- LOOPS
 -- what f gives for 0, 1 .. below n, one behind the other

@@ -58,15 +58,13 @@ put_then {s} {s₁} {s₂} {at} {x} {r} {a} {b} h g =
 -- the bytes b put by a writer: its window and its texts stay the same ones
 pub record Puts (w w' : Writer) (b : Bytes) : Type 0 where
   pub window : w'.window.ghost_name ≡ w.window.ghost_name
-  pub catalog : w'.catalog ≡ w.catalog
-  pub statement : w'.statement ≡ w.statement
+  pub texts : w'.texts ≡ w.texts
   pub put : Put w.window.now w'.window.now w.left b w'.left
 
 pub puts-then : {w w₁ w₂ : Writer} {a b : Bytes} → Puts w w₁ a → Puts w₁ w₂ b → Puts w w₂ (a ++ b)
 puts-then h g = record {
   window = g.window ∙ h.window;
-  catalog = g.catalog ∙ h.catalog;
-  statement = g.statement ∙ h.statement;
+  texts = g.texts ∙ h.texts;
   put = put_then h.put g.put;
 }
 
@@ -74,7 +72,7 @@ pub puts-same : {w w' : Writer} {a b : Bytes} → Puts w w' a → a ≡ b → Pu
 puts-same h e = rw (← e) h
 
 pub puts-none : (w : Writer) → Puts w w []
-puts-none w = record { window = refl; catalog = refl; statement = refl; put = put-none w.window.now w.left }
+puts-none w = record { window = refl; texts = refl; put = put-none w.window.now w.left }
 
 pub puts-more : {w w' w'' : Writer} (b : Bytes) (i : ℕ) → i < length b → Puts w w' (take i b) → Puts w' w'' (get_or b i 0 ∷ [])
     → Puts w w'' (take (i + 1) b)

@@ -16,6 +16,7 @@ ghost use Rattle.listing.specs.Listed.{Told, Holds, refusal_line};
 use cells::tail;
 use numbers::number;
 use put::Writer;
+use text::places::Texts;
 
 // The bytes of a window: what is listed of a plan at once.
 pub const WINDOW: usize = 65536;
@@ -70,20 +71,13 @@ impl<'a> Writer<'a> {
 
 // The listing of an area from its byte `from` on: how many bytes of the window it has, with none behind them; or `None`,
 // where it fills the window and there may be more.
-pub fn list(
-    catalog: &[u8],
-    statement: &[u8],
-    area: &[u32],
-    from: u32,
-    out: &mut Window,
-) -> Option<usize>
-    ensures { Holds (drop from (show_area catalog.now statement.now area.now)) out.new result }
+pub fn list(texts: &Texts, area: &[u32], from: u32, out: &mut Window) -> Option<usize>
+    ensures { Holds (drop from (show_area texts.now.catalog.now texts.now.statement.now area.now)) out.new result }
 {
     let mut to = Writer {
         window: out,
         left: from as usize + WINDOW,
-        catalog,
-        statement,
+        texts: *texts,
     };
     to.area(area);
     told(to.left)
@@ -96,8 +90,10 @@ pub fn list_refusal(number: u32, text: u32, line: u32, from: u32, out: &mut Wind
     let mut to = Writer {
         window: out,
         left: from as usize + WINDOW,
-        catalog: b"",
-        statement: b"",
+        texts: Texts {
+            catalog: b"",
+            statement: b"",
+        },
     };
     to.refusal(number, text, line);
     told(to.left)

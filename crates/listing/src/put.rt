@@ -9,14 +9,13 @@ ghost use Rattle.listing.specs.Fields.{Fields, FieldsIn};
 
 use text::places::{Place, Texts};
 
-// A window, how many bytes there are from the next one to the window's end, and the two texts that addresses point into. Bytes
+// A window, how many bytes there are from the next one to the window's end, and both texts, into which addresses point. Bytes
 // before the window, and those behind it, are passed over.
 #[derive(Drop)]
 pub struct Writer<'a> {
     pub window: &'a mut [u8],
     pub left: usize,
-    pub catalog: &'a [u8],
-    pub statement: &'a [u8],
+    pub texts: Texts<'a>,
 }
 
 impl<'a> Writer<'a> {
@@ -104,10 +103,7 @@ impl<'a> Writer<'a> {
     pub fn place(&mut self, place: Place)
         ensures { FieldsIn self.old self.new (λ c q. bytes_at c q place.address place.length ∷ []) }
     {
-        let texts = Texts {
-            catalog: self.catalog,
-            statement: self.statement,
-        };
+        let texts = self.texts;
         self.field(texts.bytes_at(place));
     }
 }

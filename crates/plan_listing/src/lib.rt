@@ -7,6 +7,7 @@ ghost use Rattle.plan_listing.specs.Shown.{shown, Lists};
 
 use listing::Window;
 use planner::{LEAST_AREA, Outcome, planner_plan};
+use text::places::Texts;
 
 // The area that the planner is lent.
 pub type Area = [u32; LEAST_AREA];
@@ -15,30 +16,24 @@ pub type Area = [u32; LEAST_AREA];
 // them; or `None`, where it fills the window and there may be more. Where the outcome and the area are the planner's, it is
 // the rules' listing (specs/Shown.antt, `planned-shown`).
 pub fn list_outcome(
-    catalog: &[u8],
-    statement: &[u8],
+    texts: &Texts,
     outcome: Outcome,
     area: &[u32],
     from: u32,
     out: &mut Window,
 ) -> Option<usize>
-    ensures { Holds (drop from (shown catalog.now statement.now outcome area.now)) out.new result }
+    ensures { Holds (drop from (shown texts.now.catalog.now texts.now.statement.now outcome area.now)) out.new result }
 {
     if outcome.number == 0 {
-        return listing::list(catalog, statement, area, from, out);
+        return listing::list(texts, area, from, out);
     }
     listing::list_refusal(outcome.number, outcome.text, outcome.line, from, out)
 }
 
 // Both texts planned, and the start of their listing: whatever the texts are, and whatever the area holds.
-pub fn list_plan<'t>(
-    catalog: &'t [u8],
-    statement: &'t [u8],
-    area: &mut Area,
-    out: &mut Window,
-) -> Option<usize>
-    ensures { Lists catalog.now statement.now area.old area.new out.new result }
+pub fn list_plan(texts: &Texts, area: &mut Area, out: &mut Window) -> Option<usize>
+    ensures { Lists texts.now.catalog.now texts.now.statement.now area.old area.new out.new result }
 {
-    let outcome = planner_plan(catalog, statement, area);
-    list_outcome(catalog, statement, outcome, area, 0, out)
+    let outcome = planner_plan(texts.catalog, texts.statement, area);
+    list_outcome(texts, outcome, area, 0, out)
 }

@@ -20,40 +20,33 @@ use reader::Text;
 use std::fs::File;
 use std::io;
 use std::io::Write;
+use text::places::Texts;
 
 // Most windows that are printed: a listing of 4 GiB. No plan in an area has as much.
 const MOST_WINDOWS: u32 = 65536;
 
 // The rules' listing of both texts from its byte `from` on, as `list_outcome` answers it.
-fn list(
-    catalog: &[u8],
-    statement: &[u8],
-    outcome: Outcome,
-    area: &[u32],
-    from: u32,
-    out: &mut Window,
-) -> Option<usize>
-    requires { shown catalog.now statement.now outcome area.now ≡ listing catalog.now statement.now }
-    ensures { Holds (drop from (listing catalog.now statement.now)) out.new result }
+fn list(texts: &Texts, outcome: Outcome, area: &[u32], from: u32, out: &mut Window) -> Option<usize>
+    requires { shown texts.now.catalog.now texts.now.statement.now outcome area.now ≡ listing texts.now.catalog.now texts.now.statement.now }
+    ensures { Holds (drop from (listing texts.now.catalog.now texts.now.statement.now)) out.new result }
 {
-    list_outcome(catalog, statement, outcome, area, from, out)
+    list_outcome(texts, outcome, area, from, out)
 }
 
 // Writes a window of the listing; whether another is to follow.
 fn print_window<W: Write>(
     to: &mut W,
-    catalog: &[u8],
-    statement: &[u8],
+    texts: &Texts,
     outcome: Outcome,
     area: &[u32],
     from: u32,
 ) -> io::Result<bool>
-    requires { shown catalog.now statement.now outcome area.now ≡ listing catalog.now statement.now }
+    requires { shown texts.now.catalog.now texts.now.statement.now outcome area.now ≡ listing texts.now.catalog.now texts.now.statement.now }
     ensures { IfOk result (λ more. Appends (W.contents to.old) (W.contents to.new)
-        (window_of more (drop from (listing catalog.now statement.now)))) }
+        (window_of more (drop from (listing texts.now.catalog.now texts.now.statement.now)))) }
 {
     let mut out = [0u8; WINDOW];
-    match list(catalog, statement, outcome, area, from, &mut out) {
+    match list(texts, outcome, area, from, &mut out) {
         Some(n) => {
             to.write_all(&out[..n])?;
             Ok(false)
@@ -66,18 +59,12 @@ fn print_window<W: Write>(
 }
 
 // Writes the listing, window after window.
-fn print<W: Write>(
-    to: &mut W,
-    catalog: &[u8],
-    statement: &[u8],
-    outcome: Outcome,
-    area: &[u32],
-) -> io::Result<()>
-    requires { shown catalog.now statement.now outcome area.now ≡ listing catalog.now statement.now }
-    ensures { OnOk result (Appends (W.contents to.old) (W.contents to.new) (listing catalog.now statement.now)) }
+fn print<W: Write>(to: &mut W, texts: &Texts, outcome: Outcome, area: &[u32]) -> io::Result<()>
+    requires { shown texts.now.catalog.now texts.now.statement.now outcome area.now ≡ listing texts.now.catalog.now texts.now.statement.now }
+    ensures { OnOk result (Appends (W.contents to.old) (W.contents to.new) (listing texts.now.catalog.now texts.now.statement.now)) }
 {
     for k in 0..MOST_WINDOWS {
-        if !print_window(to, catalog, statement, outcome, area, k * 65536)? {
+        if !print_window(to, texts, outcome, area, k * 65536)? {
             return Ok(());
         }
     }
@@ -98,40 +85,30 @@ fn show_line<W: Write>(to: &mut W, text: &[u8], n: u32) -> io::Result<()>
 
 // Writes the record that a refusal points at, for whoever has to mend it.
 #[tactic(auto, unfolding(rules::specs::Entry::text_number, reader::specs::Reading::text_of))]
-fn show_record<W: Write>(
-    to: &mut W,
-    catalog: &[u8],
-    statement: &[u8],
-    outcome: Outcome,
-) -> io::Result<()>
+fn show_record<W: Write>(to: &mut W, texts: &Texts, outcome: Outcome) -> io::Result<()>
     ensures { OnOk result (Appends (W.contents to.old) (W.contents to.new)
-        (shown_record catalog.now statement.now outcome)) }
+        (shown_record texts.now.catalog.now texts.now.statement.now outcome)) }
 {
     if outcome.number == 0 {
         return Ok(());
     }
     if outcome.text == Text::Catalog.number() {
-        return show_line(to, catalog, outcome.line);
+        return show_line(to, texts.catalog, outcome.line);
     }
-    show_line(to, statement, outcome.line)
+    show_line(to, texts.statement, outcome.line)
 }
 
 // Plans both texts and writes the listing; of a refusal also the record that it points at.
-fn plan<'t, O: Write, E: Write>(
-    out: &mut O,
-    errors: &mut E,
-    catalog: &'t [u8],
-    statement: &'t [u8],
-) -> Result<()>
+fn plan<O: Write, E: Write>(out: &mut O, errors: &mut E, texts: &Texts) -> Result<()>
     ensures printed { OnOk result (Appends (O.contents out.old) (O.contents out.new)
-        (listing catalog.now statement.now)) }
+        (listing texts.now.catalog.now texts.now.statement.now)) }
     ensures shown { OnOk result (Appends (E.contents errors.old) (E.contents errors.new)
-        (fault_record catalog.now statement.now)) }
+        (fault_record texts.now.catalog.now texts.now.statement.now)) }
 {
     let mut area = [0u32; LEAST_AREA];
-    let outcome = planner_plan(catalog, statement, &mut area);
-    let printed = print(out, catalog, statement, outcome, &area);
-    let shown = show_record(errors, catalog, statement, outcome);
+    let outcome = planner_plan(texts.catalog, texts.statement, &mut area);
+    let printed = print(out, texts, outcome, &area);
+    let shown = show_record(errors, texts, outcome);
     printed.context("standard output")?;
     shown.context("standard error")?;
     Ok(())
@@ -143,10 +120,9 @@ fn main(rt: HostRuntime) -> Result<()> {
     let n = input::read_text(&mut file, &mut catalog).context("catalog.txt")?;
     let mut statement = [0u8; SIZE];
     let m = input::read_text(&mut rt.stdin(), &mut statement).context("standard input")?;
-    plan(
-        &mut rt.stdout(),
-        &mut rt.stderr(),
-        &catalog[..n],
-        &statement[..m],
-    )
+    let texts = Texts {
+        catalog: &catalog[..n],
+        statement: &statement[..m],
+    };
+    plan(&mut rt.stdout(), &mut rt.stderr(), &texts)
 }

@@ -76,8 +76,10 @@ pub fn put_texts(t: Result<Texts, TextRefusal>, out: &mut [u8; 64]) -> usize
     let mut to = Writer {
         window: out,
         left: 64,
-        catalog: b"",
-        statement: b"",
+        texts: text::places::Texts {
+            catalog: b"",
+            statement: b"",
+        },
     };
     put_line(&mut to, t);
     64 - to.left

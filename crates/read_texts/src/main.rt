@@ -15,42 +15,48 @@ use schema::read::{SMALL_NUMBERS, numbers_for};
 use statement::{CELL_NUMBERS, FROM_NUMBERS, PART_NUMBERS};
 use std::fs::File;
 use std::io::Write;
+use text::places::Texts;
 
 mod line; // line.rt: the line that is printed
 
 // The line to print of two texts, at the start of `out`; `tables` has enough numbers for the catalog.
-fn answer_with(catalog: &[u8], statement: &[u8], tables: &mut [u32], out: &mut [u8; 64]) -> usize
-    requires { numbers_for (length catalog.now) ≤ length tables.old }
-    ensures { IsPrefixLen result out.new × (take result out.new ≡ printed (read_texts catalog.now statement.now)) }
+fn answer_with(texts: &Texts, tables: &mut [u32], out: &mut [u8; 64]) -> usize
+    requires { numbers_for (length texts.now.catalog.now) ≤ length tables.old }
+    ensures { IsPrefixLen result out.new × (take result out.new ≡ printed (read_texts texts.now.catalog.now texts.now.statement.now)) }
 {
     let mut cells = [0u32; CELL_NUMBERS];
     let mut froms = [0u32; FROM_NUMBERS];
     let mut parts = [0u32; PART_NUMBERS];
     let t = reader::read_texts(
-        catalog, statement, tables, &mut cells, &mut froms, &mut parts,
+        texts.catalog,
+        texts.statement,
+        tables,
+        &mut cells,
+        &mut froms,
+        &mut parts,
     );
     line::put_texts(t, out)
 }
 
 // The line to print of two texts, at the start of `out`.
-fn answer(catalog: &[u8], statement: &[u8], out: &mut [u8; 64]) -> usize
-    ensures { IsPrefixLen result out.new × (take result out.new ≡ printed (read_texts catalog.now statement.now)) }
+fn answer(texts: &Texts, out: &mut [u8; 64]) -> usize
+    ensures { IsPrefixLen result out.new × (take result out.new ≡ printed (read_texts texts.now.catalog.now texts.now.statement.now)) }
 {
-    if numbers_for(catalog.len()) <= SMALL_NUMBERS {
+    if numbers_for(texts.catalog.len()) <= SMALL_NUMBERS {
         let mut tables = [0u32; SMALL_NUMBERS];
-        return answer_with(catalog, statement, &mut tables, out);
+        return answer_with(texts, &mut tables, out);
     }
     let mut tables = [0u32; NUMBERS];
-    answer_with(catalog, statement, &mut tables, out)
+    answer_with(texts, &mut tables, out)
 }
 
 // Writes what was read or why it is refused.
-fn print<W: Write>(to: &mut W, catalog: &[u8], statement: &[u8]) -> std::io::Result<()>
+fn print<W: Write>(to: &mut W, texts: &Texts) -> std::io::Result<()>
     ensures { OnOk result (Appends (W.contents to.old) (W.contents to.new)
-        (printed (read_texts catalog.now statement.now))) }
+        (printed (read_texts texts.now.catalog.now texts.now.statement.now))) }
 {
     let mut out = [0u8; 64];
-    let n = answer(catalog, statement, &mut out);
+    let n = answer(texts, &mut out);
     to.write_all(&out[..n])
 }
 
@@ -60,5 +66,9 @@ fn main(rt: HostRuntime) -> Result<()> {
     let n = input::read_text(&mut file, &mut catalog).context("catalog.txt")?;
     let mut statement = [0u8; SIZE];
     let m = input::read_text(&mut rt.stdin(), &mut statement).context("standard input")?;
-    print(&mut rt.stdout(), &catalog[..n], &statement[..m]).context("standard output")
+    let texts = Texts {
+        catalog: &catalog[..n],
+        statement: &statement[..m],
+    };
+    print(&mut rt.stdout(), &texts).context("standard output")
 }

@@ -17,6 +17,7 @@ use planner::LEAST_AREA;
 use std::fs::File;
 use std::io;
 use std::io::{Read, Write};
+use text::places::Texts;
 use text::{equal, part};
 
 // Room for the list, and for the byte that makes it too long.
@@ -25,13 +26,13 @@ const SIZE: usize = 1048577;
 type List = [u8; SIZE];
 
 // Whether the listing of both texts is what is expected.
-fn agrees<'t>(catalog: &'t [u8], statement: &'t [u8], expected: &[u8]) -> bool
+fn agrees(texts: &Texts, expected: &[u8]) -> bool
     requires { length expected.now < 65536 }
-    ensures { result ≡ same (listing catalog.now statement.now) expected.now }
+    ensures { result ≡ same (listing texts.now.catalog.now texts.now.statement.now) expected.now }
 {
     let mut area = [0u32; LEAST_AREA];
     let mut out = [0u8; WINDOW];
-    match list_plan(catalog, statement, &mut area, &mut out) {
+    match list_plan(texts, &mut area, &mut out) {
         Some(n) => equal(&out[..n], expected),
         None => false,
     }
@@ -54,11 +55,11 @@ fn case_at(list: &[u8], at: usize) -> Option<Case>
     }
     let statement = record.start + record.catalog;
     let answer = statement + record.statement;
-    let agrees = agrees(
-        part(list, record.start, record.catalog),
-        part(list, statement, record.statement),
-        part(list, answer, record.answer),
-    );
+    let texts = Texts {
+        catalog: part(list, record.start, record.catalog),
+        statement: part(list, statement, record.statement),
+    };
+    let agrees = agrees(&texts, part(list, answer, record.answer));
     Some(Case {
         agrees,
         next: answer + record.answer,
