@@ -26,13 +26,13 @@ use text::{Line, MOST_BYTES};
 // many arguments a call has: a number, as it stands in the table.
 #[derive(Clone, Copy, Debug, PartialEq, Eq)]
 pub struct Row {
-    pub kind: Kind,
     pub code: u32,
     pub a: u32,
     pub b: u32,
     pub c: u32,
     pub d: u32,
     pub operands: u32,
+    pub kind: Kind,
 }
 
 // A row with no place and no literal.
