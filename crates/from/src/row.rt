@@ -15,7 +15,7 @@ pub enum Kind {
     Right,
 }
 
-// The kind of a number; a right join where it is no other's.
+// The kind of a number; a right join where it is no other's, which From would not say.
 pub(crate) fn kind_by(k: u32) -> Kind
     ensures { result ≡ access.kind_of k }
 {
