@@ -40,7 +40,3 @@ fields-then {w} {w₁} {w₂} {f} {g} h k =
 pub fields-same : {w w' : Writer} {f g : Bytes → Bytes → List Bytes} → FieldsIn w w' f → ((c q : Bytes) → f c q ≡ g c q)
     → FieldsIn w w' g
 fields-same {w} h e = record { puts = puts-same h.puts (ap fields (e w.texts.catalog.now w.texts.statement.now)) }
-
-pub place-in : {w w' : Writer} {b : Bytes} {f : Bytes → Bytes → Bytes} → FieldsIn w w' (λ c q. b ∷ [])
-    → b ≡ f w.texts.catalog.now w.texts.statement.now → FieldsIn w w' (λ c q. f c q ∷ [])
-place-in h e = record { puts = puts-same h.puts (ap (λ b. fields (b ∷ [])) e) }
