@@ -78,14 +78,14 @@ pub fn arguments(table: &[u32], r: usize) -> u32
 pub fn unary_operator(table: &[u32], r: usize) -> Unary
     ensures { unary_operator result ≡ unary_at (row.operator_at table.now r) }
 {
-    Unary::of_code(at(table, r, 3)).unwrap_or(Unary::Not)
+    Unary::try_from(at(table, r, 3)).unwrap_or(Unary::Not)
 }
 
 // A binary one.
 pub fn binary_operator(table: &[u32], r: usize) -> Binary
     ensures { binary_operator result ≡ binary_at (row.operator_at table.now r) }
 {
-    Binary::of_code(at(table, r, 3)).unwrap_or(Binary::And)
+    Binary::try_from(at(table, r, 3)).unwrap_or(Binary::And)
 }
 
 pub fn literal(table: &[u32], r: usize) -> Literal

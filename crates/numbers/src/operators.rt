@@ -1,5 +1,5 @@
 // The operators of expressions. Their discriminants are document 01's codes: the kinds of their cells (docs/PLAN.md).
-ghost use Rattle.std.specs.Prelude.{◌≡◌, MatchOption};
+ghost use Rattle.std.specs.Prelude.{◌≡◌, MatchResult};
 ghost use Rattle.rules.specs.Codes.{unary_code, binary_code};
 ghost use Rattle.numbers.specs.Codes.{Apart};
 ghost use Rattle.numbers.specs.Operators.{unary_operator, binary_operator};
@@ -33,58 +33,68 @@ pub enum Binary {
     NotEqual,
 }
 
-impl Unary {
-    pub fn code(self) -> u32
-        ensures { result ≡ unary_code (unary_operator self) }
-    {
-        self as u32
-    }
+// A code that no operator of the kind has.
+#[derive(Clone, Copy, Debug, PartialEq, Eq)]
+pub struct UnknownCode;
 
-    // The operator of a code, if one has it.
-    #[tactic(auto, unfolding(crate::specs::Operators::unary_operator, rules::specs::Codes::unary_code))]
-    pub fn of_code(code: u32) -> Option<Unary>
-        ensures { MatchOption result (Apart code 8 5) (λ o. unary_code (unary_operator o) ≡ code) }
-    {
+impl From<Unary> for u32 {
+    ghost from_gives = { λ operator code. code ≡ unary_code (unary_operator operator) };
+
+    fn from(operator: Unary) -> u32 {
+        operator as u32
+    }
+}
+
+#[tactic(auto, unfolding(crate::specs::Operators::unary_operator, rules::specs::Codes::unary_code))]
+impl TryFrom<u32> for Unary {
+    type Error = UnknownCode;
+
+    ghost try_from_gives = { λ code r. MatchResult r (λ operator. unary_code (unary_operator operator) ≡ code) (λ _. Apart code 8 5) };
+
+    fn try_from(code: u32) -> Result<Unary, UnknownCode> {
         match code {
-            8 => Some(Unary::Not),
-            9 => Some(Unary::Factorial),
-            10 => Some(Unary::Identity),
-            11 => Some(Unary::Negate),
-            12 => Some(Unary::SquareRoot),
-            _ => None,
+            8 => Ok(Unary::Not),
+            9 => Ok(Unary::Factorial),
+            10 => Ok(Unary::Identity),
+            11 => Ok(Unary::Negate),
+            12 => Ok(Unary::SquareRoot),
+            _ => Err(UnknownCode),
         }
     }
 }
 
-impl Binary {
-    pub fn code(self) -> u32
-        ensures { result ≡ binary_code (binary_operator self) }
-    {
-        self as u32
-    }
+impl From<Binary> for u32 {
+    ghost from_gives = { λ operator code. code ≡ binary_code (binary_operator operator) };
 
-    // The operator of a code, if one has it.
-    #[tactic(auto, unfolding(crate::specs::Operators::binary_operator, rules::specs::Codes::binary_code, rules::specs::Codes::plain_code))]
-    pub fn of_code(code: u32) -> Option<Binary>
-        ensures { MatchOption result (Apart code 16 15) (λ o. binary_code (binary_operator o) ≡ code) }
-    {
+    fn from(operator: Binary) -> u32 {
+        operator as u32
+    }
+}
+
+#[tactic(auto, unfolding(crate::specs::Operators::binary_operator, rules::specs::Codes::binary_code, rules::specs::Codes::plain_code))]
+impl TryFrom<u32> for Binary {
+    type Error = UnknownCode;
+
+    ghost try_from_gives = { λ code r. MatchResult r (λ operator. binary_code (binary_operator operator) ≡ code) (λ _. Apart code 16 15) };
+
+    fn try_from(code: u32) -> Result<Binary, UnknownCode> {
         match code {
-            16 => Some(Binary::And),
-            17 => Some(Binary::Or),
-            18 => Some(Binary::Equal),
-            19 => Some(Binary::GreaterThan),
-            20 => Some(Binary::LessThan),
-            21 => Some(Binary::Add),
-            22 => Some(Binary::Divide),
-            23 => Some(Binary::Exponentiate),
-            24 => Some(Binary::Multiply),
-            25 => Some(Binary::Remainder),
-            26 => Some(Binary::Subtract),
-            27 => Some(Binary::Like),
-            28 => Some(Binary::GreaterThanOrEqual),
-            29 => Some(Binary::LessThanOrEqual),
-            30 => Some(Binary::NotEqual),
-            _ => None,
+            16 => Ok(Binary::And),
+            17 => Ok(Binary::Or),
+            18 => Ok(Binary::Equal),
+            19 => Ok(Binary::GreaterThan),
+            20 => Ok(Binary::LessThan),
+            21 => Ok(Binary::Add),
+            22 => Ok(Binary::Divide),
+            23 => Ok(Binary::Exponentiate),
+            24 => Ok(Binary::Multiply),
+            25 => Ok(Binary::Remainder),
+            26 => Ok(Binary::Subtract),
+            27 => Ok(Binary::Like),
+            28 => Ok(Binary::GreaterThanOrEqual),
+            29 => Ok(Binary::LessThanOrEqual),
+            30 => Ok(Binary::NotEqual),
+            _ => Err(UnknownCode),
         }
     }
 }

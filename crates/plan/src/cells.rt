@@ -76,7 +76,7 @@ pub fn unary(area: &mut [u32], n: u32, operator: Unary, x: u32)
     requires { Room n 1 area.old }
     ensures { Puts n (rules.unary (unary_operator operator) x ∷ []) area.old area.new }
 {
-    put_cell(area, n, operator.code(), x, 0, 0);
+    put_cell(area, n, u32::from(operator), x, 0, 0);
 }
 
 // A binary operator that a plan has.
@@ -85,7 +85,7 @@ fn plain(area: &mut [u32], n: u32, operator: Binary, x: u32, y: u32)
     ensures { (o : ast.Plain) → binary_operator operator ≡ ast.plain o
         → Puts n (rules.binary o x y ∷ []) area.old area.new }
 {
-    put_cell(area, n, operator.code(), x, y, 0);
+    put_cell(area, n, u32::from(operator), x, y, 0);
 }
 
 // `>=` and `<=`: a comparison, equality, and one or the other, over the same operands. Gives the next cell.

@@ -53,13 +53,13 @@ fn plain_row(kind: Kind, code: u32, operands: u32) -> Row
 fn unary(operator: Unary) -> Row
     ensures { (t : List ℕ) → RowOf t (some (unary_head (unary_operator operator))) (Some result) }
 {
-    plain_row(Kind::Unary, operator.code(), 1)
+    plain_row(Kind::Unary, u32::from(operator), 1)
 }
 
 fn binary(operator: Binary) -> Row
     ensures { (t : List ℕ) → RowOf t (some (binary_head (binary_operator operator))) (Some result) }
 {
-    plain_row(Kind::Binary, operator.code(), 2)
+    plain_row(Kind::Binary, u32::from(operator), 2)
 }
 
 // An operator by its field.

@@ -96,7 +96,7 @@ fn answered(w: Result<Value, Reason>) -> Answer
 fn unary(op: u32, a: Value) -> Result<Value, Reason>
     ensures { (c q : Bytes) → worked_of c q result ≡ unary_worked op (value_of c q a) }
 {
-    let Some(operator) = Unary::of_code(op) else {
+    let Ok(operator) = Unary::try_from(op) else {
         return Err(Reason::NotWorkedOut);
     };
     operators::unary(operator, a)
@@ -105,7 +105,7 @@ fn unary(op: u32, a: Value) -> Result<Value, Reason>
 fn binary(texts: &Texts, op: u32, a: Value, b: Value) -> Result<Value, Reason>
     ensures { worked_of texts.now.catalog.now texts.now.statement.now result ≡ binary_worked op (value_of texts.now.catalog.now texts.now.statement.now a) (value_of texts.now.catalog.now texts.now.statement.now b) }
 {
-    let Some(operator) = Binary::of_code(op) else {
+    let Ok(operator) = Binary::try_from(op) else {
         return Err(Reason::NotWorkedOut);
     };
     operators::binary(texts, operator, a, b)

@@ -10,4 +10,4 @@ unfolding worked_of reason_of
 returns-in_default c = sym (binary-fails _ _ _ c.in_default.ensures)
 
 pub returns : goal.returns
-returns c = c.binary.ensures ∙ sym (binary-worked _ _ _ _ c.in-Some.ensures)
+returns c = c.binary.ensures ∙ sym (binary-worked _ _ _ _ c.in-Ok.ensures)

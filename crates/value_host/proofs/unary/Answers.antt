@@ -10,4 +10,4 @@ unfolding worked_of reason_of
 returns-in_default c = λ t q. sym (unary-fails _ _ c.in_default.ensures)
 
 pub returns : goal.returns
-returns c = λ t q. c.unary.ensures t q ∙ sym (unary-worked _ _ _ c.in-Some.ensures)
+returns c = λ t q. c.unary.ensures t q ∙ sym (unary-worked _ _ _ c.in-Ok.ensures)

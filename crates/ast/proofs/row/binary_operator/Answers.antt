@@ -6,4 +6,4 @@ use Rattle.ast.proofs.Operators.{binary-read}
 use Rattle.ast.proofs.row.binary_operator.Goals as goal
 
 pub returns : goal.returns
-returns c = ap binary_operator c.unwrap_or.ensures ∙ binary-read _ _ c.of_code.ensures ∙ ap binary_at c.at.ensures
+returns c = ap binary_operator c.unwrap_or.ensures ∙ binary-read _ _ c.try_from.ensures ∙ ap binary_at c.at.ensures

@@ -6,4 +6,4 @@ use Rattle.ast.proofs.Operators.{unary-read}
 use Rattle.ast.proofs.row.unary_operator.Goals as goal
 
 pub returns : goal.returns
-returns c = ap unary_operator c.unwrap_or.ensures ∙ unary-read _ _ c.of_code.ensures ∙ ap unary_at c.at.ensures
+returns c = ap unary_operator c.unwrap_or.ensures ∙ unary-read _ _ c.try_from.ensures ∙ ap unary_at c.at.ensures

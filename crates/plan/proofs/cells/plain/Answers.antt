@@ -7,4 +7,4 @@ use Rattle.plan.proofs.cells.plain.Goals as goal
 
 pub returns : goal.returns
 unfolding binary_code
-returns c = λ o e. c.put_cell.ensures (binary o _ _) (plain-numbers o _ _ _ (c.code.ensures ∙ ap binary_code e))
+returns c = λ o e. c.put_cell.ensures (binary o _ _) (plain-numbers o _ _ _ (c.from.ensures ∙ ap binary_code e))

@@ -4,4 +4,4 @@ use Rattle.plan.specs.Cells.{unary-numbers}
 use Rattle.plan.proofs.cells.unary.Goals as goal
 
 pub returns : goal.returns
-returns c = c.put_cell.ensures (unary _ _) (unary-numbers _ _ _ c.code.ensures)
+returns c = c.put_cell.ensures (unary _ _) (unary-numbers _ _ _ c.from.ensures)

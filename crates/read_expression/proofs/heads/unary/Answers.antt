@@ -6,4 +6,4 @@ use Rattle.read_expression.proofs.heads.unary.Goals as goal
 
 pub returns : goal.returns
 unfolding number_of
-returns c = λ t. row-of-plain t _ _ _ _ _ (unary-plainly (unary_operator c.args.operator)) (rw c.code.ensures at c.plain_row.ensures)
+returns c = λ t. row-of-plain t _ _ _ _ _ (unary-plainly (unary_operator c.args.operator)) (rw c.from.ensures at c.plain_row.ensures)

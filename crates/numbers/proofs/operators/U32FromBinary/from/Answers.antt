@@ -1,4 +1,4 @@
--- `Binary::code`: an operator's place in the order, from 16, is its code.
+-- `From<Binary> for u32`: an operator's place in the order, from 16, is its code.
 use Rattle.std.specs.Prelude.{◌≡◌, ◌+◌}
 use Rattle.std.proofs.Math.Path.{refl}
 use denote.Enum.Declared.{tag_of}
@@ -7,7 +7,7 @@ use Rattle.numbers.specs.Operators.{binary_operator}
 use Rattle.numbers.specs.contracts.operators.Binary.{the_type}
 use Rattle.numbers.specs.declared.operators.Binary.{Binary}
 use Rattle.numbers.specs.declared.operators.Binary.TheVariants as B
-use Rattle.numbers.proofs.operators.Binary.code.Goals as goal
+use Rattle.numbers.proofs.operators.U32FromBinary.from.Goals as goal
 
 code-is : (o : Binary) → tag_of the_type o + 16 ≡ binary_code (binary_operator o)
 unfolding binary_operator binary_code plain_code
@@ -28,4 +28,4 @@ code-is B.LessThanOrEqual = refl
 code-is B.NotEqual = refl
 
 pub returns : goal.returns
-returns c = code-is c.args.self
+returns c = code-is c.args.operator
