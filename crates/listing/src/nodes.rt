@@ -92,7 +92,7 @@ impl<'a> Writer<'a> {
     fn node_rest(&mut self, k: u32, s: &[u32])
         ensures { FieldsIn self.old self.new (λ c q. node_rest c q k s.now) }
     {
-        let Some(kind) = Kind::from_number(k) else {
+        let Ok(kind) = Kind::try_from(k) else {
             return;
         };
         match kind {

@@ -153,7 +153,7 @@ impl<'a> Writer<'a> {
     pub fn own(&mut self, k: u32, n: u32, s: &[u32])
         ensures { LinesIn self.old self.new (λ c q. own_lines c q k n s.now) }
     {
-        let Some(kind) = Kind::from_number(k) else {
+        let Ok(kind) = Kind::try_from(k) else {
             return;
         };
         match kind {

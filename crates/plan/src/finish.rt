@@ -1,12 +1,14 @@
 // The end of a plan: the header, the nodes and the statement's own numbers behind the cells, and zeros behind all.
-ghost use Rattle.std.specs.Prelude.{◌≡◌, [], ◌∷◌, ◌+◌, ◌≤◌, length, replicate, Some, None};
+ghost use Rattle.std.specs.Prelude.{◌≡◌, [], ◌∷◌, ◌+◌, ◌≤◌, length, replicate, MatchResult, Some, None};
 ghost use Rattle.std.proofs.lemmas.List.Edits.{sets};
 ghost use Rattle.std.proofs.Math.Seq.{paste};
 ghost use Rattle.rules.specs.Area.{layout, header_size};
 ghost use Rattle.plan.specs.Layout.{plan_size, nodes_size, most_plan_cells};
 ghost use Rattle.plan.specs.Kinds.{statement_number};
+ghost use Rattle.plan.specs.declared.finish.Kind.{Kind};
 ghost use Rattle.plan.specs.Finished.{cleared, finished};
 
+use crate::nodes::UnknownKind;
 use crate::steps::Step;
 use crate::{CELL_SIZE, HEADER_SIZE};
 use numbers::put_four;
@@ -22,26 +24,28 @@ pub enum Kind {
     Update,
 }
 
-impl Kind {
-    pub fn number(self) -> u32
-        ensures { result ≡ statement_number self }
-    {
-        self as u32
-    }
+impl From<Kind> for u32 {
+    ghost from_gives = { λ kind number. number ≡ statement_number kind };
 
-    // The kind that a number stands for.
-    pub fn from_number(number: u32) -> Option<Kind>
-        ensures kind { (kind : Kind) → result ≡ Some kind → number ≡ statement_number kind }
-        ensures none { result ≡ None → (kind : Kind) → number ≡ statement_number kind → ⊥ }
-    {
+    fn from(kind: Kind) -> u32 {
+        kind as u32
+    }
+}
+
+impl TryFrom<u32> for Kind {
+    type Error = UnknownKind;
+
+    ghost try_from_gives = { λ number r. MatchResult r (λ kind. number ≡ statement_number kind) (λ _. (kind : Kind) → number ≡ statement_number kind → ⊥) };
+
+    fn try_from(number: u32) -> Result<Kind, UnknownKind> {
         match number {
-            1 => Some(Kind::Select),
-            2 => Some(Kind::Create),
-            3 => Some(Kind::Drop),
-            4 => Some(Kind::Delete),
-            5 => Some(Kind::Insert),
-            6 => Some(Kind::Update),
-            _ => None,
+            1 => Ok(Kind::Select),
+            2 => Ok(Kind::Create),
+            3 => Ok(Kind::Drop),
+            4 => Ok(Kind::Delete),
+            5 => Ok(Kind::Insert),
+            6 => Ok(Kind::Update),
+            _ => Err(UnknownKind),
         }
     }
 }
@@ -59,7 +63,7 @@ fn put_header(area: &mut [u32], kind: Kind, cells: u32, nodes: u32, own: u32, al
     requires { header_size ≤ length area.old }
     ensures { area.new ≡ sets area.old 0 (layout ∷ statement_number kind ∷ cells ∷ nodes ∷ own ∷ all ∷ []) }
 {
-    put_four(area, 0, LAYOUT, kind.number(), cells, nodes);
+    put_four(area, 0, LAYOUT, u32::from(kind), cells, nodes);
     area[OWN_PLACE] = own;
     area[ALL_PLACE] = all;
 }

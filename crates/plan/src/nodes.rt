@@ -2,7 +2,7 @@
 // be missing stands as one more than it, or 0. Each function that appends answers how many numbers are in use then.
 #![tactic(auto, using(crate::proofs::Flags::byte_flag), unfolding(rules::specs::Area::record_numbers, rules::specs::Area::sized, rules::specs::Area::row_numbers, rules::specs::Area::halves, crate::specs::Records::rows_numbers))]
 
-ghost use Rattle.std.specs.Prelude.{◌≡◌, [], ◌∷◌, ℕ, ◌+◌, ◌≤◌, length, Some, None};
+ghost use Rattle.std.specs.Prelude.{◌≡◌, [], ◌∷◌, ℕ, ◌+◌, ◌≤◌, length, MatchResult, Some, None};
 ghost use Rattle.std.proofs.Math.Option.{Option};
 ghost use Rattle.rules.specs.Lines.{Word};
 ghost use Rattle.rules.specs.Schema.{Table};
@@ -11,6 +11,7 @@ ghost use Rattle.rules.specs.Area.{span, option_span, option_number, record_numb
 ghost use Rattle.plan.specs.Layout.{record_head, scan_size, empty_row_size, join_size, filter_size, rows_size};
 ghost use Rattle.plan.specs.Appended.{Appended};
 ghost use Rattle.plan.specs.Kinds.{node_number};
+ghost use Rattle.plan.specs.declared.nodes.Kind.{Kind};
 ghost use Rattle.plan.specs.Places.{place_numbers, option_place};
 ghost use Rattle.plan.specs.Records.{rows_numbers};
 
@@ -32,30 +33,36 @@ pub enum Kind {
     Remap,
 }
 
-impl Kind {
-    pub fn number(self) -> u32
-        ensures { result ≡ node_number self }
-    {
-        self as u32
-    }
+// A number that no kind has.
+#[derive(Clone, Copy, Debug, PartialEq, Eq)]
+pub struct UnknownKind;
 
-    // The kind that a number stands for.
-    pub fn from_number(number: u32) -> Option<Kind>
-        ensures kind { (kind : Kind) → result ≡ Some kind → number ≡ node_number kind }
-        ensures none { result ≡ None → (kind : Kind) → number ≡ node_number kind → ⊥ }
-    {
+impl From<Kind> for u32 {
+    ghost from_gives = { λ kind number. number ≡ node_number kind };
+
+    fn from(kind: Kind) -> u32 {
+        kind as u32
+    }
+}
+
+impl TryFrom<u32> for Kind {
+    type Error = UnknownKind;
+
+    ghost try_from_gives = { λ number r. MatchResult r (λ kind. number ≡ node_number kind) (λ _. (kind : Kind) → number ≡ node_number kind → ⊥) };
+
+    fn try_from(number: u32) -> Result<Kind, UnknownKind> {
         match number {
-            1 => Some(Kind::Scan),
-            2 => Some(Kind::Values),
-            3 => Some(Kind::Join),
-            4 => Some(Kind::Filter),
-            5 => Some(Kind::Aggregate),
-            6 => Some(Kind::Project),
-            7 => Some(Kind::Order),
-            8 => Some(Kind::Offset),
-            9 => Some(Kind::Limit),
-            10 => Some(Kind::Remap),
-            _ => None,
+            1 => Ok(Kind::Scan),
+            2 => Ok(Kind::Values),
+            3 => Ok(Kind::Join),
+            4 => Ok(Kind::Filter),
+            5 => Ok(Kind::Aggregate),
+            6 => Ok(Kind::Project),
+            7 => Ok(Kind::Order),
+            8 => Ok(Kind::Offset),
+            9 => Ok(Kind::Limit),
+            10 => Ok(Kind::Remap),
+            _ => Err(UnknownKind),
         }
     }
 }
@@ -79,7 +86,7 @@ pub fn head(nodes: &mut [u32], k: usize, kind: Kind, count: u32) -> usize
     requires { k + record_head ≤ length nodes.old }
     ensures { Appended (node_number kind ∷ count ∷ []) k nodes.old result nodes.new }
 {
-    pair(nodes, k, kind.number(), count)
+    pair(nodes, k, u32::from(kind), count)
 }
 
 // The rows of a table by its name; its alias; its filter's root.
