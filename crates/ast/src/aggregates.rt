@@ -17,12 +17,12 @@ pub enum Aggregate {
     Sum,
 }
 
-impl Aggregate {
-    // Its number in the plan (docs/PLAN.md).
-    pub fn code(self) -> u32
-        ensures { result ≡ aggregate_code (aggregate_of self) }
-    {
-        self as u32
+// An aggregate's number in the plan (docs/PLAN.md).
+impl From<Aggregate> for u32 {
+    ghost from_gives = { λ aggregate code. code ≡ aggregate_code (aggregate_of aggregate) };
+
+    fn from(aggregate: Aggregate) -> u32 {
+        aggregate as u32
     }
 }
 

@@ -66,7 +66,7 @@ fn add_function(
         });
     };
     let m = build_function(exprs, r, scope, aggregate, area, at.cell)?;
-    function(nodes, at.used, aggregate.code(), m - 1);
+    function(nodes, at.used, u32::from(aggregate), m - 1);
     Ok(m)
 }
 

@@ -26,4 +26,4 @@ overflow_sub-m c = omega (
 )
 
 pub returns : goal.returns
-returns c = function-added c.build_function.ensures _ _ _ _ _ (calls _ _ _ _ _ _ c.called.ensures c.in-Some.is) c.in_ok-m.was (sym c.code.ensures) c.function.ensures
+returns c = function-added c.build_function.ensures _ _ _ _ _ (calls _ _ _ _ _ _ c.called.ensures c.in-Some.is) c.in_ok-m.was (sym c.from.ensures) c.function.ensures

@@ -1,4 +1,4 @@
--- `Aggregate::code`: an aggregate's place in the order, from 1, is its code.
+-- `From<Aggregate> for u32`: an aggregate's place in the order, from 1, is its code.
 use Rattle.std.specs.Prelude.{◌≡◌, ◌+◌}
 use Rattle.std.proofs.Math.Path.{refl}
 use denote.Enum.Declared.{tag_of}
@@ -7,7 +7,7 @@ use Rattle.ast.specs.Aggregates.{aggregate_of}
 use Rattle.ast.specs.contracts.aggregates.Aggregate.{the_type}
 use Rattle.ast.specs.declared.aggregates.Aggregate.{Aggregate}
 use Rattle.ast.specs.declared.aggregates.Aggregate.TheVariants.{Avg, Count, Max, Min, Sum}
-use Rattle.ast.proofs.aggregates.Aggregate.code.Goals as goal
+use Rattle.ast.proofs.aggregates.U32FromAggregate.from.Goals as goal
 
 code-is : (a : Aggregate) → tag_of the_type a + 1 ≡ aggregate_code (aggregate_of a)
 unfolding aggregate_code aggregate_of
@@ -18,4 +18,4 @@ code-is Min = refl
 code-is Sum = refl
 
 pub returns : goal.returns
-returns c = code-is c.args.self
+returns c = code-is c.args.aggregate
