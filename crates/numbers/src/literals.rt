@@ -26,7 +26,7 @@ impl LiteralKind {
         self as u32
     }
 
-    // The kind of a number; a null's where it is none's.
+    // The kind of a number; a null's where it is none's, which From would not say.
     #[tactic(auto, unfolding(crate::specs::Literals::kind_at, crate::specs::Codes::coded))]
     pub fn of_number(n: u32) -> LiteralKind
         ensures { result ≡ kind_at n }
