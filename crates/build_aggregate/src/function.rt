@@ -1,5 +1,5 @@
 // One aggregate function and its argument (planner.rs, build_aggregate_function).
-ghost use Rattle.std.specs.Prelude.{◌≡◌, ◌*◌, take};
+ghost use Rattle.std.specs.Prelude.{◌≡◌, ◌*◌};
 ghost use Rattle.rules.specs.Lists.{Bytes};
 ghost use Rattle.rules.specs.Ast.{size};
 ghost use Rattle.ast.specs.Table.{tree_at};

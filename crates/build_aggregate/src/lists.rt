@@ -1,6 +1,6 @@
 // The groups and the functions of an aggregate node, by the rows of their expressions: cells in the area, and numbers in
 // the node's record.
-ghost use Rattle.std.specs.Prelude.{◌+◌, ◌*◌, ◌≤◌, length, take};
+ghost use Rattle.std.specs.Prelude.{◌+◌, ◌*◌, ◌≤◌, length};
 ghost use Rattle.rules.specs.Ast.{size};
 ghost use Rattle.rules.specs.Sizes.{total};
 ghost use Rattle.ast.specs.Expressions.{tree_in};
@@ -103,7 +103,8 @@ pub fn build_groups(
     Ok(m)
 }
 
-// The functions at the rows.
+// The functions at the rows. (A loop of its own: one over a closure would take both slices and a contract of its own for four
+// lines.)
 pub fn build_functions(
     exprs: &Expressions,
     rows: &[usize],

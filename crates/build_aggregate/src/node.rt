@@ -1,5 +1,5 @@
 // The aggregate node (planner.rs, build_aggregate): groups, then functions, and the limit only when all of them are built.
-ghost use Rattle.std.specs.Prelude.{◌≡◌, ◌+◌, ◌*◌, ◌≤◌, ◌<◌, ◌++◌, length, get_or, take};
+ghost use Rattle.std.specs.Prelude.{◌≡◌, ◌+◌, ◌*◌, ◌≤◌, ◌<◌, ◌++◌, length, get_or};
 ghost use Rattle.rules.specs.Ast.{size};
 ghost use Rattle.rules.specs.Sizes.{total};
 ghost use Rattle.ast.specs.Expressions.{tree_in};

@@ -1,5 +1,5 @@
 // WHERE and HAVING: a filter behind the node before it.
-ghost use Rattle.std.specs.Prelude.{◌*◌, take};
+ghost use Rattle.std.specs.Prelude.{◌*◌};
 ghost use Rattle.rules.specs.Ast.{size};
 ghost use Rattle.rules.specs.Sizes.{clause_size};
 ghost use Rattle.ast.specs.Expressions.{tree_in};
@@ -62,7 +62,7 @@ pub fn build_where(
     build_filter(exprs, clause.row, scope, area, nodes, at)
 }
 
-// HAVING, which wants a group or an aggregate.
+// HAVING, which wants a group or an aggregate. (Not one function with WHERE: what it asks first stands between the same two lines.)
 pub fn build_having(
     exprs: &Expressions,
     clause: Option<Clause>,

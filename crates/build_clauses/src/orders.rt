@@ -1,5 +1,5 @@
 // ORDER: the cells of its keys, and an order behind the node before it.
-ghost use Rattle.std.specs.Prelude.{◌≡◌, ◌+◌, ◌*◌, ◌≤◌, length, take};
+ghost use Rattle.std.specs.Prelude.{◌≡◌, ◌+◌, ◌*◌, ◌≤◌, length};
 ghost use Rattle.rules.specs.Ast.{size};
 ghost use Rattle.rules.specs.Sizes.{keys_size};
 ghost use Rattle.ast.specs.Table.{table_size};

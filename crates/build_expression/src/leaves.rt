@@ -1,5 +1,5 @@
 // What is built of a record before its operands: a match, a column, a literal, or a refusal.
-ghost use Rattle.std.specs.Prelude.{◌≡◌, List, ℕ, take, Ok};
+ghost use Rattle.std.specs.Prelude.{◌≡◌, List, ℕ, Ok};
 ghost use Rattle.rules.specs.Ast as ast;
 ghost use Rattle.rules.specs.Scope as rules;
 ghost use Rattle.ast.specs.Operands.{kind_at};

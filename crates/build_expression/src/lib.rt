@@ -5,7 +5,7 @@ mod leaves; // leaves.rt: what is built of a record before its operands
 mod operators; // operators.rt: what is appended behind them
 pub mod position; // position.rt: a column that was looked up
 
-ghost use Rattle.std.specs.Prelude.{◌*◌, take};
+ghost use Rattle.std.specs.Prelude.{◌*◌};
 ghost use Rattle.rules.specs.Ast.{size};
 ghost use Rattle.ast.specs.Expressions.{tree_in};
 ghost use Rattle.plan.specs.Cells.{Room};

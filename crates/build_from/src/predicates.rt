@@ -1,5 +1,5 @@
 // A join's predicate, built over the scope of both sides.
-ghost use Rattle.std.specs.Prelude.{ℕ, ◌*◌, take};
+ghost use Rattle.std.specs.Prelude.{ℕ, ◌*◌};
 ghost use Rattle.rules.specs.Sizes.{option_size};
 ghost use Rattle.plan.specs.Cells.{Room};
 ghost use Rattle.build_expression.specs.Builds.{scope_at};

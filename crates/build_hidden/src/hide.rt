@@ -1,5 +1,4 @@
 // The columns that visited rows call for, passed on hidden behind the child's own.
-ghost use Rattle.std.specs.Prelude.{take};
 ghost use Rattle.build_hidden.specs.Terms.{Passable};
 ghost use Rattle.build_hidden.specs.Hide.{RowsHidden};
 

@@ -1,6 +1,6 @@
 // The column that a visited record calls for (planner.rs, build_select_hidden): the parent has it, by a match or else by
 // a name, and the child lacks it.
-ghost use Rattle.std.specs.Prelude.{◌≡◌, take};
+ghost use Rattle.std.specs.Prelude.{◌≡◌};
 ghost use Rattle.rules.specs.Places.{word_at};
 ghost use Rattle.rules.specs.Scope.{match_at};
 ghost use Rattle.rules.specs.Hidden as hidden;

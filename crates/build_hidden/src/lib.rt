@@ -6,7 +6,6 @@ mod later; // later.rt: those of HAVING and ORDER BY
 mod lacking; // lacking.rt: the column that a row calls for
 mod hide; // hide.rt: the columns of all rows
 
-ghost use Rattle.std.specs.Prelude.{take};
 ghost use Rattle.build_hidden.specs.Terms.{Hideable, HiddenBuilt};
 
 use ast::Expressions;

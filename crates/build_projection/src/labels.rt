@@ -1,5 +1,5 @@
 // The labels of a projection's items (planner.rs, Scope::project).
-ghost use Rattle.std.specs.Prelude.{◌≡◌, ◌+◌, get_or, take};
+ghost use Rattle.std.specs.Prelude.{◌≡◌, ◌+◌, get_or};
 ghost use Rattle.rules.specs.Lists.{Bytes};
 ghost use Rattle.ast.specs.Table.{tree_at};
 ghost use Rattle.plan.specs.Layout.{cells_end};

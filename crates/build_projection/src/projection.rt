@@ -1,5 +1,5 @@
 // The items of a projection: their cells, and their parts of its node record (planner.rs, build_select).
-ghost use Rattle.std.specs.Prelude.{◌≡◌, ◌+◌, ◌*◌, ◌≤◌, length, take};
+ghost use Rattle.std.specs.Prelude.{◌≡◌, ◌+◌, ◌*◌, ◌≤◌, length};
 ghost use Rattle.rules.specs.Limits.{most_columns};
 ghost use Rattle.rules.specs.Ast.{size};
 ghost use Rattle.plan.specs.Cells.{Room};

@@ -1,12 +1,9 @@
 // The items of a SELECT over FROM's scope, and WHERE.
-ghost use Rattle.std.specs.Prelude.{◌≡◌, map, length, take};
-ghost use Rattle.rules.specs.Limits.{most_columns};
-ghost use Rattle.ast.specs.Table.{table_size};
+ghost use Rattle.std.specs.Prelude.{◌≡◌, map, take};
 ghost use Rattle.appends.specs.Select.Stages.{select_items, select_where};
 ghost use Rattle.statement.specs.Access.{select_at};
 ghost use Rattle.build_statement.specs.Plans.{Plans};
 ghost use Rattle.build_projection.specs.Items.{item_of};
-ghost use Rattle.build_projection.specs.Terms.{ItemsBuilt};
 ghost use Rattle.build_select.specs.States.{FromState, ItemsState};
 
 use super::groups::select_groups;

@@ -1,5 +1,5 @@
 // A WHERE that may be missing, over a scope whose arrays are lent.
-ghost use Rattle.std.specs.Prelude.{◌*◌, take};
+ghost use Rattle.std.specs.Prelude.{◌*◌};
 ghost use Rattle.rules.specs.Sizes.{clause_size};
 ghost use Rattle.statement.specs.EntryAccess.{clause_of};
 ghost use Rattle.plan.specs.Cells.{Room};

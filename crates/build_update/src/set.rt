@@ -1,5 +1,5 @@
 // What a column is set to: the set's expression, or the column's default.
-ghost use Rattle.std.specs.Prelude.{◌+◌, ◌*◌, take};
+ghost use Rattle.std.specs.Prelude.{◌+◌, ◌*◌};
 ghost use Rattle.rules.specs.Schema.{default_at};
 ghost use Rattle.rules.specs.Sizes.{option_size};
 ghost use Rattle.schema.specs.Layout.{table_at};

@@ -1,6 +1,6 @@
 // The sets of an UPDATE in order: the cells of what each column is set to, and its position and root among the numbers of
 // the nodes.
-ghost use Rattle.std.specs.Prelude.{[], ◌∷◌, ℕ, ◌+◌, ◌*◌, ◌≤◌, length, take};
+ghost use Rattle.std.specs.Prelude.{[], ◌∷◌, ℕ, ◌+◌, ◌*◌, ◌≤◌, length};
 ghost use Rattle.rules.specs.Sizes.{option_size, sets_size};
 ghost use Rattle.rules.specs.BuildStatement.{set_built};
 ghost use Rattle.appends.specs.Lists.Kinds.{emit_seconds};

@@ -1,5 +1,5 @@
 // UPDATE: one scan with its filter, then what the columns are set to.
-ghost use Rattle.std.specs.Prelude.{ℕ, take};
+ghost use Rattle.std.specs.Prelude.{ℕ};
 ghost use Rattle.rules.specs.Ast as ast;
 ghost use Rattle.rules.specs.BuildStatement.{set_built, build_update};
 ghost use Rattle.appends.specs.Lists.Kinds.{emit_seconds};

@@ -1,5 +1,5 @@
 // The record of a literal, in the catalog or the statement.
-ghost use Rattle.std.specs.Prelude.{◌≡◌, ℕ, ◌/◌, ◌%◌, ◌^◌, ◌≤◌, List, length};
+ghost use Rattle.std.specs.Prelude.{◌≡◌, ℕ, ◌/◌, ◌%◌, ◌^◌, ◌≤◌, length};
 ghost use Rattle.rules.specs.Limits.{most_bytes};
 ghost use Rattle.rules.specs.Refusals.{Text};
 ghost use Rattle.rules.specs.Reader.{base_address, line_here, one_of, literals};

@@ -12,15 +12,15 @@ use Rattle.reader.specs.Reading.{TextsRead}
 use Rattle.reader.specs.Within.{texts-accepted, texts-refused, select-stays}
 use Rattle.numbers.specs.Reasons.{reason_of}
 use Rattle.reader.specs.Reading.{text_of}
-use Rattle.reader.specs.declared.Texts.{Texts}
+use Rattle.reader.specs.declared.Contents.{Contents}
 use Rattle.reader.specs.declared.TextRefusal.{TextRefusal}
 use Rattle.planner.specs.Outcomes.{built_of, reading-refused, reading-built, Answers, Refused, refused-answer}
 use Rattle.planner.specs.Kinds.{StatementReady}
 use Rattle.planner.specs.declared.Outcome.{Outcome}
 
-module _ {c q : Bytes} {tables cells froms parts : List ℕ} {x : Result Texts TextRefusal}
+module _ {c q : Bytes} {tables cells froms parts : List ℕ} {x : Result Contents TextRefusal}
     (h : TextsRead c q tables cells froms parts x) where
-  pub statement-ready : (t : Texts) → x ≡ Ok t → StatementReady c q tables cells froms parts
+  pub statement-ready : (t : Contents) → x ≡ Ok t → StatementReady c q tables cells froms parts
   statement-ready t e =
       let g : TextsRead c q tables cells froms parts (Ok t) = rw e at h in
       record {
@@ -28,7 +28,7 @@ module _ {c q : Bytes} {tables cells froms parts : List ℕ} {x : Result Texts T
         stay = λ z. select-stays g z;
       }
 
-  pub statement-answer : (t : Texts) (area : List ℕ) {area' : List ℕ} {r : Outcome} → x ≡ Ok t
+  pub statement-answer : (t : Contents) (area : List ℕ) {area' : List ℕ} {r : Outcome} → x ≡ Ok t
       → Answers (outcome area (build_statement (catalog_at c q tables) (statement_at c q cells froms parts))) r area'
       → Answers (outcome area (built_of c q)) r area'
   statement-answer t area {area'} {r} e a =

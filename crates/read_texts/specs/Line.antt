@@ -14,7 +14,7 @@ use Rattle.statement.specs.declared.access.Kind.{Kind}
 use Rattle.statement.specs.declared.access.Kind.TheVariants as K
 use Rattle.reader.specs.declared.Text as Tx
 use Rattle.reader.specs.declared.Text.TheVariants as T
-use Rattle.reader.specs.declared.Texts.{Texts}
+use Rattle.reader.specs.declared.Contents.{Contents}
 use Rattle.reader.specs.declared.TextRefusal.{TextRefusal}
 
 unfoldable pub kind_name : Statement → Bytes
@@ -45,11 +45,11 @@ unfoldable pub text_word : Tx.Text → Bytes
 text_word T.Catalog = bytes "catalog"
 text_word T.Statement = bytes "statement"
 
-unfoldable pub fields_of : Result Texts TextRefusal → List Bytes
+unfoldable pub fields_of : Result Contents TextRefusal → List Bytes
 fields_of (Ok t) = bytes "read" ∷ kind_word t.kind ∷ decimal_of t.cells ∷ decimal_of t.tables ∷ []
 fields_of (Err w) = bytes "refused" ∷ decimal_of (refusal_number (reason_of w.reason)) ∷ text_word w.text ∷ decimal_of w.line ∷ []
 
-unfoldable pub line_of : Result Texts TextRefusal → Bytes
+unfoldable pub line_of : Result Contents TextRefusal → Bytes
 line_of t = tabbed (fields_of t) ++ (10 ∷ [])
 
 kind-word : (s : Statement) → kind_word (statement_kind s) ≡ kind_name s

@@ -5,8 +5,9 @@ ghost use Rattle.listing.specs.Lines.{Lines};
 ghost use Rattle.read_texts.specs.Line.{kind_word, text_word, fields_of, line_of};
 
 use listing::put::Writer;
-use reader::{Text, TextRefusal, Texts};
+use reader::{Contents, Text, TextRefusal};
 use statement::access::Kind;
+use text::places::Texts;
 
 // The word of a statement's kind.
 #[tactic(auto, unfolding(crate::specs::Line::kind_word, rules::specs::Lines::bytes))]
@@ -36,7 +37,7 @@ fn text_word(text: Text) -> &'static [u8]
 }
 
 // The line of texts that were read.
-fn put_read(to: &mut Writer, t: Texts)
+fn put_read(to: &mut Writer, t: Contents)
     ensures line { Lines to.old to.new (fields_of (Ok t) ∷ []) }
     ensures short { length (line_of (Ok t)) ≤ 64 }
 {
@@ -59,7 +60,7 @@ fn put_refusal(to: &mut Writer, w: TextRefusal)
     to.byte(b'\n');
 }
 
-fn put_line(to: &mut Writer, t: Result<Texts, TextRefusal>)
+fn put_line(to: &mut Writer, t: Result<Contents, TextRefusal>)
     ensures line { Lines to.old to.new (fields_of t ∷ []) }
     ensures short { length (line_of t) ≤ 64 }
 {
@@ -70,13 +71,13 @@ fn put_line(to: &mut Writer, t: Result<Texts, TextRefusal>)
 }
 
 // The line of two texts that were read or refused, at the start of `out`.
-pub fn put_texts(t: Result<Texts, TextRefusal>, out: &mut [u8; 64]) -> usize
+pub fn put_texts(t: Result<Contents, TextRefusal>, out: &mut [u8; 64]) -> usize
     ensures { IsPrefixLen result out.new × (take result out.new ≡ line_of t) }
 {
     let mut to = Writer {
         window: out,
         left: 64,
-        texts: text::places::Texts {
+        texts: Texts {
             catalog: b"",
             statement: b"",
         },

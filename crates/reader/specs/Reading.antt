@@ -19,7 +19,7 @@ use Rattle.numbers.specs.declared.refusals.Reason.TheVariants.{OtherStatement}
 use Rattle.numbers.specs.Reasons.{named}
 use Rattle.reader.specs.declared.Text as Tx
 use Rattle.reader.specs.declared.Text.TheVariants as T
-use Rattle.reader.specs.declared.Texts.{Texts}
+use Rattle.reader.specs.declared.Contents.{Contents}
 use Rattle.reader.specs.declared.TextRefusal.{TextRefusal}
 
 -- the code's texts are the rules'
@@ -58,12 +58,12 @@ kind-numbers (Ast.update d) = refl
 kind-numbers (Ast.other l) = refl
 
 -- an answer as the code has it: the kind and two numbers of what was read, or the refusal
-unfoldable pub texts_of : Answer (Catalog × Statement) → Result Texts TextRefusal
+unfoldable pub texts_of : Answer (Catalog × Statement) → Result Contents TextRefusal
 texts_of (ok x) = Ok (record { kind = statement_kind x.1; cells = statement_size x.1; tables = length x.0 })
 texts_of (refused r) = Err (record { reason = named r.reason; text = text_named r.text; line = r.line })
 
 -- a statement of kind k at line l, with n cells, and m tables: refused where it is none that can be planned
-unfoldable pub texts_by : Kind → ℕ → ℕ → ℕ → Result Texts TextRefusal
+unfoldable pub texts_by : Kind → ℕ → ℕ → ℕ → Result Contents TextRefusal
 texts_by K.Other l n m = Err (record { reason = OtherStatement; text = T.Statement; line = l })
 texts_by K.Select l n m = Ok (record { kind = K.Select; cells = n; tables = m })
 texts_by K.Create l n m = Ok (record { kind = K.Create; cells = n; tables = m })
@@ -74,7 +74,7 @@ texts_by K.Update l n m = Ok (record { kind = K.Update; cells = n; tables = m })
 
 -- what is answered for the catalog c and the statement q, and that the slices stand for both where they are accepted; what is
 -- stored behind the rows of a SELECT then changes none of its sections
-pub record TextsRead (c q : Bytes) (tables cells froms parts : List ℕ) (r : Result Texts TextRefusal) : Type 0 where
+pub record TextsRead (c q : Bytes) (tables cells froms parts : List ℕ) (r : Result Contents TextRefusal) : Type 0 where
   pub is : r ≡ texts_of (read_texts c q)
   pub stands : (x : Catalog × Statement) → read_texts c q ≡ ok x → (catalog_at c q tables, statement_at c q cells froms parts) ≡ x
   pub stays : (x : Catalog × Statement) → read_texts c q ≡ ok x → K.Select ≡ access.kind_of (access.kind_number parts) → SectionsStay q cells parts

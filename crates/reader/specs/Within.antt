@@ -26,7 +26,7 @@ use Rattle.statement.specs.declared.access.Kind.{Kind}
 use Rattle.reader.specs.Texts.{kind_of, not_other, both_of, read_texts}
 use Rattle.reader.specs.Reading.{text_of, text_named, text-named, texts_of, statement_kind, kind-numbers, TextsRead}
 use Rattle.numbers.specs.Reasons.{named, reason_of, reason-named}
-use Rattle.reader.specs.declared.Texts.{Texts}
+use Rattle.reader.specs.declared.Contents.{Contents}
 use Rattle.reader.specs.declared.TextRefusal.{TextRefusal}
 
 -- BOTH READ
@@ -111,13 +111,13 @@ module _ {c q : Bytes} {tables cells froms parts : List ℕ} where
       go (ok x) e z =
           let p : (catalog_at c q tables, statement_at c q cells froms parts) ≡ x = h.stands x e in
           let f : read_texts c q ≡ ok (catalog_at c q tables, statement_at c q cells froms parts) = rw p e in
-          let y : ◌≡◌ {A = Texts} (record { kind = k; cells = n; tables = m }) (record { kind = statement_kind x.1; cells = statement_size x.1; tables = length x.0 }) = cc in
+          let y : ◌≡◌ {A = Contents} (record { kind = k; cells = n; tables = m }) (record { kind = statement_kind x.1; cells = statement_size x.1; tables = length x.0 }) = cc in
           record {
             read = f;
             within = read-within c q (catalog_at c q tables, statement_at c q cells froms parts) f;
-            kind = rw (← p) at (ap (λ (t : Texts). number_of t.kind) y ∙ kind-numbers x.1);
-            size = rw (← p) at (ap (λ (t : Texts). t.cells) y);
-            count = rw (← p) at (ap (λ (t : Texts). t.tables) y);
+            kind = rw (← p) at (ap (λ (t : Contents). number_of t.kind) y ∙ kind-numbers x.1);
+            size = rw (← p) at (ap (λ (t : Contents). t.cells) y);
+            count = rw (← p) at (ap (λ (t : Contents). t.tables) y);
           }
 
   -- what is stored behind the rows of a SELECT changes none of its sections

@@ -40,7 +40,7 @@ impl Text {
 
 // Two texts that were read: the statement's kind, how many expression cells it has and how many tables the catalog has.
 #[derive(Clone, Copy, Debug, PartialEq, Eq)]
-pub struct Texts {
+pub struct Contents {
     pub kind: Kind,
     pub cells: u32,
     pub tables: u32,
@@ -55,12 +55,12 @@ pub struct TextRefusal {
 }
 
 // A statement that was read, by its kind and line: refused where it is none of the six that can be planned.
-fn taken(kind: Kind, line: u32, cells: u32, tables: u32) -> Result<Texts, TextRefusal>
+fn taken(kind: Kind, line: u32, cells: u32, tables: u32) -> Result<Contents, TextRefusal>
     ensures { result ≡ texts_by kind line cells tables }
 {
     match kind {
         Kind::Other => Err(Text::Statement.refuses(Reason::OtherStatement.at(line))),
-        _ => Ok(Texts {
+        _ => Ok(Contents {
             kind,
             cells,
             tables,
@@ -77,7 +77,7 @@ pub fn read_texts(
     cells: &mut [u32; CELL_NUMBERS],
     froms: &mut [u32; FROM_NUMBERS],
     parts: &mut [u32; PART_NUMBERS],
-) -> Result<Texts, TextRefusal>
+) -> Result<Contents, TextRefusal>
     requires { numbers_for (length catalog.now) ≤ length tables.old }
     ensures { TextsRead catalog.now statement.now tables.new cells.new froms.new parts.new result }
 {

@@ -9,11 +9,11 @@ use Rattle.reader.specs.Texts.{kind_of}
 use Rattle.reader.specs.Reading.{text_of, text-named, texts_of, kind-numbers}
 use Rattle.numbers.specs.Reasons.{reason_of, reason-named}
 use Rattle.statement.specs.Kinds.{number_of}
-use Rattle.reader.specs.declared.Texts.{Texts}
+use Rattle.reader.specs.declared.Contents.{Contents}
 use Rattle.reader.specs.declared.TextRefusal.{TextRefusal}
 use Rattle.reader_host.specs.declared.Answer as Numbers
 
-unfoldable pub answered : Result Texts TextRefusal → Numbers.Answer
+unfoldable pub answered : Result Contents TextRefusal → Numbers.Answer
 answered (Ok t) = record { number = 0; text = 0; line = 0; kind = number_of t.kind; cells = t.cells; tables = t.tables }
 answered (Err w) = record { number = refusal_number (reason_of w.reason); text = text_number (text_of w.text); line = w.line; kind = 0; cells = 0; tables = 0 }
 

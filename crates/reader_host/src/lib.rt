@@ -10,7 +10,7 @@ ghost use Rattle.statement.specs.Layout.{statement_at};
 ghost use Rattle.reader.specs.Texts.{read_texts};
 ghost use Rattle.reader_host.specs.Numbers.{answered as answeredBy, answer_of};
 
-use reader::{TextRefusal, Texts};
+use reader::{Contents, TextRefusal};
 use schema::NUMBERS;
 use statement::{CELL_NUMBERS, FROM_NUMBERS, PART_NUMBERS};
 
@@ -28,7 +28,7 @@ pub struct Answer {
 }
 
 #[tactic(auto, unfolding(crate::specs::Numbers::answered))]
-fn answered(t: Result<Texts, TextRefusal>) -> Answer
+fn answered(t: Result<Contents, TextRefusal>) -> Answer
     ensures { result ≡ answeredBy t }
 {
     match t {
