@@ -15,22 +15,8 @@ pub const STATEMENT_ROWS: u32 = 512;
 
 pub const STARRED_ROWS: u32 = 256;
 
-// The kinds' numbers, as the table has them.
+// A star's number, as the table has it.
 pub const STAR: u32 = Kind::Star as u32;
-
-pub const COLUMN: u32 = Kind::Column as u32;
-
-pub const QUALIFIED: u32 = Kind::Qualified as u32;
-
-pub const CALL: u32 = Kind::Call as u32;
-
-pub const UNARY: u32 = Kind::Unary as u32;
-
-pub const BINARY: u32 = Kind::Binary as u32;
-
-pub const IS: u32 = Kind::Is as u32;
-
-pub const LITERAL: u32 = Kind::Literal as u32;
 
 // Numbers of the whole table.
 pub const TABLE_SIZE: usize = ROW_SIZE * (STATEMENT_ROWS as usize + STARRED_ROWS as usize);

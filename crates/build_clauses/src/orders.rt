@@ -23,7 +23,7 @@ use sections::entry;
 use sections::entry::{Entry, entry_at, first_row};
 use statement::access::descending;
 
-// The key of an entry: its cells from the n-th on, its part of the record behind k numbers.
+// The key of an entry: its cells, and its part of the record.
 fn put_key(
     exprs: &Expressions,
     e: Entry,

@@ -25,7 +25,7 @@ use plan::steps::Part;
 use scope::view::View;
 use sections::entry::{Entry, count, entry_at};
 
-// The value at row r: its cells from the n-th on, its root behind k numbers.
+// The value at row r: its cells, and its root among the numbers of the nodes.
 fn build_value(
     exprs: &Expressions,
     r: usize,

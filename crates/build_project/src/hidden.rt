@@ -16,8 +16,7 @@ use plan::steps::Part;
 use scope::{COLUMNS, Scope};
 use stage::Stage;
 
-// The columns at some positions: their cells from the n-th on, and their parts of a record behind k numbers of the nodes.
-// Gives how many numbers are in use then.
+// The columns at some positions: their cells, and their parts of a record. Gives how many numbers are in use then.
 fn put_columns(positions: &[u32], area: &mut [u32], nodes: &mut [u32], at: Part) -> usize
     requires room { Room at.cell (length positions.now) area.old }
     requires positions_in_bounds { at.used + item_size * length positions.now ≤ length nodes.old }
@@ -26,9 +25,9 @@ fn put_columns(positions: &[u32], area: &mut [u32], nodes: &mut [u32], at: Part)
 {
     let mut j = at.used;
     for (i, &x) in positions.iter().enumerate() {
-        let at = at.cell + i as u32;
-        column(area, at, x);
-        j = item(nodes, j, at, None);
+        let cell = at.cell + i as u32;
+        column(area, cell, x);
+        j = item(nodes, j, cell, None);
     }
     j
 }

@@ -28,8 +28,7 @@ use plan::steps::{Part, Step};
 use scope::{COLUMNS, Scope};
 use stage::Stage;
 
-// The items by their numbers over the node before, which stands in n cells, m nodes and k numbers of the nodes: nothing for
-// a lone star.
+// The items by their numbers over the node before: nothing for a lone star.
 pub fn build_projection(
     exprs: &Expressions,
     parts: &[u32],

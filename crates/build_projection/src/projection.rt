@@ -52,7 +52,7 @@ pub(crate) fn alias_at(texts: &Texts, parts: &[u32], x: u32) -> Place
     }
 }
 
-// Item x: its cells from the n-th on, its part of the record behind k numbers.
+// Item x: its cells, and its part of the record.
 fn put_item(
     exprs: &Expressions,
     parts: &[u32],

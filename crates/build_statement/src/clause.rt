@@ -1,4 +1,4 @@
-// A WHERE that may be missing, over a scope whose arrays are lent.
+// A WHERE that may be missing, over a scope. (The filter of a scan has a root and no node of its own, as a SELECT's has.)
 ghost use Rattle.std.specs.Prelude.{◌*◌};
 ghost use Rattle.rules.specs.Sizes.{clause_size};
 ghost use Rattle.statement.specs.EntryAccess.{clause_of};

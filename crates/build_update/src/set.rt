@@ -40,7 +40,7 @@ fn build_default(
     Ok(n + 1)
 }
 
-// The set of the entry e, of the j-th column of the i-th table, over a scope whose arrays are lent.
+// The set of the entry e, of the j-th column of the i-th table, over a scope.
 pub fn build_set(
     exprs: &Expressions,
     tables: &[u32],

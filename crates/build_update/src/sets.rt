@@ -57,7 +57,7 @@ fn write_set(
     Ok(Part { cell, used })
 }
 
-// All sets, from the n-th cell and behind the k numbers of the nodes.
+// All sets, one behind the other.
 pub fn write_sets(
     exprs: &Expressions,
     tables: &[u32],

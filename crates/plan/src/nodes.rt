@@ -2,7 +2,7 @@
 // be missing stands as one more than it, or 0. Each function that appends answers how many numbers are in use then.
 #![tactic(auto, using(crate::proofs::Flags::byte_flag), unfolding(rules::specs::Area::record_numbers, rules::specs::Area::sized, rules::specs::Area::row_numbers, rules::specs::Area::halves, crate::specs::Records::rows_numbers))]
 
-ghost use Rattle.std.specs.Prelude.{◌≡◌, [], ◌∷◌, ℕ, ◌+◌, ◌≤◌, length, MatchResult, Some, None};
+ghost use Rattle.std.specs.Prelude.{◌≡◌, [], ◌∷◌, ℕ, ◌+◌, ◌≤◌, length, MatchResult, Some};
 ghost use Rattle.std.proofs.Math.Option.{Option};
 ghost use Rattle.rules.specs.Lines.{Word};
 ghost use Rattle.rules.specs.Schema.{Table};

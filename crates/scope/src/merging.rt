@@ -34,7 +34,7 @@ fn shares_name(texts: &Texts, tables: &[u32], others: &[u32]) -> bool
         .any(|y| has_table_at(texts, tables, place(*y)))
 }
 
-// Of a scope with these tables and this width, and another whose columns would come behind its own.
+// Of a scope, and another whose columns would come behind its own.
 pub fn may_merge(texts: &Texts, scope: &View, other: &View) -> Result<(), Reason>
     ensures { MayMerge texts.now.catalog.now texts.now.statement.now
         scope.now.tables.now (length scope.now.labels.now) other.now.tables.now

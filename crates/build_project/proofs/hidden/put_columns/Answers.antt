@@ -8,11 +8,11 @@ use Rattle.build_project.proofs.hidden.put_columns.Goals as goal
 pub loop-i-init : goal.loop-i-init
 loop-i-init c = putting-begin _ _ _ _ _ c.requires.room c.requires.positions_in_bounds
 
-pub overflow_cast-at : goal.overflow_cast-at
-overflow_cast-at c = record { fits = omega (arith, c.loop-i.invariant.room.counted, c.loop-i-test.true) }
+pub overflow_cast-cell : goal.overflow_cast-cell
+overflow_cast-cell c = record { fits = omega (arith, c.loop-i.invariant.room.counted, c.loop-i-test.true) }
 
-pub overflow_add-at : goal.overflow_add-at
-overflow_add-at c = record { fits = omega (arith, c.loop-i.invariant.room.counted, c.loop-i-test.true) }
+pub overflow_add-cell : goal.overflow_add-cell
+overflow_add-cell c = record { fits = omega (arith, c.loop-i.invariant.room.counted, c.loop-i-test.true) }
 
 pub column-requires : goal.column-requires
 column-requires c = room-here c.loop-i.invariant c.loop-i-test.true refl
