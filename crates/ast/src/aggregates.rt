@@ -43,7 +43,8 @@ fn named_in(t: &[u8], a: u32, n: u32) -> Option<Aggregate>
 
 // Which aggregate the name at a place is.
 pub fn is_aggregate(texts: &Texts, name: Place) -> Option<Aggregate>
-    ensures { named_of result ≡ named aggregates (bytes_at texts.now.catalog.now texts.now.statement.now name.address name.length) }
+    ensures { named_of result ≡ named aggregates (bytes_at texts.now.catalog.now texts.now.statement.now name.address
+        name.length) }
 {
     if name.address < text::MOST_BYTES {
         return named_in(texts.catalog, name.address, name.length);

@@ -29,7 +29,9 @@ fn place(table: &[u32], r: usize, k: u32) -> Place
 // Whether two rows have the same bytes at the places that their numbers k and k + 1 name.
 fn same_word(exprs: &Expressions, i: usize, j: usize, k: u32) -> bool
     requires { k < 8 }
-    ensures { result ≡ same (bytes_at exprs.now.texts.catalog.now exprs.now.texts.statement.now (at exprs.now.table.now i k) (at exprs.now.table.now i (k + 1))) (bytes_at exprs.now.texts.catalog.now exprs.now.texts.statement.now (at exprs.now.table.now j k) (at exprs.now.table.now j (k + 1))) }
+    ensures { result ≡ same (bytes_at exprs.now.texts.catalog.now exprs.now.texts.statement.now (at exprs.now.table.now i k)
+        (at exprs.now.table.now i (k + 1))) (bytes_at exprs.now.texts.catalog.now exprs.now.texts.statement.now
+        (at exprs.now.table.now j k) (at exprs.now.table.now j (k + 1))) }
 {
     exprs
         .texts
@@ -47,7 +49,8 @@ fn same_operator(table: &[u32], i: usize, j: usize, least: u32, most: u32) -> bo
 
 // Whether two literals, each a kind and two numbers, are the same; floats go by bits.
 pub fn same_value(texts: &Texts, k: u32, a: u32, b: u32, l: u32, x: u32, y: u32) -> bool
-    ensures { result ≡ same_value (value_at texts.now.catalog.now texts.now.statement.now k a b) (value_at texts.now.catalog.now texts.now.statement.now l x y) }
+    ensures { result ≡ same_value (value_at texts.now.catalog.now texts.now.statement.now k a b)
+        (value_at texts.now.catalog.now texts.now.statement.now l x y) }
 {
     let v = or_least(1, 5, k);
     let w = or_least(1, 5, l);
@@ -89,7 +92,10 @@ pub fn same_value(texts: &Texts, k: u32, a: u32, b: u32, l: u32, x: u32, y: u32)
 
 // Whether the literals of two rows are.
 fn same_literal(exprs: &Expressions, i: usize, j: usize) -> bool
-    ensures { result ≡ same_value (value_at exprs.now.texts.catalog.now exprs.now.texts.statement.now (at exprs.now.table.now i 3) (at exprs.now.table.now i 4) (at exprs.now.table.now i 5)) (value_at exprs.now.texts.catalog.now exprs.now.texts.statement.now (at exprs.now.table.now j 3) (at exprs.now.table.now j 4) (at exprs.now.table.now j 5)) }
+    ensures { result ≡ same_value (value_at exprs.now.texts.catalog.now exprs.now.texts.statement.now
+        (at exprs.now.table.now i 3) (at exprs.now.table.now i 4) (at exprs.now.table.now i 5))
+        (value_at exprs.now.texts.catalog.now exprs.now.texts.statement.now (at exprs.now.table.now j 3)
+        (at exprs.now.table.now j 4) (at exprs.now.table.now j 5)) }
 {
     let k = at(exprs.table, i, 3);
     let a = at(exprs.table, i, 4);
@@ -102,7 +108,8 @@ fn same_literal(exprs: &Expressions, i: usize, j: usize) -> bool
 
 // Whether the trees at two rows are equal but for their operands, and have as many.
 fn same_root(exprs: &Expressions, i: usize, j: usize) -> bool
-    ensures { result ≡ equal (root_at exprs.now.texts.catalog.now exprs.now.texts.statement.now exprs.now.table.now i) (root_at exprs.now.texts.catalog.now exprs.now.texts.statement.now exprs.now.table.now j) }
+    ensures { result ≡ equal (root_at exprs.now.texts.catalog.now exprs.now.texts.statement.now exprs.now.table.now i)
+        (root_at exprs.now.texts.catalog.now exprs.now.texts.statement.now exprs.now.table.now j) }
 {
     let k = kind_of(exprs.table, i);
     if k != kind_of(exprs.table, j) {

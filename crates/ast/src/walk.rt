@@ -14,7 +14,8 @@ use crate::rows::{next, operands};
 
 // Whether the record at a row is a call of an aggregate function.
 pub fn is_aggregate_call(exprs: &Expressions, r: usize) -> bool
-    ensures { result ≡ is_aggregate_call (root_at exprs.now.texts.catalog.now exprs.now.texts.statement.now exprs.now.table.now r) }
+    ensures { result ≡ is_aggregate_call (root_at exprs.now.texts.catalog.now exprs.now.texts.statement.now
+        exprs.now.table.now r) }
 {
     if kind_of(exprs.table, r) != Kind::Call {
         return false;
@@ -55,8 +56,10 @@ pub fn contains(exprs: &Expressions, r: usize) -> bool
 // The rows of the aggregate calls in the tree at a row, left to right and not into one, written behind `count` others:
 // how many there are then, or none where the next has no room.
 pub fn collect(exprs: &Expressions, r: usize, rows: &mut [usize], count: usize) -> Option<usize>
-    ensures value { result ≡ collected (length rows.old) count (collect_rows exprs.now.texts.catalog.now exprs.now.texts.statement.now exprs.now.table.now r) }
-    ensures rows_after { rows.new ≡ sets rows.old count (collect_rows exprs.now.texts.catalog.now exprs.now.texts.statement.now exprs.now.table.now r) }
+    ensures value { result ≡ collected (length rows.old) count (collect_rows exprs.now.texts.catalog.now
+        exprs.now.texts.statement.now exprs.now.table.now r) }
+    ensures rows_after { rows.new ≡ sets rows.old count (collect_rows exprs.now.texts.catalog.now
+        exprs.now.texts.statement.now exprs.now.table.now r) }
 {
     if is_aggregate_call(exprs, r) {
         if count < rows.len() {

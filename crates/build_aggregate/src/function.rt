@@ -76,7 +76,8 @@ pub fn build_function(
     area: &mut [u32],
     n: u32,
 ) -> Result<u32, Refusal>
-    requires calls { Calls exprs.now.texts.catalog.now exprs.now.texts.statement.now exprs.now.table.now r (aggregate_of aggregate) }
+    requires calls { Calls exprs.now.texts.catalog.now exprs.now.texts.statement.now exprs.now.table.now r
+        (aggregate_of aggregate) }
     requires room { Room n (3 * size (tree_in exprs.now r)) area.old }
     ensures { FunctionBuilds exprs.now.texts.catalog.now exprs.now.texts.statement.now exprs.now.table.now
         scope.now.labels.now scope.now.matches.now scope.now.tables.now

@@ -50,7 +50,8 @@ pub fn build_where(
     nodes: &mut [u32],
     at: Step,
 ) -> Result<Step, Refusal>
-    requires room { Room at.cell (3 * clause_size (clause_of exprs.now.texts.catalog.now exprs.now.texts.statement.now exprs.now.table.now clause)) area.old }
+    requires room { Room at.cell (3 * clause_size (clause_of exprs.now.texts.catalog.now exprs.now.texts.statement.now
+        exprs.now.table.now clause)) area.old }
     requires follows { Follows filter_size at.node at.used nodes.old }
     ensures { WhereBuilt exprs.now.texts.catalog.now exprs.now.texts.statement.now exprs.now.table.now clause
         scope.now.labels.now scope.now.matches.now scope.now.tables.now
@@ -71,7 +72,8 @@ pub fn build_having(
     nodes: &mut [u32],
     at: Step,
 ) -> Result<Step, Refusal>
-    requires room { Room at.cell (3 * clause_size (clause_of exprs.now.texts.catalog.now exprs.now.texts.statement.now exprs.now.table.now clause)) area.old }
+    requires room { Room at.cell (3 * clause_size (clause_of exprs.now.texts.catalog.now exprs.now.texts.statement.now
+        exprs.now.table.now clause)) area.old }
     requires follows { Follows filter_size at.node at.used nodes.old }
     ensures { HavingBuilt exprs.now.texts.catalog.now exprs.now.texts.statement.now exprs.now.table.now clause
         scope.now.labels.now scope.now.matches.now scope.now.tables.now

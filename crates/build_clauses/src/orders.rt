@@ -55,8 +55,10 @@ fn put_keys(
     at: Part,
 ) -> Result<u32, Refusal>
     requires cells_len { length exprs.now.table.now ≡ table_size }
-    requires room { Room at.cell (3 * keys_size (keys_at exprs.now.texts.catalog.now exprs.now.texts.statement.now exprs.now.table.now parts.now)) area.old }
-    requires parts_in_bounds { at.used + key_size * length (keys_at exprs.now.texts.catalog.now exprs.now.texts.statement.now exprs.now.table.now parts.now)
+    requires room { Room at.cell (3 * keys_size (keys_at exprs.now.texts.catalog.now exprs.now.texts.statement.now
+        exprs.now.table.now parts.now)) area.old }
+    requires parts_in_bounds { at.used + key_size * length (keys_at exprs.now.texts.catalog.now
+        exprs.now.texts.statement.now exprs.now.table.now parts.now)
         ≤ length nodes.old }
     ensures { KeysPut exprs.now.texts.catalog.now exprs.now.texts.statement.now exprs.now.table.now parts.now
         scope.now.labels.now scope.now.matches.now scope.now.tables.now
@@ -91,8 +93,10 @@ pub fn build_order(
     at: Step,
 ) -> Result<Step, Refusal>
     requires cells_len { length exprs.now.table.now ≡ table_size }
-    requires room { Room at.cell (3 * keys_size (keys_at exprs.now.texts.catalog.now exprs.now.texts.statement.now exprs.now.table.now parts.now)) area.old }
-    requires follows { Follows (source_head + key_size * length (keys_at exprs.now.texts.catalog.now exprs.now.texts.statement.now exprs.now.table.now parts.now))
+    requires room { Room at.cell (3 * keys_size (keys_at exprs.now.texts.catalog.now exprs.now.texts.statement.now
+        exprs.now.table.now parts.now)) area.old }
+    requires follows { Follows (source_head + key_size * length (keys_at exprs.now.texts.catalog.now
+        exprs.now.texts.statement.now exprs.now.table.now parts.now))
         at.node at.used nodes.old }
     ensures { OrderBuilt exprs.now.texts.catalog.now exprs.now.texts.statement.now exprs.now.table.now parts.now
         scope.now.labels.now scope.now.matches.now scope.now.tables.now

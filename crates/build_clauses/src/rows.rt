@@ -59,7 +59,8 @@ pub fn build_offset(
     at: Step,
 ) -> Result<Step, Refusal>
     requires { Follows rows_size at.node at.used nodes.old }
-    ensures { OffsetBuilt exprs.now.texts.catalog.now exprs.now.texts.statement.now exprs.now.table.now clause at.cell at.node at.used
+    ensures { OffsetBuilt exprs.now.texts.catalog.now exprs.now.texts.statement.now exprs.now.table.now clause at.cell
+        at.node at.used
         nodes.old nodes.new result }
 {
     build_rows(
@@ -80,7 +81,8 @@ pub fn build_limit(
     at: Step,
 ) -> Result<Step, Refusal>
     requires { Follows rows_size at.node at.used nodes.old }
-    ensures { LimitBuilt exprs.now.texts.catalog.now exprs.now.texts.statement.now exprs.now.table.now clause at.cell at.node at.used
+    ensures { LimitBuilt exprs.now.texts.catalog.now exprs.now.texts.statement.now exprs.now.table.now clause at.cell
+        at.node at.used
         nodes.old nodes.new result }
 {
     build_rows(exprs, clause, Kind::Limit, Reason::InvalidLimit, nodes, at)

@@ -64,7 +64,8 @@ pub fn qualified(
 ) -> Result<u32, Refusal>
     requires room { Room n 1 area.old }
     requires r_value { kind_at exprs.now.table.now r ≡ 3 }
-    requires unmatched { Unmatched exprs.now.texts.catalog.now exprs.now.texts.statement.now exprs.now.table.now scope.now.matches.now r }
+    requires unmatched { Unmatched exprs.now.texts.catalog.now exprs.now.texts.statement.now exprs.now.table.now
+        scope.now.matches.now r }
     ensures { Builds exprs.now.texts.catalog.now exprs.now.texts.statement.now exprs.now.table.now
         scope.now.labels.now scope.now.matches.now scope.now.tables.now
         r n area.old area.new result }
@@ -121,7 +122,8 @@ fn unmatched(
     n: u32,
 ) -> Result<Begun, Refusal>
     requires room { Room n 1 area.old }
-    requires unmatched { Unmatched exprs.now.texts.catalog.now exprs.now.texts.statement.now exprs.now.table.now scope.now.matches.now r }
+    requires unmatched { Unmatched exprs.now.texts.catalog.now exprs.now.texts.statement.now exprs.now.table.now
+        scope.now.matches.now r }
     ensures { Begins exprs.now.texts.catalog.now exprs.now.texts.statement.now exprs.now.table.now
         scope.now.labels.now scope.now.matches.now scope.now.tables.now
         r n area.old area.new result }

@@ -25,7 +25,8 @@ fn join_item(
     nodes: &mut [u32],
 ) -> Result<Source, Refusal>
     requires { LaterRoom exprs.now.texts.catalog.now exprs.now.texts.statement.now tables.now
-        (from_at exprs.now.texts.catalog.now exprs.now.texts.statement.now exprs.now.table.now froms.now r) a area.old nodes.old }
+        (from_at exprs.now.texts.catalog.now exprs.now.texts.statement.now exprs.now.table.now froms.now r) a area.old
+        nodes.old }
     ensures { LaterBuilds exprs.now.texts.catalog.now exprs.now.texts.statement.now tables.now exprs.now.table.now
         (from_at exprs.now.texts.catalog.now exprs.now.texts.statement.now exprs.now.table.now froms.now r) a
         area.old nodes.old area.new nodes.new result }
@@ -69,7 +70,8 @@ pub fn build_from_clause(
     nodes: &mut [u32],
 ) -> Result<Source, Refusal>
     requires { ClauseRoom exprs.now.texts.catalog.now exprs.now.texts.statement.now tables.now
-        (froms_at exprs.now.texts.catalog.now exprs.now.texts.statement.now exprs.now.table.now froms.now rows) area.old nodes.old }
+        (froms_at exprs.now.texts.catalog.now exprs.now.texts.statement.now exprs.now.table.now froms.now rows) area.old
+        nodes.old }
     ensures { ClauseBuilds exprs.now.texts.catalog.now exprs.now.texts.statement.now tables.now exprs.now.table.now
         (froms_at exprs.now.texts.catalog.now exprs.now.texts.statement.now exprs.now.table.now froms.now rows)
         area.old nodes.old area.new nodes.new result }

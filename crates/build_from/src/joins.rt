@@ -22,7 +22,8 @@ pub fn build_join(
     area: &mut [u32],
     nodes: &mut [u32],
 ) -> Result<Source, Refusal>
-    requires { JoinRoom exprs.now.texts.catalog.now exprs.now.texts.statement.now exprs.now.table.now froms.now r a b area.old nodes.old }
+    requires { JoinRoom exprs.now.texts.catalog.now exprs.now.texts.statement.now exprs.now.table.now froms.now r a b
+        area.old nodes.old }
     ensures { Joins exprs.now.texts.catalog.now exprs.now.texts.statement.now exprs.now.table.now froms.now r a b
         area.old nodes.old area.new nodes.new result }
 {

@@ -42,7 +42,8 @@ pub fn build_from(
     k: usize,
 ) -> Result<Source, Refusal>
     requires { ItemRoom exprs.now.texts.catalog.now exprs.now.texts.statement.now tables.now
-        (from_at exprs.now.texts.catalog.now exprs.now.texts.statement.now exprs.now.table.now froms.now r) n m k area.old nodes.old }
+        (from_at exprs.now.texts.catalog.now exprs.now.texts.statement.now exprs.now.table.now froms.now r) n m k area.old
+        nodes.old }
     ensures { Builds exprs.now.texts.catalog.now exprs.now.texts.statement.now tables.now exprs.now.table.now
         (from_at exprs.now.texts.catalog.now exprs.now.texts.statement.now exprs.now.table.now froms.now r) n m k
         area.old nodes.old area.new nodes.new result }

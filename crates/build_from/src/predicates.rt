@@ -27,8 +27,10 @@ pub fn build_predicate(
     area: &mut [u32],
     n: u32,
 ) -> Result<Root, Refusal>
-    requires { Room n (3 * option_size (predicate_in exprs.now.texts.catalog.now exprs.now.texts.statement.now exprs.now.table.now froms.now r)) area.old }
-    ensures { (h : ℕ) → PredicateBuilt (scope_at exprs.now.texts.catalog.now exprs.now.texts.statement.now exprs.now.table.now
+    requires { Room n (3 * option_size (predicate_in exprs.now.texts.catalog.now exprs.now.texts.statement.now
+        exprs.now.table.now froms.now r)) area.old }
+    ensures { (h : ℕ) → PredicateBuilt (scope_at exprs.now.texts.catalog.now exprs.now.texts.statement.now
+        exprs.now.table.now
         scope.now.labels.now scope.now.matches.now scope.now.tables.now h)
         (predicate_in exprs.now.texts.catalog.now exprs.now.texts.statement.now exprs.now.table.now froms.now r)
         n area.old area.new result }

@@ -75,7 +75,8 @@ pub fn build_table(
     m: u32,
     k: usize,
 ) -> Result<Source, Refusal>
-    requires { ItemRoom exprs.now.texts.catalog.now exprs.now.texts.statement.now tables.now (table_row exprs.now.texts.catalog.now exprs.now.texts.statement.now froms.now r)
+    requires { ItemRoom exprs.now.texts.catalog.now exprs.now.texts.statement.now tables.now
+        (table_row exprs.now.texts.catalog.now exprs.now.texts.statement.now froms.now r)
         n m k area.old nodes.old }
     ensures { Builds exprs.now.texts.catalog.now exprs.now.texts.statement.now tables.now exprs.now.table.now
         (table_row exprs.now.texts.catalog.now exprs.now.texts.statement.now froms.now r) n m k

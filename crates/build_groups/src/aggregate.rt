@@ -56,9 +56,11 @@ fn build_retained(
     nodes: &mut [u32],
     at: Step,
 ) -> Result<Stage, Refusal>
-    requires { KeptReady exprs.now.texts.catalog.now exprs.now.texts.statement.now exprs.now.table.now scope kept.now rows at.cell at.node at.used area.old nodes.old }
+    requires { KeptReady exprs.now.texts.catalog.now exprs.now.texts.statement.now exprs.now.table.now scope kept.now rows
+        at.cell at.node at.used area.old nodes.old }
     ensures { (gs fs : List ℕ) → RowsKept (tree_in exprs.now)
-        gs fs kept.now rows → StageOver exprs.now.texts.catalog.now exprs.now.texts.statement.now exprs.now.table.now scope gs
+        gs fs kept.now rows → StageOver exprs.now.texts.catalog.now exprs.now.texts.statement.now exprs.now.table.now scope
+        gs
         fs at.cell at.node at.used area.old nodes.old area.new nodes.new result }
 {
     let g = rows.groups;
@@ -98,7 +100,8 @@ pub fn build_aggregate(
     at: Step,
 ) -> Result<Stage, Refusal>
     requires g_in_bounds { (g ≤ length groups.now) × (f ≤ length functions.now) }
-    requires aggregate_ready { AggregateReady exprs.now.texts.catalog.now exprs.now.texts.statement.now exprs.now.table.now scope (take g groups.now) (take f functions.now)
+    requires aggregate_ready { AggregateReady exprs.now.texts.catalog.now exprs.now.texts.statement.now exprs.now.table.now
+        scope (take g groups.now) (take f functions.now)
         at.cell at.node at.used area.old nodes.old }
     ensures { StageBuilt exprs.now.texts.catalog.now exprs.now.texts.statement.now exprs.now.table.now
         (groups_stage exprs.now.texts.catalog.now exprs.now.texts.statement.now exprs.now.table.now scope

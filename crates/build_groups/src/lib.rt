@@ -25,7 +25,8 @@ pub fn build_groups(
     nodes: &mut [u32],
     at: Step,
 ) -> Result<Stage, Refusal>
-    requires { GroupsReady exprs.now.texts.catalog.now exprs.now.texts.statement.now exprs.now.table.now parts.now scope at.cell at.node at.used area.old nodes.old }
+    requires { GroupsReady exprs.now.texts.catalog.now exprs.now.texts.statement.now exprs.now.table.now parts.now scope
+        at.cell at.node at.used area.old nodes.old }
     ensures { GroupsBuilt exprs.now.texts.catalog.now exprs.now.texts.statement.now exprs.now.table.now scope
         (groups_at exprs.now.texts.catalog.now exprs.now.texts.statement.now exprs.now.table.now parts.now)
         (functions_at exprs.now.texts.catalog.now exprs.now.texts.statement.now exprs.now.table.now parts.now)

@@ -27,7 +27,8 @@ pub fn group_rows(parts: &[u32], rows: &mut [usize]) -> usize
 
 // The aggregates of the tree at row r behind k rows; how many rows there are then.
 fn collect_at(exprs: &Expressions, r: usize, rows: &mut [usize], k: usize) -> usize
-    requires { k + length (collect_rows exprs.now.texts.catalog.now exprs.now.texts.statement.now exprs.now.table.now r) ≤ length rows.old }
+    requires { k + length (collect_rows exprs.now.texts.catalog.now exprs.now.texts.statement.now exprs.now.table.now r) ≤
+        length rows.old }
     ensures { Appended (collect_rows exprs.now.texts.catalog.now exprs.now.texts.statement.now exprs.now.table.now r) k
         rows.old result rows.new }
 {
@@ -46,7 +47,8 @@ fn collect_section(
     rows: &mut [usize],
     k: usize,
 ) -> usize
-    requires { k + length (collect_each_rows exprs.now.texts.catalog.now exprs.now.texts.statement.now exprs.now.table.now (section_rows parts.now (number_of kind)))
+    requires { k + length (collect_each_rows exprs.now.texts.catalog.now exprs.now.texts.statement.now exprs.now.table.now
+        (section_rows parts.now (number_of kind)))
         ≤ length rows.old }
     ensures { Appended
         (collect_each_rows exprs.now.texts.catalog.now exprs.now.texts.statement.now exprs.now.table.now
@@ -68,10 +70,12 @@ fn collect_clause(
     rows: &mut [usize],
     k: usize,
 ) -> usize
-    requires { k + length (collect_each_rows exprs.now.texts.catalog.now exprs.now.texts.statement.now exprs.now.table.now (clause_rows clause))
+    requires { k + length (collect_each_rows exprs.now.texts.catalog.now exprs.now.texts.statement.now exprs.now.table.now
+        (clause_rows clause))
         ≤ length rows.old }
     ensures { Appended
-        (collect_each_rows exprs.now.texts.catalog.now exprs.now.texts.statement.now exprs.now.table.now (clause_rows clause)) k
+        (collect_each_rows exprs.now.texts.catalog.now exprs.now.texts.statement.now exprs.now.table.now
+        (clause_rows clause)) k
         rows.old result rows.new }
 {
     match clause {
@@ -82,7 +86,8 @@ fn collect_clause(
 
 // The aggregates of the items, of HAVING and of ORDER; how many there are.
 pub fn function_rows(exprs: &Expressions, parts: &[u32], rows: &mut [usize]) -> usize
-    requires { length (function_rows exprs.now.texts.catalog.now exprs.now.texts.statement.now exprs.now.table.now parts.now) ≤ length rows.old }
+    requires { length (function_rows exprs.now.texts.catalog.now exprs.now.texts.statement.now exprs.now.table.now
+        parts.now) ≤ length rows.old }
     ensures { Appended
         (function_rows exprs.now.texts.catalog.now exprs.now.texts.statement.now exprs.now.table.now parts.now) 0
         rows.old result rows.new }

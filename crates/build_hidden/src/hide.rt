@@ -17,7 +17,8 @@ pub fn hide_rows(
     child: Scope,
     positions: &mut [u32],
 ) -> Result<Scope, Refusal>
-    requires { Passable exprs.now.table.now parent.now.labels.now parent.now.matches.now parent.now.tables.now child positions.old }
+    requires { Passable exprs.now.table.now parent.now.labels.now parent.now.matches.now parent.now.tables.now child
+        positions.old }
     ensures { RowsHidden exprs.now.texts.catalog.now exprs.now.texts.statement.now exprs.now.table.now
         parent.now.labels.now parent.now.matches.now parent.now.tables.now
         rows.now child positions.old positions.new result }

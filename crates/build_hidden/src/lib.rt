@@ -25,7 +25,8 @@ pub fn build_select_hidden(
     child: Scope,
     positions: &mut [u32],
 ) -> Result<Scope, Refusal>
-    requires { Hideable exprs.now.texts.catalog.now exprs.now.texts.statement.now exprs.now.table.now parts.now parent.now.labels.now parent.now.matches.now
+    requires { Hideable exprs.now.texts.catalog.now exprs.now.texts.statement.now exprs.now.table.now parts.now
+        parent.now.labels.now parent.now.matches.now
         parent.now.tables.now child positions.old }
     ensures { HiddenBuilt exprs.now.texts.catalog.now exprs.now.texts.statement.now exprs.now.table.now
         parts.now parent.now.labels.now parent.now.matches.now

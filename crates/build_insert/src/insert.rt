@@ -66,8 +66,10 @@ fn build_mapped(
     nodes: &mut [u32],
 ) -> Result<u32, Refusal>
     requires free { Free area.old nodes.old }
-    requires insert_fits { InsertFits (rows_at exprs.now.texts.catalog.now exprs.now.texts.statement.now exprs.now.table.now parts.now) (map_of columns.now map) }
-    ensures { RowsPlanned exprs.now.texts.catalog.now exprs.now.texts.statement.now name.address name.length (map_of columns.now map)
+    requires insert_fits { InsertFits (rows_at exprs.now.texts.catalog.now exprs.now.texts.statement.now exprs.now.table.now
+        parts.now) (map_of columns.now map) }
+    ensures { RowsPlanned exprs.now.texts.catalog.now exprs.now.texts.statement.now name.address name.length
+        (map_of columns.now map)
         (rows_at exprs.now.texts.catalog.now exprs.now.texts.statement.now exprs.now.table.now parts.now)
         area.old area.new result }
 {
@@ -94,7 +96,8 @@ pub fn build_insert(
     nodes: &mut [u32],
 ) -> Result<u32, Refusal>
     requires { ReadyFor exprs.now.texts.catalog.now exprs.now.texts.statement.now tables.now
-        (ast.insert (insert_at exprs.now.texts.catalog.now exprs.now.texts.statement.now exprs.now.table.now parts.now)) area.old nodes.old }
+        (ast.insert (insert_at exprs.now.texts.catalog.now exprs.now.texts.statement.now exprs.now.table.now parts.now))
+        area.old nodes.old }
     ensures { Plans
         (build_insert (catalog_at exprs.now.texts.catalog.now exprs.now.texts.statement.now tables.now)
         (insert_at exprs.now.texts.catalog.now exprs.now.texts.statement.now exprs.now.table.now parts.now))

@@ -62,7 +62,8 @@ fn map_names(
     parts: &[u32],
     columns: &mut [u32],
 ) -> Result<Option<u32>, Refusal>
-    requires { length (section_at exprs.now.texts.catalog.now exprs.now.texts.statement.now exprs.now.table.now parts.now name_kind) ≤ length columns.old }
+    requires { length (section_at exprs.now.texts.catalog.now exprs.now.texts.statement.now exprs.now.table.now parts.now
+        name_kind) ≤ length columns.old }
     ensures { map.Maps
         (column_map (table_at exprs.now.texts.catalog.now exprs.now.texts.statement.now tables.now i).columns
         (some (map.names_at exprs.now.texts.catalog.now exprs.now.texts.statement.now exprs.now.table.now parts.now)))
@@ -102,7 +103,8 @@ pub fn column_map(
     parts: &[u32],
     columns: &mut [u32],
 ) -> Result<Option<u32>, Refusal>
-    requires { map.NamesFit (map.given_names exprs.now.texts.catalog.now exprs.now.texts.statement.now exprs.now.table.now parts.now) columns.old }
+    requires { map.NamesFit (map.given_names exprs.now.texts.catalog.now exprs.now.texts.statement.now exprs.now.table.now
+        parts.now) columns.old }
     ensures { map.Maps
         (column_map (table_at exprs.now.texts.catalog.now exprs.now.texts.statement.now tables.now i).columns
         (map.given_names exprs.now.texts.catalog.now exprs.now.texts.statement.now exprs.now.table.now parts.now))

@@ -58,10 +58,12 @@ fn build_values(
     nodes: &mut [u32],
     at: Part,
 ) -> Result<Part, Refusal>
-    requires room { Room at.cell (3 * total size (values_at exprs.now.texts.catalog.now exprs.now.texts.statement.now exprs.now.table.now values r)) area.old }
+    requires room { Room at.cell (3 * total size (values_at exprs.now.texts.catalog.now exprs.now.texts.statement.now
+        exprs.now.table.now values r)) area.old }
     requires values_in_bounds { at.used + values ≤ length nodes.old }
     ensures { Lists all_roots
-        (emit_all empty at.cell (values_at exprs.now.texts.catalog.now exprs.now.texts.statement.now exprs.now.table.now values r))
+        (emit_all empty at.cell (values_at exprs.now.texts.catalog.now exprs.now.texts.statement.now exprs.now.table.now
+        values r))
         at.cell area.old area.new at.used nodes.old nodes.new result }
 {
     let mut p = r;
@@ -81,10 +83,12 @@ fn build_row(
     nodes: &mut [u32],
     at: Part,
 ) -> Result<Part, Refusal>
-    requires room { Room at.cell (3 * total size (values_at exprs.now.texts.catalog.now exprs.now.texts.statement.now exprs.now.table.now e.expressions e.row)) area.old }
+    requires room { Room at.cell (3 * total size (values_at exprs.now.texts.catalog.now exprs.now.texts.statement.now
+        exprs.now.table.now e.expressions e.row)) area.old }
     requires expressions_in_bounds { at.used + 1 + e.expressions ≤ length nodes.old }
     ensures { Lists one_row
-        (emit_all empty at.cell (values_at exprs.now.texts.catalog.now exprs.now.texts.statement.now exprs.now.table.now e.expressions e.row))
+        (emit_all empty at.cell (values_at exprs.now.texts.catalog.now exprs.now.texts.statement.now exprs.now.table.now
+        e.expressions e.row))
         at.cell area.old area.new at.used nodes.old nodes.new result }
 {
     let j = push(nodes, at.used, e.expressions);
@@ -110,8 +114,10 @@ fn build_rows(
     nodes: &mut [u32],
     k: usize,
 ) -> Result<Part, Refusal>
-    requires room { Room 0 (3 * rows_size (rows_at exprs.now.texts.catalog.now exprs.now.texts.statement.now exprs.now.table.now parts.now)) area.old }
-    requires parts_in_bounds { k + rows_room (rows_at exprs.now.texts.catalog.now exprs.now.texts.statement.now exprs.now.table.now parts.now) ≤ length nodes.old }
+    requires room { Room 0 (3 * rows_size (rows_at exprs.now.texts.catalog.now exprs.now.texts.statement.now
+        exprs.now.table.now parts.now)) area.old }
+    requires parts_in_bounds { k + rows_room (rows_at exprs.now.texts.catalog.now exprs.now.texts.statement.now
+        exprs.now.table.now parts.now) ≤ length nodes.old }
     ensures { Lists row_numbers
         (emit_rows empty 0 (rows_at exprs.now.texts.catalog.now exprs.now.texts.statement.now exprs.now.table.now parts.now))
         0 area.old area.new k nodes.old nodes.new result }
@@ -132,8 +138,10 @@ pub fn build_node(
     area: &mut [u32],
     nodes: &mut [u32],
 ) -> Result<Part, Refusal>
-    requires room { Room 0 (3 * rows_size (rows_at exprs.now.texts.catalog.now exprs.now.texts.statement.now exprs.now.table.now parts.now)) area.old }
-    requires rows_fit { RowsFit (rows_at exprs.now.texts.catalog.now exprs.now.texts.statement.now exprs.now.table.now parts.now) nodes.old }
+    requires room { Room 0 (3 * rows_size (rows_at exprs.now.texts.catalog.now exprs.now.texts.statement.now
+        exprs.now.table.now parts.now)) area.old }
+    requires rows_fit { RowsFit (rows_at exprs.now.texts.catalog.now exprs.now.texts.statement.now exprs.now.table.now
+        parts.now) nodes.old }
     ensures { Lists values_node
         (emit_rows empty 0 (rows_at exprs.now.texts.catalog.now exprs.now.texts.statement.now exprs.now.table.now parts.now))
         0 area.old area.new 0 nodes.old nodes.new result }

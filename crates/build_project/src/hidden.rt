@@ -47,9 +47,11 @@ pub fn end_projection(
     start: usize,
     k: usize,
 ) -> Result<Stage, Refusal>
-    requires end_ready { EndReady exprs.now.texts.catalog.now exprs.now.texts.statement.now exprs.now.table.now parts.now items.now scope n m start k area.old
+    requires end_ready { EndReady exprs.now.texts.catalog.now exprs.now.texts.statement.now exprs.now.table.now parts.now
+        items.now scope n m start k area.old
         nodes.old }
-    requires labels_value { labels.now ≡ item_labels exprs.now.texts.catalog.now exprs.now.texts.statement.now exprs.now.table.now parts.now scope items.now }
+    requires labels_value { labels.now ≡ item_labels exprs.now.texts.catalog.now exprs.now.texts.statement.now
+        exprs.now.table.now parts.now scope items.now }
     ensures { ProjectionEnded exprs.now.texts.catalog.now exprs.now.texts.statement.now exprs.now.table.now parts.now
         items.now scope n m start k area.old nodes.old area.new
         nodes.new result }

@@ -38,7 +38,8 @@ pub fn build_projection(
     nodes: &mut [u32],
     at: Step,
 ) -> Result<Stage, Refusal>
-    requires { ProjectionReady exprs.now.texts.catalog.now exprs.now.texts.statement.now exprs.now.table.now parts.now items.now scope at.cell at.node at.used area.old
+    requires { ProjectionReady exprs.now.texts.catalog.now exprs.now.texts.statement.now exprs.now.table.now parts.now
+        items.now scope at.cell at.node at.used area.old
         nodes.old }
     ensures { (froms : List ℕ) → StageBuilt exprs.now.texts.catalog.now exprs.now.texts.statement.now exprs.now.table.now
         (λ d. build_projection

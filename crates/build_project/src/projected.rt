@@ -17,8 +17,10 @@ pub fn project_scope(
     labels: &[u32],
     scope: Scope,
 ) -> Scope
-    requires items_ready { ItemsReady exprs.now.texts.catalog.now exprs.now.texts.statement.now exprs.now.table.now parts.now items.now scope }
-    requires labels_value { labels.now ≡ item_labels exprs.now.texts.catalog.now exprs.now.texts.statement.now exprs.now.table.now parts.now scope items.now }
+    requires items_ready { ItemsReady exprs.now.texts.catalog.now exprs.now.texts.statement.now exprs.now.table.now
+        parts.now items.now scope }
+    requires labels_value { labels.now ≡ item_labels exprs.now.texts.catalog.now exprs.now.texts.statement.now
+        exprs.now.table.now parts.now scope items.now }
     ensures { ScopeProjected exprs.now.texts.catalog.now exprs.now.texts.statement.now exprs.now.table.now parts.now
         items.now scope result }
 {

@@ -51,7 +51,8 @@ pub fn item_label(
     n: u32,
 ) -> u32
     requires used_value { used.now.matches.now ≡ used_matches scope.now.matches.now }
-    requires item_stands { ItemStands exprs.now.texts.catalog.now exprs.now.texts.statement.now exprs.now.table.now parts.now scope.now.labels.now scope.now.matches.now
+    requires item_stands { ItemStands exprs.now.texts.catalog.now exprs.now.texts.statement.now exprs.now.table.now
+        parts.now scope.now.labels.now scope.now.matches.now
         scope.now.tables.now x n area.now }
     ensures { result ≡ label_number exprs.now.texts.catalog.now exprs.now.texts.statement.now exprs.now.table.now parts.now
         scope.now.labels.now scope.now.matches.now scope.now.tables.now x }

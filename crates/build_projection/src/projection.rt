@@ -35,7 +35,11 @@ pub fn item_row(parts: &[u32], x: u32) -> usize
 
 // The place of its alias, as many bytes of it as there are; 0 0 for none.
 pub(crate) fn alias_at(texts: &Texts, parts: &[u32], x: u32) -> Place
-    ensures { result ≡ record { address = alias_address parts.now x; length = alias_length texts.now.catalog.now texts.now.statement.now parts.now x } }
+    ensures { result ≡ record {
+      address = alias_address parts.now x;
+      length = alias_length texts.now.catalog.now
+          texts.now.statement.now parts.now x;
+    } }
 {
     if x < STATEMENT_ROWS {
         let e = entry_at(parts, Section::Item, x);
@@ -62,7 +66,8 @@ fn put_item(
     nodes: &mut [u32],
     at: Part,
 ) -> Result<Part, Refusal>
-    requires room { Room at.cell (3 * size (item_of exprs.now.texts.catalog.now exprs.now.texts.statement.now exprs.now.table.now parts.now x).expr) area.old }
+    requires room { Room at.cell (3 * size (item_of exprs.now.texts.catalog.now exprs.now.texts.statement.now
+        exprs.now.table.now parts.now x).expr) area.old }
     requires item_size_in_bounds { at.used + item_size ≤ length nodes.old }
     ensures { ItemPut exprs.now.texts.catalog.now exprs.now.texts.statement.now exprs.now.table.now parts.now
         scope.now.labels.now scope.now.matches.now scope.now.tables.now
@@ -87,11 +92,13 @@ pub fn put_items(
     projected: &mut [u32],
 ) -> Result<Part, Refusal>
     requires projected_len { length projected.old ≡ most_columns }
-    requires items_fit { ItemsFit exprs.now.texts.catalog.now exprs.now.texts.statement.now exprs.now.table.now parts.now items.now at.cell area.old at.used nodes.old }
+    requires items_fit { ItemsFit exprs.now.texts.catalog.now exprs.now.texts.statement.now exprs.now.table.now parts.now
+        items.now at.cell area.old at.used nodes.old }
     ensures items_put { ItemsPut exprs.now.texts.catalog.now exprs.now.texts.statement.now exprs.now.table.now parts.now
         scope.now.labels.now scope.now.matches.now scope.now.tables.now
         items.now at.cell area.old area.new at.used nodes.old nodes.new result }
-    ensures labelled { Labelled (label_number exprs.now.texts.catalog.now exprs.now.texts.statement.now exprs.now.table.now parts.now
+    ensures labelled { Labelled (label_number exprs.now.texts.catalog.now exprs.now.texts.statement.now exprs.now.table.now
+        parts.now
         scope.now.labels.now scope.now.matches.now scope.now.tables.now)
         items.now projected.old projected.new result }
 {

@@ -34,7 +34,8 @@ fn select_limit(
     nodes: &mut [u32],
     at: Step,
 ) -> Result<u32, Refusal>
-    requires { OffsetState exprs.now.texts.catalog.now exprs.now.texts.statement.now exprs.now.table.now parts.now width hidden at.cell at.node at.used area.old nodes.old }
+    requires { OffsetState exprs.now.texts.catalog.now exprs.now.texts.statement.now exprs.now.table.now parts.now width
+        hidden at.cell at.node at.used area.old nodes.old }
     ensures { (h : OffsetState exprs.now.texts.catalog.now exprs.now.texts.statement.now exprs.now.table.now parts.now
         width hidden at.cell at.node at.used area.old nodes.old)
         → Plans (select_limit h.select h.stage h.node) area.old area.new result }
@@ -54,7 +55,8 @@ pub fn select_offset(
     nodes: &mut [u32],
     at: Step,
 ) -> Result<u32, Refusal>
-    requires { OrderState exprs.now.texts.catalog.now exprs.now.texts.statement.now exprs.now.table.now parts.now width hidden at.cell at.node at.used area.old nodes.old }
+    requires { OrderState exprs.now.texts.catalog.now exprs.now.texts.statement.now exprs.now.table.now parts.now width
+        hidden at.cell at.node at.used area.old nodes.old }
     ensures { (h : OrderState exprs.now.texts.catalog.now exprs.now.texts.statement.now exprs.now.table.now parts.now
         width hidden at.cell at.node at.used area.old nodes.old)
         → Plans (select_offset h.select h.stage h.node) area.old area.new result }

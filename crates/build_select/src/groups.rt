@@ -23,7 +23,8 @@ pub fn select_groups(
     nodes: &mut [u32],
     at: Step,
 ) -> Result<u32, Refusal>
-    requires { WhereState exprs.now.texts.catalog.now exprs.now.texts.statement.now exprs.now.table.now parts.now items.now scope at.cell at.node at.used area.old nodes.old }
+    requires { WhereState exprs.now.texts.catalog.now exprs.now.texts.statement.now exprs.now.table.now parts.now items.now
+        scope at.cell at.node at.used area.old nodes.old }
     ensures { (h : WhereState exprs.now.texts.catalog.now exprs.now.texts.statement.now exprs.now.table.now parts.now
         items.now scope at.cell at.node at.used area.old nodes.old)
         → Plans (select_groups h.select

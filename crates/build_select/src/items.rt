@@ -29,7 +29,8 @@ fn select_where(
     nodes: &mut [u32],
     at: Step,
 ) -> Result<u32, Refusal>
-    requires { ItemsState exprs.now.texts.catalog.now exprs.now.texts.statement.now exprs.now.table.now parts.now (take w listed.now) scope at.cell at.node at.used area.old
+    requires { ItemsState exprs.now.texts.catalog.now exprs.now.texts.statement.now exprs.now.table.now parts.now
+        (take w listed.now) scope at.cell at.node at.used area.old
         nodes.old }
     ensures { (h : ItemsState exprs.now.texts.catalog.now exprs.now.texts.statement.now exprs.now.table.now parts.now
         (take w listed.now) scope at.cell at.node at.used area.old nodes.old)
@@ -54,7 +55,8 @@ pub fn select_items(
     nodes: &mut [u32],
     at: Step,
 ) -> Result<u32, Refusal>
-    requires { FromState texts.now.catalog.now texts.now.statement.now cells.old parts.now scope at.cell at.node at.used area.old nodes.old }
+    requires { FromState texts.now.catalog.now texts.now.statement.now cells.old parts.now scope at.cell at.node at.used
+        area.old nodes.old }
     ensures { (h : FromState texts.now.catalog.now texts.now.statement.now cells.old parts.now
         scope at.cell at.node at.used area.old nodes.old)
         → Plans (select_items

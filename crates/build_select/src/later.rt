@@ -22,7 +22,8 @@ pub fn select_later(
     nodes: &mut [u32],
     at: Step,
 ) -> Result<u32, Refusal>
-    requires { ProjectionState exprs.now.texts.catalog.now exprs.now.texts.statement.now exprs.now.table.now parts.now scope at.cell at.node at.used area.old nodes.old }
+    requires { ProjectionState exprs.now.texts.catalog.now exprs.now.texts.statement.now exprs.now.table.now parts.now scope
+        at.cell at.node at.used area.old nodes.old }
     ensures { (h : ProjectionState exprs.now.texts.catalog.now exprs.now.texts.statement.now exprs.now.table.now
         parts.now scope at.cell at.node at.used area.old nodes.old)
         → Plans (select_having h.select h.stage) area.old area.new result }

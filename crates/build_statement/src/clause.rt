@@ -18,7 +18,8 @@ pub fn build_where(
     scope: &View,
     area: &mut [u32],
 ) -> Result<u32, Refusal>
-    requires { Room 0 (3 * clause_size (clause_of exprs.now.texts.catalog.now exprs.now.texts.statement.now exprs.now.table.now clause)) area.old }
+    requires { Room 0 (3 * clause_size (clause_of exprs.now.texts.catalog.now exprs.now.texts.statement.now
+        exprs.now.table.now clause)) area.old }
     ensures { Filters exprs.now.texts.catalog.now exprs.now.texts.statement.now exprs.now.table.now
         scope.now.labels.now scope.now.matches.now scope.now.tables.now
         clause area.old area.new result }

@@ -161,9 +161,11 @@ fn columns(
     k: usize,
 ) -> Result<usize, Refusal>
     requires { k + (column_size + cell_size) * length
-        (section_at exprs.now.texts.catalog.now exprs.now.texts.statement.now exprs.now.table.now parts.now column_kind) ≤ length nodes.old }
+        (section_at exprs.now.texts.catalog.now exprs.now.texts.statement.now exprs.now.table.now parts.now column_kind) ≤
+        length nodes.old }
     ensures { Pushes create.columns_numbers
-        (each made_column (create.columns_at exprs.now.texts.catalog.now exprs.now.texts.statement.now exprs.now.table.now parts.now))
+        (each made_column (create.columns_at exprs.now.texts.catalog.now exprs.now.texts.statement.now exprs.now.table.now
+        parts.now))
         k nodes.old nodes.new result }
 {
     let count = entry::count(parts, Section::Column);
@@ -178,9 +180,12 @@ fn columns(
 // The table's name, the key's position and how many columns there are, then the columns.
 fn table(exprs: &Expressions, parts: &[u32], key: u32, nodes: &mut [u32]) -> Result<usize, Refusal>
     requires { own_head + (column_size + cell_size) * length
-        (section_at exprs.now.texts.catalog.now exprs.now.texts.statement.now exprs.now.table.now parts.now column_kind) ≤ length nodes.old }
-    ensures { Pushes (create.table_numbers (name_word exprs.now.texts.catalog.now exprs.now.texts.statement.now exprs.now.table.now [] parts.now) key)
-        (each made_column (create.columns_at exprs.now.texts.catalog.now exprs.now.texts.statement.now exprs.now.table.now parts.now))
+        (section_at exprs.now.texts.catalog.now exprs.now.texts.statement.now exprs.now.table.now parts.now column_kind) ≤
+        length nodes.old }
+    ensures { Pushes (create.table_numbers (name_word exprs.now.texts.catalog.now exprs.now.texts.statement.now
+        exprs.now.table.now [] parts.now) key)
+        (each made_column (create.columns_at exprs.now.texts.catalog.now exprs.now.texts.statement.now exprs.now.table.now
+        parts.now))
         0 nodes.old nodes.new result }
 {
     let a = access::name_address(parts);
@@ -204,7 +209,8 @@ fn create_table(
     area: &mut [u32],
     nodes: &mut [u32],
 ) -> Result<u32, Refusal>
-    requires { create.CreateReady exprs.now.texts.catalog.now exprs.now.texts.statement.now exprs.now.table.now parts.now area.old nodes.old }
+    requires { create.CreateReady exprs.now.texts.catalog.now exprs.now.texts.statement.now exprs.now.table.now parts.now
+        area.old nodes.old }
     ensures { Plans
         (create.with_key exprs.now.texts.catalog.now exprs.now.texts.statement.now exprs.now.table.now parts.now key)
         area.old area.new result }
@@ -226,9 +232,11 @@ pub fn build_create_table(
     area: &mut [u32],
     nodes: &mut [u32],
 ) -> Result<u32, Refusal>
-    requires { create.CreateReady exprs.now.texts.catalog.now exprs.now.texts.statement.now exprs.now.table.now parts.now area.old nodes.old }
+    requires { create.CreateReady exprs.now.texts.catalog.now exprs.now.texts.statement.now exprs.now.table.now parts.now
+        area.old nodes.old }
     ensures { Plans
-        (build_create (create.create_at exprs.now.texts.catalog.now exprs.now.texts.statement.now exprs.now.table.now parts.now))
+        (build_create (create.create_at exprs.now.texts.catalog.now exprs.now.texts.statement.now exprs.now.table.now
+        parts.now))
         area.old area.new result }
 {
     let Some(key) = key_column(parts, 0) else {

@@ -59,7 +59,8 @@ pub fn build_delete(
     nodes: &mut [u32],
 ) -> Result<u32, Refusal>
     requires { ReadyFor exprs.now.texts.catalog.now exprs.now.texts.statement.now tables.now
-        (ast.delete (delete_at exprs.now.texts.catalog.now exprs.now.texts.statement.now exprs.now.table.now parts.now)) area.old nodes.old }
+        (ast.delete (delete_at exprs.now.texts.catalog.now exprs.now.texts.statement.now exprs.now.table.now parts.now))
+        area.old nodes.old }
     ensures { Plans
         (build_delete (catalog_at exprs.now.texts.catalog.now exprs.now.texts.statement.now tables.now)
         (delete_at exprs.now.texts.catalog.now exprs.now.texts.statement.now exprs.now.table.now parts.now))

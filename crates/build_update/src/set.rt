@@ -51,7 +51,8 @@ pub fn build_set(
     area: &mut [u32],
     n: u32,
 ) -> Result<u32, Refusal>
-    requires { Room n (3 * option_size (given_of exprs.now.texts.catalog.now exprs.now.texts.statement.now exprs.now.table.now e) + 1) area.old }
+    requires { Room n (3 * option_size (given_of exprs.now.texts.catalog.now exprs.now.texts.statement.now
+        exprs.now.table.now e) + 1) area.old }
     ensures { Values exprs.now.texts.catalog.now exprs.now.texts.statement.now exprs.now.table.now
         scope.now.labels.now scope.now.matches.now scope.now.tables.now
         (table_at exprs.now.texts.catalog.now exprs.now.texts.statement.now tables.now i).columns

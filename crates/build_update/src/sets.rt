@@ -36,7 +36,8 @@ fn write_set(
     nodes: &mut [u32],
     at: Part,
 ) -> Result<Part, Refusal>
-    requires room { Room at.cell (3 * option_size (given_of exprs.now.texts.catalog.now exprs.now.texts.statement.now exprs.now.table.now e) + 1) area.old }
+    requires room { Room at.cell (3 * option_size (given_of exprs.now.texts.catalog.now exprs.now.texts.statement.now
+        exprs.now.table.now e) + 1) area.old }
     requires set_size_in_bounds { at.used + set_size ≤ length nodes.old }
     ensures { (h : ℕ) → Writes
         (emit_seconds (set_built
@@ -71,7 +72,8 @@ pub fn write_sets(
     requires room { Room at.cell
         (3 * sets_size (sets_at exprs.now.texts.catalog.now exprs.now.texts.statement.now exprs.now.table.now parts.now)
         + length (sets_at exprs.now.texts.catalog.now exprs.now.texts.statement.now exprs.now.table.now parts.now)) area.old }
-    requires parts_in_bounds { at.used + set_size * length (sets_at exprs.now.texts.catalog.now exprs.now.texts.statement.now exprs.now.table.now parts.now) ≤ length nodes.old }
+    requires parts_in_bounds { at.used + set_size * length (sets_at exprs.now.texts.catalog.now
+        exprs.now.texts.statement.now exprs.now.table.now parts.now) ≤ length nodes.old }
     ensures { (h : ℕ) → Writes
         (emit_seconds (set_built
         (scope_at exprs.now.texts.catalog.now exprs.now.texts.statement.now exprs.now.table.now

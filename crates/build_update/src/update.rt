@@ -41,7 +41,8 @@ fn end_update(
     m: u32,
 ) -> Result<u32, Refusal>
     requires free { Free area.old nodes.old }
-    requires few_sets { FewSets m (sets_at exprs.now.texts.catalog.now exprs.now.texts.statement.now exprs.now.table.now parts.now) }
+    requires few_sets { FewSets m (sets_at exprs.now.texts.catalog.now exprs.now.texts.statement.now exprs.now.table.now
+        parts.now) }
     ensures { (h : ℕ) → UpdateEnds
         (emit_seconds (set_built
         (scope_at exprs.now.texts.catalog.now exprs.now.texts.statement.now exprs.now.table.now
@@ -86,7 +87,8 @@ pub fn build_update(
     nodes: &mut [u32],
 ) -> Result<u32, Refusal>
     requires { ReadyFor exprs.now.texts.catalog.now exprs.now.texts.statement.now tables.now
-        (ast.update (update_at exprs.now.texts.catalog.now exprs.now.texts.statement.now exprs.now.table.now parts.now)) area.old nodes.old }
+        (ast.update (update_at exprs.now.texts.catalog.now exprs.now.texts.statement.now exprs.now.table.now parts.now))
+        area.old nodes.old }
     ensures { Plans
         (build_update (catalog_at exprs.now.texts.catalog.now exprs.now.texts.statement.now tables.now)
         (update_at exprs.now.texts.catalog.now exprs.now.texts.statement.now exprs.now.table.now parts.now))

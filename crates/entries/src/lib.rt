@@ -253,7 +253,8 @@ fn column_words(t: &[u8], f: Line) -> Option<Head>
 // The same with the column's name at a, and its reference by its address and length.
 fn column_head(w: Head, a: usize, n: usize, c: u32, d: u32) -> Head
     requires { (a ≤ 65536) × (n ≤ 65536) }
-    ensures { (result.expressions ≡ w.expressions) × (numbers_of result ≡ (most_bytes + a) ∷ n ∷ w.code ∷ w.key ∷ w.nullable ∷ w.unique ∷ w.index ∷ c ∷ d ∷ []) }
+    ensures { (result.expressions ≡ w.expressions) × (numbers_of result
+        ≡ (most_bytes + a) ∷ n ∷ w.code ∷ w.key ∷ w.nullable ∷ w.unique ∷ w.index ∷ c ∷ d ∷ []) }
 {
     Head {
         expressions: w.expressions,
@@ -328,7 +329,8 @@ pub fn entry_head(
     len: u32,
 ) -> Result<Option<Head>, Refusal>
     requires { LineAt t.now at.position f }
-    ensures { (l c k : ℕ) → IsHead t.now (number_of kind) (last_name t.now last len) at.line (here t.now at.position l c k) result }
+    ensures { (l c k : ℕ) → IsHead t.now (number_of kind) (last_name t.now last len) at.line
+        (here t.now at.position l c k) result }
 {
     if text::words::part(t, f.starts[0], f.lens[0]) != kind as usize {
         return Ok(None);

@@ -19,7 +19,8 @@ use numbers::refusals::{Reason, Refusal};
 
 // `is` takes a null or a NaN.
 fn check_is(table: &[u32], r: usize) -> Result<(), Refusal>
-    ensures { (c q : Bytes) → checked_of result ≡ refuse_if (not (is_null_or_nan (value_at c q (at table.now r 3) (at table.now r 4) (at table.now r 5)))) invalid_is (at table.now r 1) }
+    ensures { (c q : Bytes) → checked_of result ≡ refuse_if (not (is_null_or_nan (value_at c q (at table.now r 3)
+        (at table.now r 4) (at table.now r 5)))) invalid_is (at table.now r 1) }
 {
     if row::literal(table, r).is_null_or_nan() {
         return Ok(());
@@ -29,7 +30,8 @@ fn check_is(table: &[u32], r: usize) -> Result<(), Refusal>
 
 // The one function is `sqrt`, of one argument.
 fn check_call(exprs: &Expressions, r: usize) -> Result<(), Refusal>
-    ensures { checked_of result ≡ refuse_if (not (is_root_call exprs.now.texts.catalog.now exprs.now.texts.statement.now exprs.now.table.now r)) unknown_function (at exprs.now.table.now r 1) }
+    ensures { checked_of result ≡ refuse_if (not (is_root_call exprs.now.texts.catalog.now exprs.now.texts.statement.now
+        exprs.now.table.now r)) unknown_function (at exprs.now.table.now r 1) }
 {
     let line = rows::at(exprs.table, r, 1);
     if rows::at(exprs.table, r, 3) != 1 {
@@ -43,7 +45,9 @@ fn check_call(exprs: &Expressions, r: usize) -> Result<(), Refusal>
 
 // A record, the first refusal of its operands given: an unknown function comes before that, an invalid `is` after it.
 fn check_record(exprs: &Expressions, r: usize, operands: Result<(), Refusal>) -> Result<(), Refusal>
-    ensures { (f : ℕ → rule.Expr) → checked_of operands ≡ check_all (arguments_at f exprs.now.table.now (operands_at exprs.now.table.now r) (suc r)) → checked_of result ≡ check (tree_by f exprs.now.texts.catalog.now exprs.now.texts.statement.now exprs.now.table.now r) }
+    ensures { (f : ℕ → rule.Expr) → checked_of operands ≡ check_all (arguments_at f exprs.now.table.now
+        (operands_at exprs.now.table.now r) (suc r)) → checked_of result
+        ≡ check (tree_by f exprs.now.texts.catalog.now exprs.now.texts.statement.now exprs.now.table.now r) }
 {
     let line = rows::at(exprs.table, r, 1);
     match kind_of(exprs.table, r) {

@@ -46,7 +46,8 @@ fn leaf(table: &[u32], r: usize) -> Result<Value, Refusal>
 fn first_operand(table: &[u32], r: usize, a: Value) -> Result<Value, Refusal>
     requires fact { operands_at table.now r ≡ 0 → ⊥ }
     requires fact_2 { kind_at table.now r ≡ 6 → ⊥ }
-    ensures { (f : ℕ → ast.Expr) (c q : Bytes) → Evaluates c q (Ok a) (f (suc r)) → Evaluates c q result (tree_by f c q table.now r) }
+    ensures { (f : ℕ → ast.Expr) (c q : Bytes) → Evaluates c q (Ok a) (f (suc r))
+        → Evaluates c q result (tree_by f c q table.now r) }
 {
     let line = rows::at(table, r, 1);
     match kind_of(table, r) {
@@ -62,7 +63,10 @@ fn first_operand(table: &[u32], r: usize, a: Value) -> Result<Value, Refusal>
 // A binary operator whose operands have the values a and b.
 fn both_operands(exprs: &Expressions, r: usize, a: Value, b: Value) -> Result<Value, Refusal>
     requires { kind_at exprs.now.table.now r ≡ 6 }
-    ensures { (f : ℕ → ast.Expr) → Evaluates exprs.now.texts.catalog.now exprs.now.texts.statement.now (Ok a) (f (suc r)) → Evaluates exprs.now.texts.catalog.now exprs.now.texts.statement.now (Ok b) (f (suc r + rows_at exprs.now.table.now (suc r))) → Evaluates exprs.now.texts.catalog.now exprs.now.texts.statement.now result (tree_by f exprs.now.texts.catalog.now exprs.now.texts.statement.now exprs.now.table.now r) }
+    ensures { (f : ℕ → ast.Expr) → Evaluates exprs.now.texts.catalog.now exprs.now.texts.statement.now (Ok a) (f (suc r))
+        → Evaluates exprs.now.texts.catalog.now exprs.now.texts.statement.now (Ok b) (f (suc r + rows_at exprs.now.table.now
+        (suc r))) → Evaluates exprs.now.texts.catalog.now exprs.now.texts.statement.now result
+        (tree_by f exprs.now.texts.catalog.now exprs.now.texts.statement.now exprs.now.table.now r) }
 {
     let operator = row::binary_operator(exprs.table, r);
     let w = value::operators::binary(&exprs.texts, operator, a, b);
@@ -71,7 +75,8 @@ fn both_operands(exprs: &Expressions, r: usize, a: Value, b: Value) -> Result<Va
 
 // The value of the tree at a row: both operands are worked out, the left one first.
 pub fn evaluate(exprs: &Expressions, r: usize) -> Result<Value, Refusal>
-    ensures { answer_of exprs.now.texts.catalog.now exprs.now.texts.statement.now result ≡ map_answer held (evaluate (tree_in exprs.now r)) }
+    ensures { answer_of exprs.now.texts.catalog.now exprs.now.texts.statement.now result
+        ≡ map_answer held (evaluate (tree_in exprs.now r)) }
 {
     if rows::operands(exprs.table, r) == 0 {
         return leaf(exprs.table, r);

@@ -67,7 +67,8 @@ struct FromRow {
 // Row n.
 fn put_row(rows: &mut [u32], n: u32, row: FromRow)
     requires { row_size * n + row_size ≤ length rows.old }
-    ensures { rows.new ≡ sets rows.old (row_size * n) (number_of row.kind ∷ row.line ∷ row.predicate ∷ row.name.address ∷ row.name.length ∷ row.alias.address ∷ row.alias.length ∷ row.sides ∷ []) }
+    ensures { rows.new ≡ sets rows.old (row_size * n) (number_of row.kind ∷ row.line ∷ row.predicate ∷ row.name.address ∷
+        row.name.length ∷ row.alias.address ∷ row.alias.length ∷ row.sides ∷ []) }
 {
     let i = ROW_SIZE * n as usize;
     rows[i] = row.kind as u32;
@@ -94,7 +95,14 @@ fn table_row(line: u32, h: FromRecord) -> FromRow
 }
 
 fn join_row(kind: Kind, line: u32, predicate: u32, sides: u32) -> FromRow
-    ensures { result ≡ record { kind = kind; line = line; predicate = predicate; name = record { address = 0; length = 0 }; alias = record { address = 0; length = 0 }; sides = sides } }
+    ensures { result ≡ record {
+      kind = kind;
+      line = line;
+      predicate = predicate;
+      name = record { address = 0; length = 0 };
+      alias = record { address = 0; length = 0 };
+      sides = sides;
+    } }
 {
     FromRow {
         kind,
@@ -117,7 +125,8 @@ fn close_join(
 ) -> Result<Cursor, Refusal>
     requires fact_1 { Position t.now at.position at.line at.rows }
     requires fact_2 { (n ≤ 30) × (length cells.old ≡ table_size) × (length rows.old ≡ 248) }
-    ensures { (k : ℕ) → Given (optional (is_one (on_in v)) expression) (Closed t.now at.rows n v cells.old cells.new rows.old rows.new) t.now at.position at.line at.rows k result }
+    ensures { (k : ℕ) → Given (optional (is_one (on_in v)) expression)
+        (Closed t.now at.rows n v cells.old cells.new rows.old rows.new) t.now at.position at.line at.rows k result }
 {
     let line = v / 32;
     let kind = kind_by(v / 4 % 8);
@@ -244,9 +253,11 @@ fn read_joins(
     cells: &mut [u32],
     rows: &mut [u32],
 ) -> Result<Froms, Refusal>
-    requires fact_1 { TreeReady t.now froms.at.position froms.at.line froms.at.rows froms.tables froms.rows cells.old rows.old }
+    requires fact_1 { TreeReady t.now froms.at.position froms.at.line froms.at.rows froms.tables froms.rows cells.old
+        rows.old }
     requires fact_2 { length t.now < froms.at.position + 13 * length stack.old + 13 }
-    ensures { TreeRead t.now froms.at.position froms.at.line froms.at.rows froms.tables froms.rows cells.old cells.new rows.old rows.new result }
+    ensures { TreeRead t.now froms.at.position froms.at.line froms.at.rows froms.tables froms.rows cells.old cells.new
+        rows.old rows.new result }
 {
     let mut s = Stand {
         froms,
@@ -267,7 +278,8 @@ fn read_joined(
     rows: &mut [u32],
 ) -> Result<Froms, Refusal>
     requires { TreeReady t.now froms.at.position froms.at.line froms.at.rows froms.tables froms.rows cells.old rows.old }
-    ensures { TreeRead t.now froms.at.position froms.at.line froms.at.rows froms.tables froms.rows cells.old cells.new rows.old rows.new result }
+    ensures { TreeRead t.now froms.at.position froms.at.line froms.at.rows froms.tables froms.rows cells.old cells.new
+        rows.old rows.new result }
 {
     if t.len() - froms.at.position < SHORT_REST {
         let mut few = [0u32; FEW_OPEN];
@@ -280,7 +292,8 @@ fn read_joined(
 // The tree that stands here, behind so many tables and rows.
 fn read_tree(t: &[u8], froms: Froms, cells: &mut [u32], rows: &mut [u32]) -> Result<Froms, Refusal>
     requires { TreeReady t.now froms.at.position froms.at.line froms.at.rows froms.tables froms.rows cells.old rows.old }
-    ensures { TreeRead t.now froms.at.position froms.at.line froms.at.rows froms.tables froms.rows cells.old cells.new rows.old rows.new result }
+    ensures { TreeRead t.now froms.at.position froms.at.line froms.at.rows froms.tables froms.rows cells.old cells.new
+        rows.old rows.new result }
 {
     let at = froms.at;
     let Some(h) = from_record(t, at.position) else {

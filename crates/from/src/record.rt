@@ -36,7 +36,8 @@ pub struct FromRecord {
 // The place of the n bytes at a, if they are a name.
 fn name_at(a: usize, n: usize) -> Option<Place>
     requires { (a ≤ 65536) × (n ≤ 65536) }
-    ensures { MatchOption result (is_name n ≡ false) (λ x. (is_name n ≡ true) × (x ≡ record { address = most_bytes + a; length = n })) }
+    ensures { MatchOption result (is_name n ≡ false) (λ x. (is_name n ≡ true) × (x
+        ≡ record { address = most_bytes + a; length = n })) }
 {
     if !text::is_name(n) {
         return None;

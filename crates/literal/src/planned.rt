@@ -8,7 +8,8 @@ use text::places::{Place, Texts};
 
 // By the kind and the numbers: of a struct's fields a proof does not know that they have 32 bits.
 fn cell(texts: &Texts, kind: LiteralKind, first: u32, second: u32) -> Literal
-    ensures { literal_numbers result ≡ value_numbers (literal_of kind texts.now.catalog.now texts.now.statement.now first second) }
+    ensures { literal_numbers result ≡ value_numbers (literal_of kind texts.now.catalog.now texts.now.statement.now first
+        second) }
 {
     match kind {
         LiteralKind::Null => Literal {

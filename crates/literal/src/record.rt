@@ -61,7 +61,8 @@ fn literal_by(t: &[u8], base: u32, k: usize, a: usize, n: usize) -> Option<Liter
 pub fn literal_at(t: &[u8], base: u32, p: usize, f: Line) -> Option<Literal>
     requires fact_1 { (length t.now ≤ most_bytes) × (p ≤ length t.now) × (base ≤ most_bytes) }
     requires fact_2 { Fields t.now p f }
-    ensures { (k : Text) (l c n : ℕ) → base_address k ≡ base → IsLiteral base t.now (one_of literals (line_here (place k t.now p l c n))) result }
+    ensures { (k : Text) (l c n : ℕ) → base_address k ≡ base → IsLiteral base t.now (one_of literals (line_here
+        (place k t.now p l c n))) result }
 {
     let n = f.count;
     let k = text::words::literal(t, f.starts[0], f.lens[0]);

@@ -94,7 +94,8 @@ pub fn clear(area: &mut [u32])
 // The plan of a statement of a kind: the cells and the nodes before a step, whose cells stand in the area, and behind the
 // nodes' numbers the own numbers up to place e.
 pub fn finish(area: &mut [u32], nodes: &[u32], kind: Kind, at: Step, e: usize)
-    requires { (plan_size ≤ length area.old) × (at.cell ≤ most_plan_cells) × (at.used ≤ e) × (e ≤ nodes_size) × (e ≤ length nodes.now) }
+    requires { (plan_size ≤ length area.old) × (at.cell ≤ most_plan_cells) × (at.used ≤ e) × (e ≤ nodes_size)
+        × (e ≤ length nodes.now) }
     ensures { area.new ≡ finished (statement_number kind) at.cell at.node at.used e nodes.now area.old }
 {
     let i = HEADER_SIZE + CELL_SIZE * (at.cell as usize);

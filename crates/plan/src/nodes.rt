@@ -92,7 +92,9 @@ pub fn head(nodes: &mut [u32], k: usize, kind: Kind, count: u32) -> usize
 // The rows of a table by its name; its alias; its filter's root.
 pub fn scan(nodes: &mut [u32], k: usize, name: Place, alias: Option<Place>, root: u32) -> usize
     requires { k + scan_size ≤ length nodes.old }
-    ensures { (t : Table) (w : Option Word) (x : Option ℕ) → span t.name ≡ place_numbers name → option_span w ≡ option_place alias → option_number x ≡ root → Appended (record_numbers (scan t w x)) k nodes.old result nodes.new }
+    ensures { (t : Table) (w : Option Word) (x : Option ℕ) → span t.name ≡ place_numbers name
+        → option_span w ≡ option_place alias → option_number x ≡ root
+        → Appended (record_numbers (scan t w x)) k nodes.old result nodes.new }
 {
     let i = head(nodes, k, Kind::Scan, SCAN_LENGTH);
     let j = place(nodes, i, Some(name));
@@ -112,7 +114,8 @@ pub fn empty_row(nodes: &mut [u32], k: usize) -> usize
 // A join of two nodes, with its predicate's root.
 pub fn join(nodes: &mut [u32], k: usize, left: u32, right: u32, outer: bool, root: u32) -> usize
     requires { k + join_size ≤ length nodes.old }
-    ensures { (x : Option ℕ) → option_number x ≡ root → Appended (record_numbers (join left right x outer)) k nodes.old result nodes.new }
+    ensures { (x : Option ℕ) → option_number x ≡ root → Appended (record_numbers
+        (join left right x outer)) k nodes.old result nodes.new }
 {
     let i = head(nodes, k, Kind::Join, JOIN_LENGTH);
     four(nodes, i, left, right, u32::from(outer), root)

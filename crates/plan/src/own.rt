@@ -31,14 +31,16 @@ fn named(nodes: &mut [u32], k: usize, name: Place, x: u32) -> usize
 
 pub fn drop(nodes: &mut [u32], k: usize, name: Place, exists: bool) -> usize
     requires { k + own_size ≤ length nodes.old }
-    ensures { (w : Word) → span w ≡ place_numbers name → Appended (own_numbers (plan.drop w exists)) k nodes.old result nodes.new }
+    ensures { (w : Word) → span w ≡ place_numbers name → Appended (own_numbers
+        (plan.drop w exists)) k nodes.old result nodes.new }
 {
     named(nodes, k, name, u32::from(exists))
 }
 
 pub fn delete(nodes: &mut [u32], k: usize, name: Place, key: u32) -> usize
     requires { k + own_size ≤ length nodes.old }
-    ensures { (t : Table) (p : Node ℕ) → span t.name ≡ place_numbers name → t.key ≡ key → Appended (own_numbers (delete t p)) k nodes.old result nodes.new }
+    ensures { (t : Table) (p : Node ℕ) → span t.name ≡ place_numbers name → t.key ≡ key
+        → Appended (own_numbers (delete t p)) k nodes.old result nodes.new }
 {
     named(nodes, k, name, key)
 }
@@ -46,14 +48,16 @@ pub fn delete(nodes: &mut [u32], k: usize, name: Place, key: u32) -> usize
 // INSERT: 0 for no column map, or one more than its length; then the map.
 pub fn insert(nodes: &mut [u32], k: usize, name: Place, columns: u32) -> usize
     requires { k + own_size ≤ length nodes.old }
-    ensures { (t : Table) → span t.name ≡ place_numbers name → Appended (inserting t columns []) k nodes.old result nodes.new }
+    ensures { (t : Table) → span t.name ≡ place_numbers name → Appended
+        (inserting t columns []) k nodes.old result nodes.new }
 {
     named(nodes, k, name, columns)
 }
 
 pub fn mapping(nodes: &mut [u32], k: usize, column: u32, value: u32) -> usize
     requires { k + mapping_size ≤ length nodes.old }
-    ensures { Appended (mapping_numbers (record { column = cindex column; value = vindex value })) k nodes.old result nodes.new }
+    ensures { Appended (mapping_numbers (record { column = cindex column; value = vindex value })) k nodes.old result
+        nodes.new }
 {
     pair(nodes, k, column, value)
 }
@@ -61,7 +65,8 @@ pub fn mapping(nodes: &mut [u32], k: usize, column: u32, value: u32) -> usize
 // UPDATE: the table, and how many sets there are; then each set's column and root.
 pub fn update(nodes: &mut [u32], k: usize, name: Place, key: u32, sets: u32) -> usize
     requires { k + own_head ≤ length nodes.old }
-    ensures { (t : Table) → span t.name ≡ place_numbers name → t.key ≡ key → Appended (updating t sets []) k nodes.old result nodes.new }
+    ensures { (t : Table) → span t.name ≡ place_numbers name → t.key ≡ key
+        → Appended (updating t sets []) k nodes.old result nodes.new }
 {
     four(nodes, k, name.address, name.length, key, sets)
 }
@@ -93,7 +98,9 @@ pub fn column(
     reference: Option<Place>,
 ) -> usize
     requires { k + column_size ≤ length nodes.old }
-    ensures { (c : Made) → span c.name ≡ place_numbers name → type_code c.type ≡ code → c.nullable ≡ nullable → c.unique ≡ unique → c.index ≡ index → option_span c.reference ≡ option_place reference → Appended (column_numbers c) k nodes.old result nodes.new }
+    ensures { (c : Made) → span c.name ≡ place_numbers name → type_code c.type ≡ code → c.nullable ≡ nullable
+        → c.unique ≡ unique → c.index ≡ index → option_span c.reference ≡ option_place reference
+        → Appended (column_numbers c) k nodes.old result nodes.new }
 {
     let i = four(
         nodes,
@@ -110,7 +117,8 @@ pub fn column(
 // A column's default: its numbers, all 0 for none.
 pub fn default_value(nodes: &mut [u32], k: usize, default: Option<Literal>) -> usize
     requires { k + cell_size ≤ length nodes.old }
-    ensures { (d : Option Value) → default_numbers d ≡ given_numbers default → Appended (default_numbers d) k nodes.old result nodes.new }
+    ensures { (d : Option Value) → default_numbers d ≡ given_numbers default
+        → Appended (default_numbers d) k nodes.old result nodes.new }
 {
     put_given(nodes, k, default);
     k + CELL_SIZE

@@ -55,7 +55,8 @@ pub fn begin(nodes: &mut [u32], k: usize, kind: Kind, source: u32) -> usize
 // An aggregate function, by its code, of an argument.
 pub fn function(nodes: &mut [u32], k: usize, code: u32, root: u32) -> usize
     requires { k + function_size ≤ length nodes.old }
-    ensures { (f : Aggregate) → aggregate_code f ≡ code → Appended (function_numbers ((f, root) ∷ [])) k nodes.old result nodes.new }
+    ensures { (f : Aggregate) → aggregate_code f ≡ code → Appended (function_numbers
+        ((f, root) ∷ [])) k nodes.old result nodes.new }
 {
     pair(nodes, k, code, root)
 }
@@ -63,7 +64,8 @@ pub fn function(nodes: &mut [u32], k: usize, code: u32, root: u32) -> usize
 // An item of a projection and its alias.
 pub fn item(nodes: &mut [u32], k: usize, root: u32, alias: Option<Place>) -> usize
     requires { k + item_size ≤ length nodes.old }
-    ensures { (w : Option Word) → option_span w ≡ option_place alias → Appended (item_numbers ((root, w) ∷ [])) k nodes.old result nodes.new }
+    ensures { (w : Option Word) → option_span w ≡ option_place alias → Appended (item_numbers
+        ((root, w) ∷ [])) k nodes.old result nodes.new }
 {
     let i = push(nodes, k, root);
     place(nodes, i, alias)

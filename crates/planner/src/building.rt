@@ -22,8 +22,17 @@ use statement::access::{Kind, from_rows, kind_of, line};
 use text::places::Texts;
 
 // By its kind, with room for the nodes of any statement.
-fn build_kind(texts: &Texts, tables: &[u32], cells: &mut [u32], froms: &[u32], parts: &[u32], area: &mut [u32], nodes: &mut [u32]) -> Result<u32, Refusal>
-    requires statement_ready { StatementReady texts.now.catalog.now texts.now.statement.now tables.now cells.old froms.now parts.now }
+fn build_kind(
+    texts: &Texts,
+    tables: &[u32],
+    cells: &mut [u32],
+    froms: &[u32],
+    parts: &[u32],
+    area: &mut [u32],
+    nodes: &mut [u32],
+) -> Result<u32, Refusal>
+    requires statement_ready { StatementReady texts.now.catalog.now texts.now.statement.now tables.now cells.old froms.now
+        parts.now }
     requires cells_len { length cells.old ≡ table_size }
     requires free { Free area.old nodes.old }
     ensures { Plans (build_statement
@@ -34,14 +43,49 @@ fn build_kind(texts: &Texts, tables: &[u32], cells: &mut [u32], froms: &[u32], p
     let kind = kind_of(parts);
     match kind {
         Kind::Select => build_select(texts, tables, cells, froms, parts, area, nodes),
-        Kind::Create => build_create_table(&Expressions { texts: *texts, table: cells }, parts, area, nodes),
+        Kind::Create => build_create_table(
+            &Expressions {
+                texts: *texts,
+                table: cells,
+            },
+            parts,
+            area,
+            nodes,
+        ),
         Kind::Drop => {
             build_drop_table(texts, parts, area, nodes);
             Ok(0)
         }
-        Kind::Delete => build_delete(&Expressions { texts: *texts, table: cells }, tables, parts, area, nodes),
-        Kind::Insert => build_insert(&Expressions { texts: *texts, table: cells }, tables, parts, area, nodes),
-        Kind::Update => build_update(&Expressions { texts: *texts, table: cells }, tables, parts, area, nodes),
+        Kind::Delete => build_delete(
+            &Expressions {
+                texts: *texts,
+                table: cells,
+            },
+            tables,
+            parts,
+            area,
+            nodes,
+        ),
+        Kind::Insert => build_insert(
+            &Expressions {
+                texts: *texts,
+                table: cells,
+            },
+            tables,
+            parts,
+            area,
+            nodes,
+        ),
+        Kind::Update => build_update(
+            &Expressions {
+                texts: *texts,
+                table: cells,
+            },
+            tables,
+            parts,
+            area,
+            nodes,
+        ),
         Kind::Other => Err(Refusal {
             reason: Reason::OtherStatement,
             line: line(parts),
@@ -66,8 +110,16 @@ fn has_one_table(parts: &[u32]) -> bool
 }
 
 // In as many numbers for its nodes as it may need: those of a SELECT over at most one table are few.
-pub fn build(texts: &Texts, tables: &[u32], cells: &mut [u32], froms: &[u32], parts: &[u32], area: &mut [u32]) -> Result<u32, Refusal>
-    requires statement_ready { StatementReady texts.now.catalog.now texts.now.statement.now tables.now cells.old froms.now parts.now }
+pub fn build(
+    texts: &Texts,
+    tables: &[u32],
+    cells: &mut [u32],
+    froms: &[u32],
+    parts: &[u32],
+    area: &mut [u32],
+) -> Result<u32, Refusal>
+    requires statement_ready { StatementReady texts.now.catalog.now texts.now.statement.now tables.now cells.old froms.now
+        parts.now }
     requires cells_len { (length cells.old ≡ table_size) × (least_area ≤ length area.old) }
     ensures { Plans (build_statement
         (catalog_at texts.now.catalog.now texts.now.statement.now tables.now)

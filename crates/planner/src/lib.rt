@@ -50,8 +50,16 @@ fn refuse(area: &mut [u32], number: u32, text: u32, line: u32) -> Outcome
 }
 
 // The plan of a statement that was read.
-fn plan_read(texts: &Texts, tables: &[u32], cells: &mut [u32; CELL_NUMBERS], froms: &[u32; FROM_NUMBERS], parts: &[u32; PART_NUMBERS], area: &mut [u32]) -> Outcome
-    requires statement_ready { StatementReady texts.now.catalog.now texts.now.statement.now tables.now cells.old froms.now parts.now }
+fn plan_read(
+    texts: &Texts,
+    tables: &[u32],
+    cells: &mut [u32; CELL_NUMBERS],
+    froms: &[u32; FROM_NUMBERS],
+    parts: &[u32; PART_NUMBERS],
+    area: &mut [u32],
+) -> Outcome
+    requires statement_ready { StatementReady texts.now.catalog.now texts.now.statement.now tables.now cells.old froms.now
+        parts.now }
     requires least_area_in_bounds { least_area ≤ length area.old }
     ensures { Answers (outcome area.old (build_statement
         (catalog_at texts.now.catalog.now texts.now.statement.now tables.now)

@@ -27,7 +27,8 @@ const MOST_WINDOWS: u32 = 65536;
 
 // The rules' listing of both texts from its byte `from` on, as `list_outcome` answers it.
 fn list(texts: &Texts, outcome: Outcome, area: &[u32], from: u32, out: &mut Window) -> Option<usize>
-    requires { shown texts.now.catalog.now texts.now.statement.now outcome area.now ≡ listing texts.now.catalog.now texts.now.statement.now }
+    requires { shown texts.now.catalog.now texts.now.statement.now outcome area.now
+        ≡ listing texts.now.catalog.now texts.now.statement.now }
     ensures { Holds (drop from (listing texts.now.catalog.now texts.now.statement.now)) out.new result }
 {
     list_outcome(texts, outcome, area, from, out)
@@ -41,7 +42,8 @@ fn print_window<W: Write>(
     area: &[u32],
     from: u32,
 ) -> io::Result<bool>
-    requires { shown texts.now.catalog.now texts.now.statement.now outcome area.now ≡ listing texts.now.catalog.now texts.now.statement.now }
+    requires { shown texts.now.catalog.now texts.now.statement.now outcome area.now
+        ≡ listing texts.now.catalog.now texts.now.statement.now }
     ensures { IfOk result (λ more. Appends (W.contents to.old) (W.contents to.new)
         (window_of more (drop from (listing texts.now.catalog.now texts.now.statement.now)))) }
 {
@@ -60,8 +62,10 @@ fn print_window<W: Write>(
 
 // Writes the listing, window after window.
 fn print<W: Write>(to: &mut W, texts: &Texts, outcome: Outcome, area: &[u32]) -> io::Result<()>
-    requires { shown texts.now.catalog.now texts.now.statement.now outcome area.now ≡ listing texts.now.catalog.now texts.now.statement.now }
-    ensures { OnOk result (Appends (W.contents to.old) (W.contents to.new) (listing texts.now.catalog.now texts.now.statement.now)) }
+    requires { shown texts.now.catalog.now texts.now.statement.now outcome area.now
+        ≡ listing texts.now.catalog.now texts.now.statement.now }
+    ensures { OnOk result (Appends (W.contents to.old) (W.contents to.new)
+        (listing texts.now.catalog.now texts.now.statement.now)) }
 {
     for k in 0..MOST_WINDOWS {
         if !print_window(to, texts, outcome, area, k * 65536)? {

@@ -31,7 +31,8 @@ pub struct Cursor {
 // The row c of a record: what it says, its line, and how many rows its tree has.
 pub fn put_row(cells: &mut [u32], c: u32, line: u32, rows: u32, h: Row)
     requires { (c < statement_rows + starred_rows) × (length cells.old ≡ table_size) }
-    ensures { cells.new ≡ sets cells.old (row_size * c) (number_of h.kind ∷ line ∷ rows ∷ h.code ∷ h.a ∷ h.b ∷ h.c ∷ h.d ∷ []) }
+    ensures { cells.new ≡ sets cells.old (row_size * c) (number_of h.kind ∷ line ∷ rows ∷ h.code ∷ h.a ∷ h.b ∷ h.c ∷ h.d ∷
+        []) }
 {
     let i = ROW_SIZE * c as usize;
     cells[i] = h.kind as u32;
@@ -48,7 +49,8 @@ pub fn put_row(cells: &mut [u32], c: u32, line: u32, rows: u32, h: Row)
 fn read_is(t: &[u8], at: Cursor, c: u32, line: u32, cells: &mut [u32]) -> Result<Cursor, Refusal>
     requires fact_1 { Position t.now at.position at.line at.rows }
     requires fact_2 { (c < at.rows) × (length cells.old ≡ table_size) }
-    ensures { (k : ℕ) → Given literal_here (IsRow t.now c at.rows line cells.old cells.new) t.now at.position at.line at.rows k result }
+    ensures { (k : ℕ) → Given literal_here (IsRow t.now c at.rows line cells.old cells.new) t.now at.position at.line
+        at.rows k result }
 {
     let f = text::fields(t, at.position);
     let Some(v) = literal_at(t, MOST_BYTES, at.position, f) else {
@@ -80,8 +82,10 @@ fn read_times(
     n: u32,
     cells: &mut [u32],
 ) -> Result<Cursor, Refusal>
-    requires { (Position t.now at.position at.line at.rows) × ((depth ≤ 32) × (n ≤ most_cells + 1) × (length cells.old ≡ table_size)) }
-    ensures { (k : ℕ) → Given (times n (deep depth)) (Rows t.now at.rows cells.old cells.new) t.now at.position at.line at.rows k result }
+    requires { (Position t.now at.position at.line at.rows) × ((depth ≤ 32) × (n ≤ most_cells + 1) × (length cells.old
+        ≡ table_size)) }
+    ensures { (k : ℕ) → Given (times n (deep depth)) (Rows t.now at.rows cells.old cells.new) t.now at.position at.line
+        at.rows k result }
 {
     let mut behind = at;
     for _ in 0..n {
@@ -94,7 +98,8 @@ fn read_times(
 #[cycle(read_deep_read_times)]
 fn read_deep(t: &[u8], at: Cursor, depth: u32, cells: &mut [u32]) -> Result<Cursor, Refusal>
     requires { (Position t.now at.position at.line at.rows) × ((depth ≤ 32) × (length cells.old ≡ table_size)) }
-    ensures { (k : ℕ) → Given (deep depth) (λ c' e. Rows t.now at.rows cells.old cells.new c' (cons e nil)) t.now at.position at.line at.rows k result }
+    ensures { (k : ℕ) → Given (deep depth) (λ c' e. Rows t.now at.rows cells.old cells.new c'
+        (cons e nil)) t.now at.position at.line at.rows k result }
 {
     let f = text::fields(t, at.position);
     let Some(h) = head(t, at.position, f) else {
@@ -129,7 +134,8 @@ fn read_deep(t: &[u8], at: Cursor, depth: u32, cells: &mut [u32]) -> Result<Curs
 pub fn read_expressions(t: &[u8], at: Cursor, n: u32, cells: &mut [u32]) -> Result<Cursor, Refusal>
     requires fact_1 { Position t.now at.position at.line at.rows }
     requires fact_2 { (n ≤ most_cells + 1) × (length cells.old ≡ table_size) }
-    ensures { (k : ℕ) → Given (times n expression) (Rows t.now at.rows cells.old cells.new) t.now at.position at.line at.rows k result }
+    ensures { (k : ℕ) → Given (times n expression) (Rows t.now at.rows cells.old cells.new) t.now at.position at.line
+        at.rows k result }
 {
     read_times(t, at, DEPTH, n, cells)
 }

@@ -22,7 +22,8 @@ mod line; // line.rt: the line that is printed
 // The line to print of two texts, at the start of `out`; `tables` has enough numbers for the catalog.
 fn answer_with(texts: &Texts, tables: &mut [u32], out: &mut [u8; 64]) -> usize
     requires { numbers_for (length texts.now.catalog.now) ≤ length tables.old }
-    ensures { IsPrefixLen result out.new × (take result out.new ≡ printed (read_texts texts.now.catalog.now texts.now.statement.now)) }
+    ensures { IsPrefixLen result out.new × (take result out.new ≡ printed
+        (read_texts texts.now.catalog.now texts.now.statement.now)) }
 {
     let mut cells = [0u32; CELL_NUMBERS];
     let mut froms = [0u32; FROM_NUMBERS];
@@ -40,7 +41,8 @@ fn answer_with(texts: &Texts, tables: &mut [u32], out: &mut [u8; 64]) -> usize
 
 // The line to print of two texts, at the start of `out`.
 fn answer(texts: &Texts, out: &mut [u8; 64]) -> usize
-    ensures { IsPrefixLen result out.new × (take result out.new ≡ printed (read_texts texts.now.catalog.now texts.now.statement.now)) }
+    ensures { IsPrefixLen result out.new × (take result out.new ≡ printed
+        (read_texts texts.now.catalog.now texts.now.statement.now)) }
 {
     if numbers_for(texts.catalog.len()) <= SMALL_NUMBERS {
         let mut tables = [0u32; SMALL_NUMBERS];

@@ -66,7 +66,12 @@ pub extern "C" fn reader_read_texts(
     parts: &mut [u32; PART_NUMBERS],
 ) -> Answer
     ensures value { result ≡ answer_of (read_texts catalog.now statement.now) }
-    ensures parts_after { (x : Catalog × Statement) → read_texts catalog.now statement.now ≡ rules.ok x → (catalog_at catalog.now statement.now tables.new, statement_at catalog.now statement.now cells.new froms.new parts.new) ≡ x }
+    ensures parts_after { (x : Catalog × Statement) → read_texts catalog.now statement.now ≡ rules.ok x
+        → (
+          catalog_at catalog.now statement.now tables.new,
+          statement_at catalog.now statement.now cells.new froms.new
+              parts.new,
+        ) ≡ x }
 {
     answered(reader::read_texts(catalog, statement, tables, cells, froms, parts))
 }

@@ -31,7 +31,9 @@ const COLUMN_SIZE: usize = 8;
 
 // The position of the table of the name at a place.
 pub fn get_table(texts: &Texts, tables: &[u32], name: Place) -> Option<u32>
-    ensures { found_table texts.now.catalog.now texts.now.statement.now tables.now result ≡ table_from 0 (catalog_at texts.now.catalog.now texts.now.statement.now tables.now) (bytes_at texts.now.catalog.now texts.now.statement.now name.address name.length) }
+    ensures { found_table texts.now.catalog.now texts.now.statement.now tables.now result
+        ≡ table_from 0 (catalog_at texts.now.catalog.now texts.now.statement.now tables.now)
+        (bytes_at texts.now.catalog.now texts.now.statement.now name.address name.length) }
 {
     let count = number(tables, 0);
     for i in 0..count {
@@ -49,7 +51,8 @@ pub fn get_table(texts: &Texts, tables: &[u32], name: Place) -> Option<u32>
 
 // The position of the first column of a name in the i-th table.
 pub fn column_at(texts: &Texts, tables: &[u32], i: u32, name: Place) -> Option<u32>
-    ensures { found_of result ≡ column_at 0 (table_at texts.now.catalog.now texts.now.statement.now tables.now i).columns (bytes_at texts.now.catalog.now texts.now.statement.now name.address name.length) }
+    ensures { found_of result ≡ column_at 0 (table_at texts.now.catalog.now texts.now.statement.now tables.now i).columns
+        (bytes_at texts.now.catalog.now texts.now.statement.now name.address name.length) }
 {
     let t = TABLES + TABLE_SIZE * (i as usize);
     let first = number(tables, t + 3) as usize;

@@ -69,7 +69,8 @@ pub fn column_record(catalog: &[u8], at: usize, line: u32) -> Result<Option<Colu
 
 // Whether one of the first n tables has the name at a place.
 fn is_taken(catalog: &[u8], tables: &[u32], n: u32, name: Place) -> bool
-    ensures { result ≡ any (same (bytes_at catalog.now catalog.now name.address name.length)) (names catalog.now tables.now n) }
+    ensures { result ≡ any (same (bytes_at catalog.now catalog.now name.address name.length))
+        (names catalog.now tables.now n) }
 {
     let texts = Texts {
         catalog: catalog,
@@ -122,7 +123,8 @@ pub fn table_record(catalog: &[u8], tables: &[u32], n: u32, at: usize) -> Option
 pub fn default_record(catalog: &[u8], at: usize, f: Line) -> Option<Option<Literal>>
     requires fact_1 { Position catalog.now at }
     requires fact_2 { Fields catalog.now at f }
-    ensures { (q : Bytes) (l : ℕ) → default_said catalog.now q result ≡ one_of (default_records literals) (line_here (here catalog.now at l)) }
+    ensures { (q : Bytes) (l : ℕ) → default_said catalog.now q result
+        ≡ one_of (default_records literals) (line_here (here catalog.now at l)) }
 {
     if text::holds(catalog, f.starts[0], f.lens[0], b"nodefault") {
         if f.count != 1 {

@@ -182,7 +182,8 @@ impl Scope {
 
     // A projection over groups and aggregates: its columns by their labels, the first of equal items matched to its row.
     pub fn project_items(mut self, exprs: &Expressions, labels: &[u32], rows: &[usize]) -> Scope
-        requires { ItemsFit exprs.now.texts.catalog.now exprs.now.texts.statement.now exprs.now.table.now self labels.now rows.now }
+        requires { ItemsFit exprs.now.texts.catalog.now exprs.now.texts.statement.now exprs.now.table.now self labels.now
+            rows.now }
         ensures { ItemsProjected exprs.now.texts.catalog.now exprs.now.texts.statement.now exprs.now.table.now self
             labels.now rows.now result }
     {

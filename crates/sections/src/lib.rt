@@ -94,7 +94,8 @@ fn read_entry(
     parts: &mut [u32],
 ) -> Result<Option<EntryEnd>, Refusal>
     requires { EntryReady t.now at.position at.line at.rows (number_of kind) n cells.old parts.old }
-    ensures { (k : ℕ) → EntryRead t.now at.position at.line at.rows (number_of kind) n last len cells.old cells.new parts.old parts.new k result }
+    ensures { (k : ℕ) → EntryRead t.now at.position at.line at.rows (number_of kind) n last len cells.old cells.new
+        parts.old parts.new k result }
 {
     let f = text::fields(t, at.position);
     let Some(h) = entry_head(t, at, f, kind, last, len)? else {
@@ -129,7 +130,8 @@ pub fn read_section(
 ) -> Result<Cursor, Refusal>
     requires fact_1 { Position t.now at.position at.line at.rows }
     requires fact_2 { (length cells.old ≡ table_size) × (length parts.old ≡ 3863) }
-    ensures { (k : ℕ) → Given (section (number_of kind)) (SectionRead t.now (number_of kind) at.rows cells.old cells.new parts.old parts.new) t.now at.position at.line at.rows k result }
+    ensures { (k : ℕ) → Given (section (number_of kind)) (SectionRead t.now
+        (number_of kind) at.rows cells.old cells.new parts.old parts.new) t.now at.position at.line at.rows k result }
 {
     let once = is_once(kind);
     let start = room_of(kind).start;
@@ -161,7 +163,8 @@ pub fn read_some(
 ) -> Result<Cursor, Refusal>
     requires fact_1 { Position t.now at.position at.line at.rows }
     requires fact_2 { (length cells.old ≡ table_size) × (length parts.old ≡ 3863) }
-    ensures { (k : ℕ) → Given (some_section (number_of kind)) (SectionRead t.now (number_of kind) at.rows cells.old cells.new parts.old parts.new) t.now at.position at.line at.rows k result }
+    ensures { (k : ℕ) → Given (some_section (number_of kind)) (SectionRead t.now
+        (number_of kind) at.rows cells.old cells.new parts.old parts.new) t.now at.position at.line at.rows k result }
 {
     let behind = read_section(t, at, kind, cells, parts)?;
     let start = room_of(kind).start;

@@ -42,7 +42,8 @@ fn read_clauses(
     parts: &mut [u32],
 ) -> Result<Cursor, Refusal>
     requires { (Position t.now at.position at.line at.rows) × (length cells.old ≡ table_size) × (length parts.old ≡ 3863) }
-    ensures { (k : ℕ) → Given (run 1 6) (RunRead t.now 1 6 at.rows cells.old cells.new parts.old parts.new) t.now at.position at.line at.rows k result }
+    ensures { (k : ℕ) → Given (run 1 6) (RunRead t.now 1 6 at.rows cells.old cells.new parts.old parts.new) t.now
+        at.position at.line at.rows k result }
 {
     let mut behind = at;
     for clause in CLAUSES {
@@ -79,7 +80,9 @@ fn read_select(
 fn read_names(t: &[u8], at: Cursor, cells: &mut [u32], parts: &mut [u32]) -> Result<Cursor, Refusal>
     requires fact_1 { Position t.now at.position at.line at.rows }
     requires fact_2 { (length cells.old ≡ table_size) × (length parts.old ≡ 3863) }
-    ensures { (cs : List Entry) (k : ℕ) → ((b : Bytes) → section_at b t.now cells.old parts.old 7 ≡ cs) → Given (names_behind cs) (NamesRead t.now cs at.rows cells.old cells.new parts.old parts.new) t.now at.position at.line at.rows k result }
+    ensures { (cs : List Entry) (k : ℕ) → ((b : Bytes) → section_at b t.now cells.old parts.old 7 ≡ cs)
+        → Given (names_behind cs) (NamesRead t.now cs at.rows cells.old cells.new parts.old parts.new) t.now at.position
+        at.line at.rows k result }
 {
     if parts[COLUMNS_COUNT] == 0 {
         return Ok(at);
@@ -129,7 +132,8 @@ pub fn read_body(
 ) -> Result<Cursor, Refusal>
     requires fact_1 { Position t.now p 2 0 }
     requires fact_2 { Room cells.old froms.old parts.old }
-    ensures { (n : Word) (y : Bool) → BodyRead t.now (head_of (number_of kind) n y) p cells.new froms.new parts.old parts.new result }
+    ensures { (n : Word) (y : Bool) → BodyRead t.now (head_of (number_of kind) n y) p cells.new froms.new parts.old
+        parts.new result }
 {
     let at = Cursor {
         position: p,

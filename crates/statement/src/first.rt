@@ -62,7 +62,8 @@ fn named(t: &[u8], k: usize, a: usize, n: usize) -> Option<First>
 // A `drop`: a name, and yes or no.
 fn dropped(t: &[u8], a: usize, n: usize, b: usize, m: usize) -> Option<First>
     requires { Inside t.now a n }
-    ensures { (c : Bytes) → first_said c t.now result ≡ apply (nth statement_heads 5) (field most_bytes t.now a n ∷ field most_bytes t.now b m ∷ []) }
+    ensures { (c : Bytes) → first_said c t.now result ≡ apply (nth statement_heads 5)
+        (field most_bytes t.now a n ∷ field most_bytes t.now b m ∷ []) }
 {
     if !text::is_name(n) {
         return None;

@@ -66,7 +66,8 @@ fn read_behind(
 ) -> Result<Cursor, Refusal>
     requires fact_1 { Position t.now p 2 0 }
     requires fact_2 { Room cells.old froms.old parts.old }
-    ensures { (n : Word) (y : Bool) → WholeRead t.now (head_of (number_of kind) n y) p cells.new froms.new parts.old parts.new result }
+    ensures { (n : Word) (y : Bool) → WholeRead t.now (head_of (number_of kind) n y) p cells.new froms.new parts.old
+        parts.new result }
 {
     let behind = read_body(t, p, kind, cells, froms, parts)?;
     read_end(t, behind)
@@ -79,7 +80,10 @@ pub fn read_statement(
     froms: &mut [u32; FROM_NUMBERS],
     parts: &mut [u32; PART_NUMBERS],
 ) -> Result<u32, Refusal>
-    ensures { ((b : Bytes) → statement_of b statement.now cells.new froms.new parts.new result ≡ statement_answer statement.now) × ((b : Bytes) → Counts (statement_size (statement_at b statement.now cells.new froms.new parts.new)) result) × SelectStays statement.now cells.new parts.new result }
+    ensures { ((b : Bytes) → statement_of b statement.now cells.new froms.new parts.new result
+        ≡ statement_answer statement.now) × ((b : Bytes) → Counts (statement_size
+        (statement_at b statement.now cells.new froms.new parts.new)) result)
+        × SelectStays statement.now cells.new parts.new result }
 {
     if (text::MOST_BYTES as usize) < statement.len() {
         return Err(Reason::LimitPassed.at(0));

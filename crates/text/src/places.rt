@@ -58,14 +58,16 @@ impl<'t> Texts<'t> {
 
     // Whether those at two places are the same.
     pub fn same_bytes(&self, a: Place, b: Place) -> bool
-        ensures { result ≡ same (bytes_at self.now.catalog.now self.now.statement.now a.address a.length) (bytes_at self.now.catalog.now self.now.statement.now b.address b.length) }
+        ensures { result ≡ same (bytes_at self.now.catalog.now self.now.statement.now a.address a.length)
+            (bytes_at self.now.catalog.now self.now.statement.now b.address b.length) }
     {
         equal(self.bytes_at(a), self.bytes_at(b))
     }
 
     // The order of those at two places.
     pub fn order_texts(&self, a: Place, b: Place) -> Ordering
-        ensures { result ≡ order_of (bytes_at self.now.catalog.now self.now.statement.now a.address a.length) (bytes_at self.now.catalog.now self.now.statement.now b.address b.length) }
+        ensures { result ≡ order_of (bytes_at self.now.catalog.now self.now.statement.now a.address a.length)
+            (bytes_at self.now.catalog.now self.now.statement.now b.address b.length) }
     {
         compare(self.bytes_at(a), self.bytes_at(b))
     }

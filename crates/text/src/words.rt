@@ -131,7 +131,8 @@ pub fn nullable(t: &[u8], a: usize, n: usize) -> usize
 
 // Which keyword of a statement's part the n bytes at a are: its number in the table, or how many there are.
 pub fn part(t: &[u8], a: usize, n: usize) -> usize
-    ensures { result ≡ find (words_of (bytes "item where group having order offset limit columns name row set column ")) (take n (drop a t.now)) }
+    ensures { result ≡ find (words_of (bytes "item where group having order offset limit columns name row set column "))
+        (take n (drop a t.now)) }
 {
     place_in(
         &[

@@ -27,7 +27,8 @@ pub enum Compared {
 }
 
 pub fn compare(texts: &Texts, a: Value, b: Value) -> Compared
-    ensures { compared_of result ≡ order.compare (value_of texts.now.catalog.now texts.now.statement.now a) (value_of texts.now.catalog.now texts.now.statement.now b) }
+    ensures { compared_of result ≡ order.compare (value_of texts.now.catalog.now texts.now.statement.now a)
+        (value_of texts.now.catalog.now texts.now.statement.now b) }
 {
     match (a, b) {
         (Value::Null, _) | (_, Value::Null) => Compared::Unknown,
@@ -60,7 +61,8 @@ pub fn compare(texts: &Texts, a: Value, b: Value) -> Compared
 // What a comparison gives that holds in the orders of the test.
 fn holds<F: FnOnce(Option<Ordering>) -> bool>(k: Compared, test: F) -> Result<Value, Reason>
     requires { F.IsAlwaysCallable test }
-    ensures { (t : order.Order → Bool) (c q : Bytes) → Tests (F.post test) t → worked_of c q result ≡ compared t (compared_of k) }
+    ensures { (t : order.Order → Bool) (c q : Bytes) → Tests (F.post test) t
+        → worked_of c q result ≡ compared t (compared_of k) }
 {
     match k {
         Compared::Ordered(o) => Ok(Value::Bool(test(o))),
@@ -70,37 +72,49 @@ fn holds<F: FnOnce(Option<Ordering>) -> bool>(k: Compared, test: F) -> Result<Va
 }
 
 pub fn eq(texts: &Texts, a: Value, b: Value) -> Result<Value, Reason>
-    ensures { worked_of texts.now.catalog.now texts.now.statement.now result ≡ binary_of (ast.plain ast.eq) (value_of texts.now.catalog.now texts.now.statement.now a) (value_of texts.now.catalog.now texts.now.statement.now b) }
+    ensures { worked_of texts.now.catalog.now texts.now.statement.now result
+        ≡ binary_of (ast.plain ast.eq) (value_of texts.now.catalog.now texts.now.statement.now a)
+        (value_of texts.now.catalog.now texts.now.statement.now b) }
 {
     holds(compare(texts, a, b), |o| o == Some(Ordering::Equal))
 }
 
 pub fn gt(texts: &Texts, a: Value, b: Value) -> Result<Value, Reason>
-    ensures { worked_of texts.now.catalog.now texts.now.statement.now result ≡ binary_of (ast.plain ast.gt) (value_of texts.now.catalog.now texts.now.statement.now a) (value_of texts.now.catalog.now texts.now.statement.now b) }
+    ensures { worked_of texts.now.catalog.now texts.now.statement.now result
+        ≡ binary_of (ast.plain ast.gt) (value_of texts.now.catalog.now texts.now.statement.now a)
+        (value_of texts.now.catalog.now texts.now.statement.now b) }
 {
     holds(compare(texts, a, b), |o| o == Some(Ordering::Greater))
 }
 
 pub fn lt(texts: &Texts, a: Value, b: Value) -> Result<Value, Reason>
-    ensures { worked_of texts.now.catalog.now texts.now.statement.now result ≡ binary_of (ast.plain ast.lt) (value_of texts.now.catalog.now texts.now.statement.now a) (value_of texts.now.catalog.now texts.now.statement.now b) }
+    ensures { worked_of texts.now.catalog.now texts.now.statement.now result
+        ≡ binary_of (ast.plain ast.lt) (value_of texts.now.catalog.now texts.now.statement.now a)
+        (value_of texts.now.catalog.now texts.now.statement.now b) }
 {
     holds(compare(texts, a, b), |o| o == Some(Ordering::Less))
 }
 
 pub fn ge(texts: &Texts, a: Value, b: Value) -> Result<Value, Reason>
-    ensures { worked_of texts.now.catalog.now texts.now.statement.now result ≡ binary_of ast.ge (value_of texts.now.catalog.now texts.now.statement.now a) (value_of texts.now.catalog.now texts.now.statement.now b) }
+    ensures { worked_of texts.now.catalog.now texts.now.statement.now result
+        ≡ binary_of ast.ge (value_of texts.now.catalog.now texts.now.statement.now a)
+        (value_of texts.now.catalog.now texts.now.statement.now b) }
 {
     holds(compare(texts, a, b), |o| o.is_some_and(Ordering::is_ge))
 }
 
 pub fn le(texts: &Texts, a: Value, b: Value) -> Result<Value, Reason>
-    ensures { worked_of texts.now.catalog.now texts.now.statement.now result ≡ binary_of ast.le (value_of texts.now.catalog.now texts.now.statement.now a) (value_of texts.now.catalog.now texts.now.statement.now b) }
+    ensures { worked_of texts.now.catalog.now texts.now.statement.now result
+        ≡ binary_of ast.le (value_of texts.now.catalog.now texts.now.statement.now a)
+        (value_of texts.now.catalog.now texts.now.statement.now b) }
 {
     holds(compare(texts, a, b), |o| o.is_some_and(Ordering::is_le))
 }
 
 pub fn ne(texts: &Texts, a: Value, b: Value) -> Result<Value, Reason>
-    ensures { worked_of texts.now.catalog.now texts.now.statement.now result ≡ binary_of ast.ne (value_of texts.now.catalog.now texts.now.statement.now a) (value_of texts.now.catalog.now texts.now.statement.now b) }
+    ensures { worked_of texts.now.catalog.now texts.now.statement.now result
+        ≡ binary_of ast.ne (value_of texts.now.catalog.now texts.now.statement.now a)
+        (value_of texts.now.catalog.now texts.now.statement.now b) }
 {
     holds(compare(texts, a, b), |o| o != Some(Ordering::Equal))
 }

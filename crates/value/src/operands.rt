@@ -17,7 +17,8 @@ where
     F: FnOnce(f64) -> Result<f64, Reason>,
     requires ints { I.IsAlwaysCallable on_int }
     requires floats { F.IsAlwaysCallable on_float }
-    ensures { (i : ℤ → Worked) (f : Float → Worked) (c q : Bytes) → GivesInt (I.post on_int) i → GivesFloat (F.post on_float) f → worked_of c q result ≡ number_of i f (value_of c q a) }
+    ensures { (i : ℤ → Worked) (f : Float → Worked) (c q : Bytes) → GivesInt (I.post on_int) i
+        → GivesFloat (F.post on_float) f → worked_of c q result ≡ number_of i f (value_of c q a) }
 {
     match a {
         Value::Null => Ok(Value::Null),
@@ -34,7 +35,9 @@ where
     F: FnOnce(f64, f64) -> Result<f64, Reason>,
     requires ints { I.IsAlwaysCallable on_ints }
     requires floats { F.IsAlwaysCallable on_floats }
-    ensures { (i : ℤ → ℤ → Worked) (f : Float → Float → Worked) (c q : Bytes) → GivesInts (I.post on_ints) i → GivesFloats (F.post on_floats) f → worked_of c q result ≡ rule.arithmetic i f (rule.numbers (value_of c q a) (value_of c q b)) }
+    ensures { (i : ℤ → ℤ → Worked) (f : Float → Float → Worked) (c q : Bytes) → GivesInts (I.post on_ints) i
+        → GivesFloats (F.post on_floats) f → worked_of c q result ≡ rule.arithmetic i f (rule.numbers (value_of c q a)
+        (value_of c q b)) }
 {
     match (a, b) {
         (Value::Int(x), Value::Int(y)) => on_ints(x, y).map(Value::Int),

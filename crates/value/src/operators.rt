@@ -26,7 +26,9 @@ pub fn unary(operator: Unary, a: Value) -> Result<Value, Reason>
 // Each operand is worked out once, before: `>=`, `<=` and `!=` are one comparison.
 #[tactic(auto, unfolding(numbers::specs::Operators::binary_operator, rules::specs::Operators::binary_of))]
 pub fn binary(texts: &Texts, operator: Binary, a: Value, b: Value) -> Result<Value, Reason>
-    ensures { worked_of texts.now.catalog.now texts.now.statement.now result ≡ binary_of (binary_operator operator) (value_of texts.now.catalog.now texts.now.statement.now a) (value_of texts.now.catalog.now texts.now.statement.now b) }
+    ensures { worked_of texts.now.catalog.now texts.now.statement.now result
+        ≡ binary_of (binary_operator operator) (value_of texts.now.catalog.now texts.now.statement.now a)
+        (value_of texts.now.catalog.now texts.now.statement.now b) }
 {
     match operator {
         Binary::And => logic::and(a, b),

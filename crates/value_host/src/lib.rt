@@ -103,7 +103,9 @@ fn unary(op: u32, a: Value) -> Result<Value, Reason>
 }
 
 fn binary(texts: &Texts, op: u32, a: Value, b: Value) -> Result<Value, Reason>
-    ensures { worked_of texts.now.catalog.now texts.now.statement.now result ≡ binary_worked op (value_of texts.now.catalog.now texts.now.statement.now a) (value_of texts.now.catalog.now texts.now.statement.now b) }
+    ensures { worked_of texts.now.catalog.now texts.now.statement.now result
+        ≡ binary_worked op (value_of texts.now.catalog.now texts.now.statement.now a)
+        (value_of texts.now.catalog.now texts.now.statement.now b) }
 {
     let Ok(operator) = Binary::try_from(op) else {
         return Err(Reason::NotWorkedOut);
@@ -129,7 +131,8 @@ pub extern "C" fn value_binary(
     l: u32,
     n: u64,
 ) -> Answer
-    ensures { result ≡ answer_of (binary_worked op (value_by catalog.now statement.now k m) (value_by catalog.now statement.now l n)) }
+    ensures { result ≡ answer_of (binary_worked op (value_by catalog.now statement.now k m)
+        (value_by catalog.now statement.now l n)) }
 {
     let a = value_at(k, m);
     let b = value_at(l, n);

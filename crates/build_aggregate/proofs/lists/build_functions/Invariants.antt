@@ -1,6 +1,6 @@
 -- `lists::build_functions`: row by row.
 use Prim.Native.Nat.{◌+◌, ◌*◌, ◌≤◌}
-use lib.ListN.{length, take}
+use lib.ListN.{length}
 use Rattle.ast.specs.Table.{tree_at}
 use Rattle.plan.specs.Layout.{function_size}
 use Rattle.build_aggregate.specs.Entries.{RowLoop}

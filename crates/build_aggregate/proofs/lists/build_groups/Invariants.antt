@@ -1,6 +1,6 @@
 -- `lists::build_groups`: row by row.
 use Prim.Native.Nat.{◌+◌, ◌≤◌}
-use lib.ListN.{length, take}
+use lib.ListN.{length}
 use Rattle.ast.specs.Table.{tree_at}
 use Rattle.build_aggregate.specs.Entries.{RowLoop}
 use Rattle.build_aggregate.specs.Kinds.{groups_listing}

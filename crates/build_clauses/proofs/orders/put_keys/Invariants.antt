@@ -1,6 +1,5 @@
 -- `orders::put_keys`: the cells and parts of the keys so far, and the keys that are left.
 use Rattle.build_clauses.specs.Keys.{Putting}
-use lib.ListN.{take}
 use Rattle.build_clauses.proofs.orders.put_keys.Given as goal
 
 abbrev pub invariant-loop-i : goal.invariant-loop-i

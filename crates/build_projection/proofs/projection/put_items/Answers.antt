@@ -2,7 +2,7 @@
 use Rattle.std.proofs.lemmas.Result.{err_from_is_err_and}
 use native.Mathlib.Omega.{arith}
 use mathlib.Core.Path.{refl, sym, ◌∙◌}
-use lib.ListN.{take, length-map}
+use lib.ListN.{length-map}
 use Rattle.numbers.specs.Kept.{kept-all, kept-part}
 use Rattle.scope.specs.Copies.{copying-begin, copying-map, stored}
 use Rattle.build_projection.specs.Labels.{label_number, stands-put}

@@ -1,6 +1,5 @@
 -- `projection::put_items`: the cells, parts and labels of the items so far, and the items that are left.
 use mathlib.Core.List.{[], map}
-use lib.ListN.{take}
 use Rattle.rules.specs.Limits.{most_columns}
 use Rattle.numbers.specs.Kept.{Kept}
 use Rattle.scope.specs.Copies.{Copying}

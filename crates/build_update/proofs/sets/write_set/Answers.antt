@@ -1,6 +1,5 @@
 -- `sets::write_set`: its column, its value and its numbers.
 use Rattle.plan.specs.Emits.{exit}
-use lib.ListN.{take}
 use Rattle.schema.specs.Layout.{table_at}
 use Rattle.build_update.specs.Writes.{set-unfound, set-refused, set-root, set-written}
 use Rattle.build_update.proofs.sets.write_set.Goals as goal

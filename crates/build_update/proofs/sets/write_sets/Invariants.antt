@@ -1,6 +1,5 @@
 -- `sets::write_sets`: the sets so far.
 use Prim.Native.Nat.{ℕ}
-use lib.ListN.{take}
 use Rattle.schema.specs.Layout.{table_at}
 use Rattle.build_expression.specs.Builds.{scope_at}
 use Rattle.build_update.specs.SoFar.{sets_at, SoFar}

@@ -1,7 +1,6 @@
 -- `update::end_update`: the scan, the sets and the end.
 use Rattle.plan.specs.Emits.{exit}
 use mathlib.Core.Path.{sym, ◌∙◌}
-use lib.ListN.{take}
 use Rattle.schema.specs.Layout.{table_at}
 use Rattle.build_expression.specs.Builds.{scope_at}
 use Rattle.build_update.specs.SoFar.{sets-length}
