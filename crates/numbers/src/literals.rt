@@ -19,13 +19,15 @@ pub enum LiteralKind {
     Text,
 }
 
-impl LiteralKind {
-    pub fn number(self) -> u32
-        ensures { result ≡ kind_number self }
-    {
-        self as u32
-    }
+impl From<LiteralKind> for u32 {
+    ghost from_gives = { λ kind number. number ≡ kind_number kind };
 
+    fn from(kind: LiteralKind) -> u32 {
+        kind as u32
+    }
+}
+
+impl LiteralKind {
     // The kind of a number; a null's where it is none's, which From would not say.
     #[tactic(auto, unfolding(crate::specs::Literals::kind_at, crate::specs::Codes::coded))]
     pub fn of_number(n: u32) -> LiteralKind
@@ -70,7 +72,7 @@ pub fn put_given(s: &mut [u32], i: usize, literal: Option<Literal>)
 {
     match literal {
         None => put_four(s, i, 0, 0, 0, 0),
-        Some(x) => put_four(s, i, x.kind.number(), x.first, x.second, 0),
+        Some(x) => put_four(s, i, u32::from(x.kind), x.first, x.second, 0),
     }
 }
 

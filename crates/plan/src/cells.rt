@@ -49,7 +49,7 @@ pub fn constant(texts: &Texts, area: &mut [u32], n: u32, literal: Literal)
         area.old area.new }
 {
     let x = in_plan(texts, literal);
-    put_cell(area, n, x.kind.number(), x.first, x.second, 0);
+    put_cell(area, n, u32::from(x.kind), x.first, x.second, 0);
 }
 
 // `is` with a NaN, its bits kept.

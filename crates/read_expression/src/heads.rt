@@ -162,7 +162,7 @@ fn literal_row(literal: Option<Literal>) -> Option<Row>
     let v = literal?;
     Some(Row {
         kind: Kind::Literal,
-        code: v.kind.number(),
+        code: u32::from(v.kind),
         a: v.first,
         b: v.second,
         c: 0,

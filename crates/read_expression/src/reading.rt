@@ -58,7 +58,7 @@ fn read_is(t: &[u8], at: Cursor, c: u32, line: u32, cells: &mut [u32]) -> Result
     };
     let h = Row {
         kind: Kind::Is,
-        code: v.kind.number(),
+        code: u32::from(v.kind),
         a: v.first,
         b: v.second,
         c: 0,

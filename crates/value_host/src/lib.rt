@@ -81,7 +81,7 @@ fn answered(w: Result<Value, Reason>) -> Answer
     match w {
         Ok(v) => Answer {
             refusal: 0,
-            kind: kind_of(v).number(),
+            kind: u32::from(kind_of(v)),
             bits: bits_of(v),
         },
         Err(r) => Answer {

@@ -6,4 +6,4 @@ use Rattle.plan.proofs.cells.constant.Goals as goal
 
 pub returns : goal.returns
 unfolding cell_numbers
-returns c = c.put_cell.ensures (constant _) (rw c.number.ensures (sym c.in_plan-x.ensures))
+returns c = c.put_cell.ensures (constant _) (rw c.from.ensures (sym c.in_plan-x.ensures))

@@ -10,4 +10,4 @@ returns-in_err-v c = λ t o s. rw c.from_residual.ensures (no_row (row-none t o 
 
 pub returns : goal.returns
 unfolding number_of
-returns c = λ t o s. row-some t o _ _ _ s c.in_ok-v.was (rw c.number.ensures) refl
+returns c = λ t o s. row-some t o _ _ _ s c.in_ok-v.was (rw c.from.ensures) refl
