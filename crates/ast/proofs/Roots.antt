@@ -9,12 +9,12 @@ use Rattle.rules.specs.Lists.{Bytes, same, is_some}
 use Rattle.rules.specs.Places.{bytes_at, word_at}
 use Rattle.rules.specs.Ast.{Expr, star, column, literal, call, unary, binary, is, line_of}
 use Rattle.rules.specs.Views.{as_star, as_column, as_literal, as_call, as_unary, as_binary, as_is}
+use Rattle.rules.specs.Codes.{unary_code, binary_code}
 use Rattle.rules.specs.Equality.{same_name, same_optional_name, same_value, equal, equal_all}
 use Rattle.numbers.specs.Values.{value_at}
-use Rattle.numbers.specs.Codes.{or_least}
-use Rattle.ast.specs.Table.{at, rows_at, arguments_at, star_at, root_at}
+use Rattle.ast.specs.Table.{at, unary_at, binary_at, rows_at, arguments_at, star_at, root_at}
 use Rattle.ast.specs.Operands.{kind_of, kind_at, kind-at, tree-column, tree-qualified, tree-call, tree-unary, tree-binary, tree_is, tree-literal}
-use Rattle.ast.specs.Row.{unary-code, binary-code}
+use Rattle.ast.specs.Row.{operator_at}
 use Rattle.ast.proofs.Equal.{stars, kinds-apart}
 
 -- an expression of no other kind is a star
@@ -62,14 +62,14 @@ module _ (c q : Bytes) (t : List ℕ) (i j : ℕ) where
   roots-call hi hj = rw (tree-call _ c q t i hi, tree-call _ c q t j hj) (ap (λ (x : Bool). same (bytes_at c q (at t i 4) (at t i 5)) (bytes_at c q (at t j 4) (at t j 5)) && x) (stars-count _ _ _ _))
 
   pub roots-unary : kind_at t i ≡ 5 → kind_at t j ≡ 5
-      → equal (root_at c q t i) (root_at c q t j) ≡ eqb (or_least 8 12 (at t i 3)) (or_least 8 12 (at t j 3))
+      → equal (root_at c q t i) (root_at c q t j) ≡ eqb (unary_code (unary_at (operator_at t i))) (unary_code (unary_at (operator_at t j)))
   unfolding root_at star_at equal as_unary as_star is_some
-  roots-unary hi hj = rw (tree-unary _ c q t i hi, tree-unary _ c q t j hj) (rw (unary-code (at t i 3), unary-code (at t j 3), and-true))
+  roots-unary hi hj = rw (tree-unary _ c q t i hi, tree-unary _ c q t j hj) (and-true _)
 
   pub roots-binary : kind_at t i ≡ 6 → kind_at t j ≡ 6
-      → equal (root_at c q t i) (root_at c q t j) ≡ eqb (or_least 16 30 (at t i 3)) (or_least 16 30 (at t j 3))
+      → equal (root_at c q t i) (root_at c q t j) ≡ eqb (binary_code (binary_at (operator_at t i))) (binary_code (binary_at (operator_at t j)))
   unfolding root_at star_at equal as_binary as_star is_some
-  roots-binary hi hj = rw (tree-binary _ c q t i hi, tree-binary _ c q t j hj) (rw (binary-code (at t i 3), binary-code (at t j 3)) (simp and-true))
+  roots-binary hi hj = rw (tree-binary _ c q t i hi, tree-binary _ c q t j hj) (simp and-true)
 
   pub roots-is : kind_at t i ≡ 7 → kind_at t j ≡ 7
       → equal (root_at c q t i) (root_at c q t j)

@@ -10,11 +10,24 @@ use Rattle.rules.specs.Lines.{Word}
 use Rattle.rules.specs.Places.{word_at}
 use Rattle.rules.specs.Area.{span, option_span}
 use Rattle.numbers.specs.Values.{WordFits}
+use Rattle.std.specs.Prelude as std
+use Rattle.text.specs.Places.{place_of}
+use Rattle.text.specs.declared.places.Place.{Place}
 
 -- the name at an address of the catalog c or the statement q, or none where it has no bytes
 unfoldable pub name_at : Bytes → Bytes → ℕ → ℕ → Option Word
 name_at c q a zero = none
 name_at c q a (suc n) = some (word_at c q a (suc n))
+
+-- the same of a place that may be missing
+unfoldable pub option_name : Bytes → Bytes → std.Option Place → Option Word
+option_name c q std.None = none
+option_name c q (std.Some p) = some (word_at c q p.address p.length)
+
+pub name-place : (c q : Bytes) (a n : ℕ) → name_at c q a n ≡ option_name c q (place_of a n)
+unfolding name_at option_name place_of
+name-place c q a zero = refl
+name-place c q a (suc n) = refl
 
 -- a name of at least one byte is the word at its place
 unfoldable pub NameFits : Bytes → Bytes → Option Word → Type 0

@@ -10,7 +10,7 @@ pub mod walk;
 use text::places::Texts;
 
 // The statement's expressions in their table, and the texts that their names stand in.
-#[derive(Clone, Copy)]
+#[derive(Clone, Copy, Debug, PartialEq, Eq)]
 pub struct Expressions<'t> {
     pub texts: Texts<'t>,
     pub table: &'t [u32],

@@ -23,6 +23,14 @@ pub enum Kind {
     Literal,
 }
 
+impl From<Kind> for u32 {
+    ghost from_gives = { λ kind number. number ≡ row.number_of kind };
+
+    fn from(kind: Kind) -> u32 {
+        kind as u32
+    }
+}
+
 // The kind of the record at a row; a star where the number is none.
 pub fn kind_of(table: &[u32], r: usize) -> Kind
     ensures { row.number_of result ≡ kind_at table.now r }

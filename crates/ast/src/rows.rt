@@ -1,7 +1,6 @@
 // The rows of the table: a record's numbers, its kind, its operands. A row's number is a usize: with it no sum overflows
 // whatever the table holds, since a row outside the table has 0 rows.
 ghost use Rattle.std.specs.Prelude.{◌≡◌, ◌+◌};
-ghost use Rattle.numbers.specs.Codes.{or_least};
 ghost use Rattle.ast.specs.Table.{at, rows_at};
 ghost use Rattle.ast.specs.Operands.{kind_at, operands_at};
 
@@ -41,24 +40,11 @@ pub fn at(table: &[u32], r: usize, k: u32) -> u32
     table[i]
 }
 
-// k where it lies between least and most, else least.
-pub fn or_least(least: u32, most: u32, k: u32) -> u32
-    ensures { result ≡ or_least least most k }
-{
-    if k < least {
-        return least;
-    }
-    if most < k {
-        return least;
-    }
-    k
-}
-
 // The number of the kind of the record at a row.
 pub fn kind(table: &[u32], r: usize) -> u32
     ensures { result ≡ kind_at table.now r }
 {
-    kind_of(table, r) as u32
+    u32::from(kind_of(table, r))
 }
 
 // How many operands it has: the first stands at the next row, each other behind the rows of the one before.

@@ -54,7 +54,7 @@ pub fn contains(exprs: &Expressions, r: usize) -> bool
 }
 
 // The rows of the aggregate calls in the tree at a row, left to right and not into one, written behind `count` others:
-// how many there are then, or none where the next has no room.
+// how many there are then, or none where the next has no room. (Rows and count stay two values: what it gives is the count.)
 pub fn collect(exprs: &Expressions, r: usize, rows: &mut [usize], count: usize) -> Option<usize>
     ensures value { result ≡ collected (length rows.old) count (collect_rows exprs.now.texts.catalog.now
         exprs.now.texts.statement.now exprs.now.table.now r) }

@@ -28,10 +28,10 @@ use Rattle.numbers.specs.declared.literals.LiteralKind.TheVariants as L
 use Rattle.ast.specs.Operands.{kind_of, kind_at, kind-at, tree-at, operands-inside, operands-call}
 use Rattle.ast.specs.Row as row
 use Rattle.ast.specs.Row.{line_at, row_name, first_operand, number_of, call-row}
-use Rattle.ast.specs.Aggregates as names
-use Rattle.ast.specs.Aggregates.{aggregate_of, named_of}
-use Rattle.ast.specs.declared.aggregates.Aggregate as A
-use Rattle.ast.specs.declared.aggregates.Aggregate.TheVariants as AV
+use Rattle.ast.specs.Aggregates.{named_of}
+use Rattle.numbers.specs.Aggregates.{aggregate_of}
+use Rattle.numbers.specs.declared.aggregates.Aggregate as A
+use Rattle.numbers.specs.declared.aggregates.Aggregate.TheVariants as AV
 use Rattle.ast.specs.declared.row.Kind.TheVariants as K
 use Rattle.plan.specs.Cells.{Room, room-less, Puts}
 use Rattle.plan.specs.Emits.{Emitting, Written, Emits, accepts, refuses, emits-same}
@@ -101,7 +101,7 @@ module _ (c q : Bytes) (t : List ℕ) (r : ℕ) where
 
 -- by the answer of `called`
 pub calls : (c q : Bytes) (t : List ℕ) (r : ℕ) (x : std.Option A.Aggregate) (a : A.Aggregate) → named_of x ≡ called_of (tree_at c q t r)
-    → x ≡ std.Some a → Calls c q t r (names.aggregate_of a)
+    → x ≡ std.Some a → Calls c q t r (aggregate_of a)
 unfolding named_of
 calls c q t r x a e f = record { is = sym e ∙ rw f }
 
@@ -125,7 +125,7 @@ star-kind (is l a v) = refl
 kind-of : (c q : Bytes) (t : List ℕ) (r : ℕ) → kind_of (tree_at c q t r) ≡ kind_at t r
 kind-of c q t r = ap kind_of (tree-at c q t r) ∙ kind-at (tree_at c q t) c q t r
 
-pub starred-not : (a : A.Aggregate) (e : Expr) → (a ≡ AV.Count → ⊥) → false ≡ starred (names.aggregate_of a) e
+pub starred-not : (a : A.Aggregate) (e : Expr) → (a ≡ AV.Count → ⊥) → false ≡ starred (aggregate_of a) e
 unfolding starred is_count aggregate_of
 starred-not AV.Avg e h = refl
 starred-not AV.Count e h = absurd (h refl)

@@ -2,7 +2,7 @@
 use Prim.Native.Nat.{ℕ, ◌+◌, ◌-◌, ◌*◌, ◌≤◌, ◌<◌, pred}
 use Rattle.std.proofs.Common.{arith, sym, ◌∙◌}
 use Rattle.std.proofs.Math.Numerals.{sub-one}
-use Rattle.std.specs.Prelude.{◌≡◌, refl, Bool, true, false, List, [], ◌∷◌, Ok, Err}
+use Rattle.std.specs.Prelude.{◌≡◌, refl, Bool, true, false, List, [], ◌∷◌, length, Ok, Err}
 use Rattle.std.proofs.Math.Path.{ap}
 use Rattle.std.proofs.Math.Option.{none, some}
 use Rattle.rules.specs.Refusals.{Reason, argument_count, nested_aggregate, unknown_function}
@@ -11,7 +11,7 @@ use Rattle.rules.specs.Lists.{Bytes}
 use Rattle.rules.specs.Ast.{Expr, star, column, literal, call, unary, binary, is, Exprs, nil, cons, size, size_all, line_of}
 use Rattle.rules.specs.Views.{as_call}
 use Rattle.rules.specs.Plan.{Built, Aggregate}
-use Rattle.rules.specs.Area.{aggregate_code, function_numbers}
+use Rattle.rules.specs.Area.{function_numbers}
 use Rattle.rules.specs.Cells.{Cell, built_count, root}
 use Rattle.rules.specs.Scope.{Scope}
 use Rattle.rules.specs.Count.{argument_cost, cost_first}
@@ -33,7 +33,8 @@ use Rattle.numbers.specs.Reasons.{named}
 use Rattle.numbers.specs.declared.refusals.Reason.TheVariants as Re
 use Rattle.numbers.specs.declared.refusals.Refusal.{Refusal}
 use Rattle.plan.specs.Steps.{refused-at}
-use Rattle.plan.specs.Appended.{Appended, appended-on}
+use Rattle.plan.specs.Pushed.{Pushed, kept-all, pushed-on}
+use Rattle.plan.specs.declared.nodes.Nodes.{Nodes}
 use Rattle.plan.specs.Parts.{functions-on}
 use Rattle.build_expression.specs.Builds.{scope_at, Builds}
 use Rattle.build_aggregate.specs.Functions.{called_of, Calls, step_of, function_step, FunctionBuilds}
@@ -92,6 +93,10 @@ pub functions-none : function_numbers [] ≡ []
 unfolding function_numbers
 functions-none = refl
 
+pub function-length : (d : Aggregate × ℕ) → length (function_numbers (d ∷ [])) ≡ function_size
+unfolding function_numbers
+function-length d = refl
+
 -- THE KINDS, over a scope whose arrays are lent
 module _ (c q : Bytes) (t xs ms ts : List ℕ) where
   abbrev pub groups_listing : Listing Built ℕ
@@ -101,8 +106,9 @@ module _ (c q : Bytes) (t xs ms ts : List ℕ) where
     build = λ h. build (scope_at c q t xs ms ts h);
     num = λ cs. cs;
     none = refl;
-    on = λ cs d a b. appended-on a b;
+    on = λ cs d a b. pushed-on a b;
     each = 1;
+    length-each = λ d. refl;
     within = λ h. group-within (scope_at c q t xs ms ts h);
   }
 
@@ -115,6 +121,7 @@ module _ (c q : Bytes) (t xs ms ts : List ℕ) where
     none = functions-none;
     on = λ cs d a b. functions-on cs (d ∷ []) a b;
     each = function_size;
+    length-each = function-length;
     within = λ h. function-within (scope_at c q t xs ms ts h);
   }
 
@@ -136,45 +143,38 @@ one_same s n e = go (emit s n e) refl
     go (ok p) h = rw (one-step s n e p.0 p.1 h) (sym h)
     go (refused w) h = rw (one-refused s n e w h) (sym h)
 
-module _ {c q : Bytes} {t xs ms ts : List ℕ} {r n : ℕ} {area area' : List ℕ} {x : Written}
-    (b : Builds c q t xs ms ts r n area area' x) where
-  pub group-added : (m k j : ℕ) {nodes nodes' : List ℕ} → x ≡ Ok m → Appended ((m - 1) ∷ []) k nodes j nodes'
-      → Adds (groups_listing c q t xs ms ts) (tree_at c q t r) n k area area' nodes nodes' (Ok m)
+module _ {c q : Bytes} {cells xs ms ts : List ℕ} {r n : ℕ} {area area' : List ℕ} {x : Written}
+    (b : Builds c q cells xs ms ts r n area area' x) where
+  pub group-added : (m : ℕ) {s t : Nodes} → x ≡ Ok m → Pushed ((m - 1) ∷ []) s t
+      → Adds (groups_listing c q cells xs ms ts) (tree_at c q cells r) n area area' s t (Ok m)
   unfolding emit_one step_of ◌>>=◌
-  group-added m k j {nodes} {nodes'} d a = record {
+  group-added m d a = record {
     is = λ h.
-        let s = scope_at c q t xs ms ts h in
+        let s' = scope_at c q cells xs ms ts h in
         let o = accepted m (b.is h) d in
-        let e = one-step s n (tree_at c q t r) o.cells m o.is in
+        let e = one-step s' n (tree_at c q cells r) o.cells m o.is in
         record {
-          emits = rw (← d) (emits-same (one_same s n (tree_at c q t r)) (b.is h));
-          all = a.all;
+          emits = rw (← d) (emits-same (one_same s' n (tree_at c q cells r)) (b.is h));
+          kept = a.kept;
           numbers = λ ys i m' f.
               let p = ok_same (sym e ∙ f) in
               let u : pred m ≡ i = ap (λ z. z.1) p in
-              let v : j ≡ k + 1 = a.next in
-              rw (← u, ← v, ← sub-one m) a;
+              rw (← u, ← sub-one m) a;
         };
   }
 
-  pub group-refused : (w : Refusal) (k : ℕ) (nodes : List ℕ) → x ≡ Err w
-      → Adds (groups_listing c q t xs ms ts) (tree_at c q t r) n k area area' nodes nodes (Err w)
+  pub group-refused : (w : Refusal) (s : Nodes) → x ≡ Err w
+      → Adds (groups_listing c q cells xs ms ts) (tree_at c q cells r) n area area' s s (Err w)
   unfolding emit_one written_of step_of ◌>>=◌
-  group-refused w k nodes d = record {
+  group-refused w s d = record {
     is = λ h.
-        let s = scope_at c q t xs ms ts h in
-        let y = emits-same (one_same s n (tree_at c q t r)) (b.is h) in
+        let y = emits-same (one_same (scope_at c q cells xs ms ts h) n (tree_at c q cells r)) (b.is h) in
         record {
           emits = rw (← d) y;
-          all = refl;
+          kept = kept-all s;
           numbers = λ ys i m' f. absurd (not-accepted _ (ys, m') (ap step_of f) (sym d ∙ y.answer));
         };
   }
-
--- each group has one number in the record
-pub group_at : {L : Listing Built ℕ} {e : Expr} {n : ℕ} (k i : ℕ) {area area' nodes nodes' : List ℕ} {x : Written}
-    → Adds L e n (k + i) area area' nodes nodes' x → Adds L e n (k + 1 * i) area area' nodes nodes' x
-group_at k i a = let z : k + 1 * i ≡ k + i = omega arith in rw z a
 
 -- A FUNCTION
 not-refused : {A X : Type 0} (a : A) (k : Reason) (l : ℕ) → ◌≡◌ {A = Answer A} (ok a) (refuse k l) → X
@@ -213,36 +213,31 @@ function-entry s n e g ys d m h f =
     let v : pred (n + built_count o.built.1) ≡ pred m = ap pred o.next in
     (λ i. (sym u i, sym v i)) ∙ o.entry
 
-module _ {c q : Bytes} {t xs ms ts : List ℕ} {r n : ℕ} {area area' : List ℕ} {x : Written}
-    (b : FunctionBuilds c q t xs ms ts r n area area' x) where
-  pub function-added : (m k j y : ℕ) (g : Aggregate) {nodes nodes' : List ℕ} → Calls c q t r g → x ≡ Ok m
-      → aggregate_code g ≡ y
-      → ((f : Aggregate) → aggregate_code f ≡ y → Appended (function_numbers ((f, m - 1) ∷ [])) k nodes j nodes')
-      → Adds (functions_listing c q t xs ms ts) (tree_at c q t r) n k area area' nodes nodes' (Ok m)
-  unfolding emit_second function_step function_numbers step_of ◌>>=◌
-  function-added m k j y g {nodes} {nodes'} w d e a = record {
-    is = λ h.
-        let s = scope_at c q t xs ms ts h in
-        let a' = a g e in
-        record {
-          emits = rw (← d) (b.is h);
-          all = a'.all;
-          numbers = λ ys i m' f.
-              let u = function-entry s n (tree_at c q t r) g ys i m' w.is f in
-              let o = accepted m (b.is h) d in
-              let v : m ≡ m' = ap (λ z. z.1) (ok_same (sym o.is ∙ ap step_of f)) in
-              let p : j ≡ k + function_size = a'.next in
-              rw (← u, ← v, ← p, ← sub-one m) a';
-        };
-  }
-
-  pub function-refused : (w : Refusal) (k : ℕ) (nodes : List ℕ) → x ≡ Err w
-      → Adds (functions_listing c q t xs ms ts) (tree_at c q t r) n k area area' nodes nodes (Err w)
+module _ {c q : Bytes} {cells xs ms ts : List ℕ} {r n : ℕ} {area area' : List ℕ} {x : Written}
+    (b : FunctionBuilds c q cells xs ms ts r n area area' x) where
+  pub function-added : (m : ℕ) (g : Aggregate) {s t : Nodes} → Calls c q cells r g → x ≡ Ok m
+      → Pushed (function_numbers ((g, m - 1) ∷ [])) s t
+      → Adds (functions_listing c q cells xs ms ts) (tree_at c q cells r) n area area' s t (Ok m)
   unfolding emit_second function_step step_of ◌>>=◌
-  function-refused w k nodes d = record {
+  function-added m g w d a = record {
     is = λ h. record {
       emits = rw (← d) (b.is h);
-      all = refl;
+      kept = a.kept;
+      numbers = λ ys i m' f.
+          let u = function-entry (scope_at c q cells xs ms ts h) n (tree_at c q cells r) g ys i m' w.is f in
+          let o = accepted m (b.is h) d in
+          let v : m ≡ m' = ap (λ z. z.1) (ok_same (sym o.is ∙ ap step_of f)) in
+          rw (← u, ← v, ← sub-one m) a;
+    };
+  }
+
+  pub function-refused : (w : Refusal) (s : Nodes) → x ≡ Err w
+      → Adds (functions_listing c q cells xs ms ts) (tree_at c q cells r) n area area' s s (Err w)
+  unfolding emit_second function_step step_of ◌>>=◌
+  function-refused w s d = record {
+    is = λ h. record {
+      emits = rw (← d) (b.is h);
+      kept = kept-all s;
       numbers = λ ys i m' f. absurd (not-accepted _ (ys, m') (ap step_of f) (sym d ∙ (b.is h).answer));
     };
   }
@@ -268,12 +263,12 @@ unknown s (binary l o a e) h = refl
 unknown s (is l a v) h = refl
 unknown s (call l w as') h = rw (h, build_function)
 
-pub function-unknown : (c q : Bytes) (t xs ms ts : List ℕ) (r n k : ℕ) (area nodes : List ℕ) (l : ℕ)
+pub function-unknown : (c q : Bytes) (t xs ms ts : List ℕ) (r n : ℕ) (area : List ℕ) (s : Nodes) (l : ℕ)
     → called_of (tree_at c q t r) ≡ none → l ≡ line_at t r
-    → Adds (functions_listing c q t xs ms ts) (tree_at c q t r) n k area area nodes nodes
+    → Adds (functions_listing c q t xs ms ts) (tree_at c q t r) n area area s s
     (Err (record { reason = Re.UnknownFunction; line = l }))
 unfolding emit_second emit_entry named refuse ◌>>=◌
-function-unknown c q t xs ms ts r n k area nodes l e f = record {
+function-unknown c q t xs ms ts r n area s l e f = record {
   is = λ h. lists-refused _ (refused-at unknown_function (line_at t r) Re.UnknownFunction l
-      (rw (unknown (scope_at c q t xs ms ts h) (tree_at c q t r) e, line-of c q t r)) refl f) refl refl;
+      (rw (unknown (scope_at c q t xs ms ts h) (tree_at c q t r) e, line-of c q t r)) refl f) refl (kept-all s);
 }

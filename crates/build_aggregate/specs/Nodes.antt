@@ -1,9 +1,9 @@
 -- The aggregate node: its groups, then its functions, then 3 where they are more than the most columns.
-use Rattle.std.specs.Prelude.{ℕ, zero, suc, ◌+◌, ◌*◌, ◌-◌, ◌≤◌, ◌<◌, refl, get_or, take, drop, set, Ok, Err}
-use Rattle.std.proofs.Common.{arith, ◌∙◌, length-set, length-take-le}
+use Rattle.std.specs.Prelude.{ℕ, suc, ◌+◌, ◌*◌, ◌-◌, ◌≤◌, ◌<◌, refl, get_or, take, drop, Ok, Err}
+use Rattle.std.proofs.Common.{arith, ◌∙◌, length-take-le}
 use Rattle.std.proofs.Math.Path.{◌≡◌, sym, ap}
 use mathlib.Core.List.{List, [], ◌∷◌, ◌++◌, map, append_assoc}
-use Rattle.std.proofs.Math.ListN.{length, length-map, length-append, get_or-append}
+use Rattle.std.proofs.Math.ListN.{length, length-map, length-append}
 use Rattle.std.proofs.Math.Seq.{split_at}
 use Rattle.rules.specs.Refusals.{limit_passed, Answer, ok, ◌>>=◌, at_most}
 use Rattle.rules.specs.Limits.{most_columns}
@@ -24,7 +24,8 @@ use Rattle.ast.specs.Table.{tree_at}
 use Rattle.ast.specs.Row.{line_at, line-of}
 use Rattle.plan.specs.Layout.{record_head, aggregate_head, groups_place, length_place, function_size}
 use Rattle.plan.specs.Emits.{Written, written_of}
-use Rattle.plan.specs.Appended.{Appended}
+use Rattle.plan.specs.Pushed.{Kept, kept-on, Pushed, Stored, stored-kept}
+use Rattle.plan.specs.declared.nodes.Nodes.{Nodes}
 use Rattle.plan.specs.Steps.{RefusedWith, refused-at, refused-on}
 use Rattle.plan.specs.Parts.{groups-on, groups-ended, aggregate-functions}
 use Rattle.plan.specs.Cells.{Room}
@@ -35,7 +36,7 @@ use Rattle.numbers.specs.declared.refusals.Reason.TheVariants as Re
 use Rattle.numbers.specs.declared.refusals.Refusal.{Refusal}
 use Rattle.build_expression.specs.Builds.{scope_at}
 use Rattle.build_aggregate.specs.Functions.{step_of}
-use Rattle.build_aggregate.specs.Entries.{Lists, Gave, gave, gave-refused, lists-refused, Listing, AddsAll}
+use Rattle.build_aggregate.specs.Entries.{Lists, Gave, gave, gave-refused, lists-refused, Listing, AddsAll, not_done}
 use Rattle.build_aggregate.specs.Kinds.{groups_listing, functions_listing}
 
 -- cells, the roots of the groups and the functions, the next cell
@@ -50,32 +51,21 @@ abbrev pub record_end : ℕ → ℕ → ℕ → ℕ
 record_end k g f = k + aggregate_head + g + function_size * f
 
 -- behind the groups there is room for the functions
-pub rest-room : {B C : Type 0} {L : Listing B C} {tree : ℕ → Expr} {gs : List ℕ} {n j : ℕ}
-    {area area₁ nodes nodes₂ : List ℕ} {x : Written} (w m : ℕ)
-    → AddsAll L tree gs n j area area₁ nodes nodes₂ x → x ≡ Ok m
+pub rest-room : {B C : Type 0} {L : Listing B C} {tree : ℕ → Expr} {gs : List ℕ} {n : ℕ}
+    {area area₁ : List ℕ} {s t : Nodes} {x : Written} (w m : ℕ) → AddsAll L tree gs n area area₁ s t x → x ≡ Ok m
     → Room n (3 * (total (λ r. size (tree r)) gs + w)) area → Room m (3 * w) area₁
 rest-room w m a d r = record {
   counted = omega (arith, a.most m d, r.counted);
   held = omega (arith, a.most m d, r.held, (a.is 0).emits.kept);
 }
 
--- the i-th row of two lists
-pub row_first : (gs fs : List ℕ) (i : ℕ) → i < length gs → get_or gs i 0 ≡ get_or (gs ++ fs) i 0
-row_first gs fs i h = sym (get_or-append gs fs 0 i h)
-
-pub row-second : (gs fs : List ℕ) (i : ℕ) → length gs ≤ i → get_or fs (i - length gs) 0 ≡ get_or (gs ++ fs) i 0
-row-second [] fs i h = let z : i - 0 ≡ i = omega arith in ap (λ j. get_or fs j 0) z
-row-second (g ∷ gs) fs zero h = absurd (omega arith)
-row-second (g ∷ gs) fs (suc i) h =
-    let z : suc i - suc (length gs) ≡ i - length gs = omega arith in
-    ap (λ j. get_or fs j 0) z ∙ row-second gs fs i (omega (arith, h))
-
 -- the node over a source, of the groups and functions at rows, is appended
-pub record NodeBuilt (c q : Bytes) (t xs ms ts gs fs : List ℕ) (source n k k' : ℕ)
-    (area area' nodes nodes' : List ℕ) (x : Written) : Type 0 where
+pub record NodeBuilt (c q : Bytes) (cells xs ms ts gs fs : List ℕ) (source n : ℕ) (area area' : List ℕ) (s t : Nodes)
+    (x : Written) : Type 0 where
   pub is : (h : ℕ) → Lists (λ d. record_numbers (aggregate source d.0 d.1))
-      (aggregate_step (scope_at c q t xs ms ts h) n (map (tree_at c q t) gs) (map (tree_at c q t) fs))
-      n k k' area area' nodes nodes' x
+      (aggregate_step (scope_at c q cells xs ms ts h) n (map (tree_at c q cells) gs) (map (tree_at c q cells) fs))
+      n area area' s t x
+  pub used : (m : ℕ) → x ≡ Ok m → t.used ≡ record_end s.used (length gs) (length fs)
 
 -- STEP BY STEP
 module _ (s : Scope) (n : ℕ) (gs fs : List Expr) where
@@ -105,67 +95,71 @@ module _ (s : Scope) (n : ℕ) (gs fs : List Expr) where
       unfolding aggregate_step
       step-whole h = bind_ok _ _ _ g.is ∙ bind_ok _ _ _ f.is ∙ at_most-passed most_columns line_of _ _ h
 
-one_each : {xs s u : List ℕ} {j : ℕ} (l : ℕ) → Appended xs j s (j + 1 * l) u → Appended xs j s (j + l) u
-one_each {j = j} l a = let z : j + 1 * l ≡ j + l = omega arith in rw (← z) a
-
-ends_at : {xs s u : List ℕ} {j k i : ℕ} → k ≡ i → Appended xs j s i u → Appended xs j s k u
-ends_at e a = rw e a
-
 -- AS THE CODE GOES, the groups and the functions at rows; the record is begun first
-module _ (c q : Bytes) (t xs ms ts gs fs : List ℕ) (source n k j : ℕ) {area nodes nodes₁ area₁ nodes₂ : List ℕ}
-    {x : Written} (b : Appended (opened (aggregate source [] [])) k nodes j nodes₁)
-    (a : AddsAll (groups_listing c q t xs ms ts) (tree_at c q t) gs n j area area₁ nodes₁ nodes₂ x) where
-  groups-list : (h : ℕ) → Lists (λ cs. cs) (emit_all (scope_at c q t xs ms ts h) n (map (tree_at c q t) gs)) n j
-      (j + 1 * length gs) area area₁ nodes₁ nodes₂ x
+module _ (c q : Bytes) (cells xs ms ts gs fs : List ℕ) (source n : ℕ) {area area₁ : List ℕ} {s s₁ s₂ : Nodes} {x : Written}
+    (b : Pushed (opened (aggregate source [] [])) s s₁)
+    (a : AddsAll (groups_listing c q cells xs ms ts) (tree_at c q cells) gs n area area₁ s₁ s₂ x) where
+  groups-list : (h : ℕ) → Lists (λ cs. cs) (emit_all (scope_at c q cells xs ms ts h) n (map (tree_at c q cells) gs)) n
+      area area₁ s₁ s₂ x
   unfolding emit_all
   groups-list h = a.is h
 
-  pub node-groups : (w : Refusal) (k' : ℕ) → x ≡ Err w
-      → NodeBuilt c q t xs ms ts gs fs source n k k' area area₁ nodes nodes₂ (Err w)
-  node-groups w k' d = record {
+  pub node-groups : (w : Refusal) → x ≡ Err w → NodeBuilt c q cells xs ms ts gs fs source n area area₁ s s₂ (Err w)
+  node-groups w d = record {
     is = λ h. lists-refused w (step-groups _ n _ _ w (gave-refused w (groups-list h) d))
-        (groups-list h).emits.kept ((groups-list h).all ∙ b.all);
+        (groups-list h).emits.kept (kept-on b.kept (groups-list h).kept);
+    used = λ m e. absurd (not_done e);
   }
 
-  module _ (m : ℕ) (d : x ≡ Ok m) {nodes₃ area₂ nodes₄ : List ℕ} {y : Written}
-      (e : nodes₃ ≡ set nodes₂ (k + groups_place) (j + length gs - (k + aggregate_head)))
-      (f : AddsAll (functions_listing c q t xs ms ts) (tree_at c q t) fs m (j + length gs) area₁ area₂ nodes₃ nodes₄ y)
-    where
+  module _ (m : ℕ) (d : x ≡ Ok m) where
+    -- how many numbers are in use behind the groups
+    pub groups-used : s₂.used ≡ s.used + aggregate_head + length gs
+    groups-used = omega (arith, a.used m d, aggregate-in-use source b)
+
+    module _ {area₂ : List ℕ} {s₃ s₄ : Nodes} {y : Written}
+        (e : Stored (s.used + groups_place) (s₂.used - (s.used + aggregate_head)) s₂ s₃)
+        (f : AddsAll (functions_listing c q cells xs ms ts) (tree_at c q cells) fs m area₁ area₂ s₃ s₄ y) where
       functions-list : (h : ℕ) → Lists function_numbers
-          (emit_seconds (build_function (scope_at c q t xs ms ts h)) m (map (tree_at c q t) fs)) m (j + length gs)
-          (j + length gs + function_size * length fs) area₁ area₂ nodes₃ nodes₄ y
+          (emit_seconds (build_function (scope_at c q cells xs ms ts h)) m (map (tree_at c q cells) fs)) m
+          area₁ area₂ s₃ s₄ y
       unfolding emit_seconds
       functions-list h = f.is h
 
       area-kept : (h : ℕ) → length area₂ ≡ length area
       area-kept h = (functions-list h).emits.kept ∙ (groups-list h).emits.kept
 
-      nodes-kept : (h : ℕ) → length nodes₄ ≡ length nodes
-      nodes-kept h = (functions-list h).all ∙ ap length e ∙ length-set nodes₂ _ _ ∙ (groups-list h).all ∙ b.all
+      pub nodes-kept : Kept s s₄
+      nodes-kept =
+          kept-on b.kept (kept-on (groups-list 0).kept (kept-on (stored-kept e) (functions-list 0).kept))
 
-      pub node-functions : (w : Refusal) (k' : ℕ) → y ≡ Err w
-          → NodeBuilt c q t xs ms ts gs fs source n k k' area area₂ nodes nodes₄ (Err w)
-      node-functions w k' z = record {
+      pub node-functions : (w : Refusal) → y ≡ Err w
+          → NodeBuilt c q cells xs ms ts gs fs source n area area₂ s s₄ (Err w)
+      node-functions w z = record {
         is = λ h. lists-refused w
             (step-functions _ n _ _ m (gave m (groups-list h) d) w (gave-refused w (functions-list h) z))
-            (area-kept h) (nodes-kept h);
+            (area-kept h) nodes-kept;
+        used = λ i v. absurd (not_done v);
       }
 
       module _ (p : ℕ) (w : y ≡ Ok p) where
-        pub node_wide : (r' l k' : ℕ) → most_columns < length gs + length fs → r' ≡ get_or (gs ++ fs) most_columns 0
-            → l ≡ line_at t r'
-            → NodeBuilt c q t xs ms ts gs fs source n k k' area area₂ nodes nodes₄
+        -- and behind the functions
+        pub functions-used : s₄.used ≡ record_end s.used (length gs) (length fs)
+        functions-used = omega (arith, f.used p w, e.used, groups-used)
+
+        pub node_wide : (r' l : ℕ) → most_columns < length gs + length fs → r' ≡ get_or (gs ++ fs) most_columns 0
+            → l ≡ line_at cells r'
+            → NodeBuilt c q cells xs ms ts gs fs source n area area₂ s s₄
             (Err (record { reason = Re.LimitPassed; line = l }))
-        node_wide r' l k' v' u o =
-            let tree = tree_at c q t in
+        node_wide r' l v' u o =
+            let tree = tree_at c q cells in
             let rows = gs ++ fs in
             let v : most_columns < length rows = omega (arith, length-append gs fs, v') in
             let r = get_or rows most_columns 0 in
-            let s : rows ≡ take most_columns rows ++ (r ∷ drop (suc most_columns) rows) =
+            let k : rows ≡ take most_columns rows ++ (r ∷ drop (suc most_columns) rows) =
             split_at rows most_columns 0 v in
             let z : map tree gs ++ map tree fs
             ≡ map tree (take most_columns rows) ++ (tree r ∷ map tree (drop (suc most_columns) rows)) =
-            sym (map-append tree gs fs) ∙ ap (map tree) s
+            sym (map-append tree gs fs) ∙ ap (map tree) k
             ∙ map-append tree (take most_columns rows) (r ∷ drop (suc most_columns) rows) in
             let i : length (map tree (take most_columns rows)) ≡ most_columns =
             length-map (take most_columns rows) tree ∙ length-take-le most_columns rows (omega (arith, v)) in
@@ -173,31 +167,28 @@ module _ (c q : Bytes) (t xs ms ts gs fs : List ℕ) (source n k j : ℕ) {area 
               is = λ h. lists-refused _
                   (step-wide _ n _ _ m (gave m (groups-list h) d) p (gave p (functions-list h) w)
                   (map tree (take most_columns rows)) (tree r) (map tree (drop (suc most_columns) rows)) l z i
-                  (o ∙ ap (line_at t) u ∙ sym (line-of c q t r))) (area-kept h) (nodes-kept h);
+                  (o ∙ ap (line_at cells) u ∙ sym (line-of c q cells r))) (area-kept h) nodes-kept;
+              used = λ j e'. absurd (not_done e');
             }
 
-        pub node-whole : {nodes₅ : List ℕ} → length gs + length fs ≤ most_columns
-            → nodes₅ ≡ set nodes₄ (k + length_place) (j + length gs + function_size * length fs - (k + record_head))
-            → NodeBuilt c q t xs ms ts gs fs source n k (record_end k (length gs) (length fs)) area area₂ nodes nodes₅
-            (Ok p)
+        pub node-whole : {s₅ : Nodes} → length gs + length fs ≤ most_columns
+            → Stored (s.used + length_place) (s₄.used - (s.used + record_head)) s₄ s₅
+            → NodeBuilt c q cells xs ms ts gs fs source n area area₂ s s₅ (Ok p)
         unfolding step_of ◌>>=◌ written_of
-        node-whole {nodes₅} u o = record {
+        node-whole {s₅} u o = record {
           is = λ h.
-              let tree = tree_at c q t in
-              let s = scope_at c q t xs ms ts h in
+              let tree = tree_at c q cells in
               let g' = gave m (groups-list h) d in
               let f' = gave p (functions-list h) w in
               let i : length (map tree gs ++ map tree fs) ≡ length (gs ++ fs) =
               ap length (sym (map-append tree gs fs)) ∙ length-map (gs ++ fs) tree in
-              let v : record_end k (length gs) (length fs) ≡ j + length gs + function_size * length fs =
-              omega (arith, aggregate-in-use source b) in
-              let z = step-whole s n (map tree gs) (map tree fs) m g' p f' (omega (arith, i, u, length-append gs fs)) in
-              let a₁ = groups-on source g'.entry b
-              (one_each (length gs) ((groups-list h).numbers g'.cells g'.entry m g'.is)) in
+              let z = step-whole (scope_at c q cells xs ms ts h) n (map tree gs) (map tree fs) m g' p f'
+              (omega (arith, i, u, length-append gs fs)) in
+              let a₁ = groups-on source g'.entry b ((groups-list h).numbers g'.cells g'.entry m g'.is) in
               let a₂ = groups-ended source g'.entry a₁ e in
               let a₃ = aggregate-functions source g'.entry [] f'.entry a₂
               ((functions-list h).numbers f'.cells f'.entry p f'.is) in
-              let a₄ = ends_at v (ended (aggregate source g'.entry f'.entry) a₃ o) in
+              let a₄ = ended (aggregate source g'.entry f'.entry) a₃ o in
               let c₁ = (groups-list h).emits.cells g'.cells m (ap step_of g'.is) in
               let c₂ = (functions-list h).emits.cells f'.cells p (ap step_of f'.is) in
               record {
@@ -211,10 +202,11 @@ module _ (c q : Bytes) (t xs ms ts gs fs : List ℕ) (source n k j : ℕ) {area 
                       let y₁ : p ≡ i' = ap (λ r. r.1) y in
                       rw (← y₀, ← y₁, c₂, c₁, cells-numbers-append g'.cells f'.cells, append_assoc);
                 };
-                all = a₄.all;
+                kept = a₄.kept;
                 numbers = λ zs r i' q'.
                     let y = ok_same (sym z ∙ q') in
                     let y₀ : (g'.entry, f'.entry) ≡ r = ap (λ o'. o'.1) y in
                     rw (← y₀) a₄;
               };
+          used = λ j v. o.used ∙ functions-used;
         }

@@ -4,14 +4,16 @@ ghost use Rattle.rules.specs.Lists.{Bytes};
 ghost use Rattle.rules.specs.Ast.{size};
 ghost use Rattle.ast.specs.Table.{tree_at};
 ghost use Rattle.ast.specs.Expressions.{tree_in};
-ghost use Rattle.ast.specs.Aggregates.{aggregate_of, named_of};
+ghost use Rattle.ast.specs.Aggregates.{named_of};
+ghost use Rattle.numbers.specs.Aggregates.{aggregate_of};
 ghost use Rattle.plan.specs.Cells.{Room};
 ghost use Rattle.build_aggregate.specs.Functions.{called_of, Calls, starred, OperandBuilds, FunctionBuilds};
 
-use ast::aggregates::{Aggregate, is_aggregate};
+use ast::aggregates::is_aggregate;
 use ast::row::Kind;
 use ast::{Expressions, row, walk};
 use build_expression::build_expression;
+use numbers::aggregates::Aggregate;
 use numbers::literals::{Literal, LiteralKind};
 use numbers::refusals::{Reason, Refusal};
 use plan::cells;
@@ -84,19 +86,11 @@ pub fn build_function(
         r n area.old area.new result }
 {
     if row::arguments(exprs.table, r) != 1 {
-        let line = row::line(exprs.table, r);
-        return Err(Refusal {
-            reason: Reason::ArgumentCount,
-            line,
-        });
+        return Err(Reason::ArgumentCount.at(row::line(exprs.table, r)));
     }
     let a = r + 1;
     if walk::contains(exprs, a) {
-        let line = row::line(exprs.table, r);
-        return Err(Refusal {
-            reason: Reason::NestedAggregate,
-            line,
-        });
+        return Err(Reason::NestedAggregate.at(row::line(exprs.table, r)));
     }
     argument(exprs, a, scope, aggregate, area, n)
 }

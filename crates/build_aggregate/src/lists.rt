@@ -13,13 +13,9 @@ use crate::function::{build_function, called};
 use ast::{Expressions, row};
 use build_expression::build_expression;
 use numbers::refusals::{Reason, Refusal};
+use plan::nodes::Nodes;
 use plan::parts::function;
-use plan::pushes::push;
-use plan::steps::Part;
 use scope::view::View;
-
-// How many numbers a function has in the record.
-pub const FUNCTION_SIZE: usize = 2;
 
 // The group at row r.
 fn add_group(
@@ -27,18 +23,18 @@ fn add_group(
     r: usize,
     scope: &View,
     area: &mut [u32],
-    nodes: &mut [u32],
-    at: Part,
+    nodes: &mut Nodes,
+    cell: u32,
 ) -> Result<u32, Refusal>
-    requires room { Room at.cell (3 * size (tree_in exprs.now r)) area.old }
-    requires k_in_bounds { at.used + 1 ≤ length nodes.old }
+    requires room { Room cell (3 * size (tree_in exprs.now r)) area.old }
+    requires k_in_bounds { nodes.old.used + 1 ≤ length nodes.old.numbers.now }
     ensures { Adds (groups_listing exprs.now.texts.catalog.now exprs.now.texts.statement.now exprs.now.table.now
         scope.now.labels.now scope.now.matches.now scope.now.tables.now)
         (tree_in exprs.now r)
-        at.cell at.used area.old area.new nodes.old nodes.new result }
+        cell area.old area.new nodes.old nodes.new result }
 {
-    let m = build_expression(exprs, r, scope, area, at.cell)?;
-    push(nodes, at.used, m - 1);
+    let m = build_expression(exprs, r, scope, area, cell)?;
+    nodes.push(m - 1);
     Ok(m)
 }
 
@@ -48,25 +44,21 @@ fn add_function(
     r: usize,
     scope: &View,
     area: &mut [u32],
-    nodes: &mut [u32],
-    at: Part,
+    nodes: &mut Nodes,
+    cell: u32,
 ) -> Result<u32, Refusal>
-    requires room { Room at.cell (3 * size (tree_in exprs.now r)) area.old }
-    requires function_size_in_bounds { at.used + function_size ≤ length nodes.old }
+    requires room { Room cell (3 * size (tree_in exprs.now r)) area.old }
+    requires function_size_in_bounds { nodes.old.used + function_size ≤ length nodes.old.numbers.now }
     ensures { Adds (functions_listing exprs.now.texts.catalog.now exprs.now.texts.statement.now exprs.now.table.now
         scope.now.labels.now scope.now.matches.now scope.now.tables.now)
         (tree_in exprs.now r)
-        at.cell at.used area.old area.new nodes.old nodes.new result }
+        cell area.old area.new nodes.old nodes.new result }
 {
     let Some(aggregate) = called(exprs, r) else {
-        let line = row::line(exprs.table, r);
-        return Err(Refusal {
-            reason: Reason::UnknownFunction,
-            line,
-        });
+        return Err(Reason::UnknownFunction.at(row::line(exprs.table, r)));
     };
-    let m = build_function(exprs, r, scope, aggregate, area, at.cell)?;
-    function(nodes, at.used, u32::from(aggregate), m - 1);
+    let m = build_function(exprs, r, scope, aggregate, area, cell)?;
+    function(nodes, aggregate, m - 1);
     Ok(m)
 }
 
@@ -76,63 +68,43 @@ pub fn build_groups(
     rows: &[usize],
     scope: &View,
     area: &mut [u32],
-    nodes: &mut [u32],
-    at: Part,
+    nodes: &mut Nodes,
+    cell: u32,
 ) -> Result<u32, Refusal>
-    requires room { Room at.cell (3 * total (λ r. size (tree_in exprs.now r)) rows.now) area.old }
-    requires rows_in_bounds { at.used + length rows.now ≤ length nodes.old }
+    requires room { Room cell (3 * total (λ r. size (tree_in exprs.now r)) rows.now) area.old }
+    requires rows_in_bounds { nodes.old.used + length rows.now ≤ length nodes.old.numbers.now }
     ensures { AddsAll (groups_listing exprs.now.texts.catalog.now exprs.now.texts.statement.now exprs.now.table.now
         scope.now.labels.now scope.now.matches.now scope.now.tables.now)
         (tree_in exprs.now) rows.now
-        at.cell at.used area.old area.new nodes.old nodes.new result }
+        cell area.old area.new nodes.old nodes.new result }
 {
-    let mut m = at.cell;
-    for i in 0..rows.len() {
-        m = add_group(
-            exprs,
-            rows[i],
-            scope,
-            area,
-            nodes,
-            Part {
-                cell: m,
-                used: at.used + i,
-            },
-        )?;
+    let mut m = cell;
+    for &r in rows {
+        m = add_group(exprs, r, scope, area, nodes, m)?;
     }
     Ok(m)
 }
 
-// The functions at the rows. (A loop of its own: one over a closure would take both slices and a contract of its own for four
+// The functions at the rows. (A loop of its own: one over a closure would need a contract for the closure, to share three
 // lines.)
 pub fn build_functions(
     exprs: &Expressions,
     rows: &[usize],
     scope: &View,
     area: &mut [u32],
-    nodes: &mut [u32],
-    at: Part,
+    nodes: &mut Nodes,
+    cell: u32,
 ) -> Result<u32, Refusal>
-    requires room { Room at.cell (3 * total (λ r. size (tree_in exprs.now r)) rows.now) area.old }
-    requires rows_in_bounds { at.used + function_size * length rows.now ≤ length nodes.old }
+    requires room { Room cell (3 * total (λ r. size (tree_in exprs.now r)) rows.now) area.old }
+    requires rows_in_bounds { nodes.old.used + function_size * length rows.now ≤ length nodes.old.numbers.now }
     ensures { AddsAll (functions_listing exprs.now.texts.catalog.now exprs.now.texts.statement.now exprs.now.table.now
         scope.now.labels.now scope.now.matches.now scope.now.tables.now)
         (tree_in exprs.now) rows.now
-        at.cell at.used area.old area.new nodes.old nodes.new result }
+        cell area.old area.new nodes.old nodes.new result }
 {
-    let mut m = at.cell;
-    for i in 0..rows.len() {
-        m = add_function(
-            exprs,
-            rows[i],
-            scope,
-            area,
-            nodes,
-            Part {
-                cell: m,
-                used: at.used + FUNCTION_SIZE * i,
-            },
-        )?;
+    let mut m = cell;
+    for &r in rows {
+        m = add_function(exprs, r, scope, area, nodes, m)?;
     }
     Ok(m)
 }

@@ -7,11 +7,11 @@ ghost use Rattle.plan.specs.Layout.{nodes_size};
 ghost use Rattle.plan.specs.Cells.{Room};
 ghost use Rattle.build_aggregate.specs.Nodes.{record_end, NodeBuilt};
 
-use crate::lists::{FUNCTION_SIZE, build_functions, build_groups};
+use crate::lists::{build_functions, build_groups};
 use ast::{Expressions, row};
 use numbers::refusals::{Reason, Refusal};
+use plan::nodes::Nodes;
 use plan::parts::{begin_aggregate, end, end_groups};
-use plan::steps::Part;
 use scope::COLUMNS;
 use scope::view::View;
 
@@ -34,55 +34,27 @@ pub fn build_node(
     scope: &View,
     source: u32,
     area: &mut [u32],
-    nodes: &mut [u32],
-    at: Part,
+    nodes: &mut Nodes,
+    cell: u32,
 ) -> Result<u32, Refusal>
-    requires room { Room at.cell (3 * (total (λ r. size (tree_in exprs.now r)) groups.now
+    requires room { Room cell (3 * (total (λ r. size (tree_in exprs.now r)) groups.now
         + total (λ r. size (tree_in exprs.now r)) functions.now)) area.old }
-    requires functions_in_bounds { record_end at.used (length groups.now) (length functions.now) ≤ length nodes.old }
-    requires nodes_len_bound { length nodes.old ≤ nodes_size }
+    requires functions_in_bounds { record_end nodes.old.used (length groups.now) (length functions.now)
+        ≤ length nodes.old.numbers.now }
+    requires nodes_len_bound { length nodes.old.numbers.now ≤ nodes_size }
     ensures { NodeBuilt exprs.now.texts.catalog.now exprs.now.texts.statement.now exprs.now.table.now
         scope.now.labels.now scope.now.matches.now scope.now.tables.now
-        groups.now functions.now source at.cell at.used
-        (record_end at.used (length groups.now) (length functions.now))
-        area.old area.new nodes.old nodes.new result }
+        groups.now functions.now source cell area.old area.new nodes.old nodes.new result }
 {
-    let start = begin_aggregate(nodes, at.used, source);
-    let m = build_groups(
-        exprs,
-        groups,
-        scope,
-        area,
-        nodes,
-        Part {
-            cell: at.cell,
-            used: start,
-        },
-    )?;
-    end_groups(nodes, at.used, start + groups.len());
-    let p = build_functions(
-        exprs,
-        functions,
-        scope,
-        area,
-        nodes,
-        Part {
-            cell: m,
-            used: start + groups.len(),
-        },
-    )?;
+    let start = nodes.used;
+    begin_aggregate(nodes, source);
+    let m = build_groups(exprs, groups, scope, area, nodes, cell)?;
+    end_groups(nodes, start);
+    let p = build_functions(exprs, functions, scope, area, nodes, m)?;
     if COLUMNS < groups.len() + functions.len() {
         let r = row_at(groups, functions, COLUMNS);
-        let line = row::line(exprs.table, r);
-        return Err(Refusal {
-            reason: Reason::LimitPassed,
-            line,
-        });
+        return Err(Reason::LimitPassed.at(row::line(exprs.table, r)));
     }
-    end(
-        nodes,
-        at.used,
-        start + groups.len() + FUNCTION_SIZE * functions.len(),
-    );
+    end(nodes, start);
     Ok(p)
 }

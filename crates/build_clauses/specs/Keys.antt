@@ -19,7 +19,6 @@ use Rattle.appends.specs.Lists.Kinds.{emit_firsts}
 use Rattle.appends.specs.Lists.Entry.{key_step, key-refused}
 use Rattle.appends.specs.Lists.Loops.{firsts-step, firsts-stop, firsts-done}
 use Rattle.ast.specs.Table.{table_size, tree_at}
-use Rattle.numbers.specs.Values.{is_one}
 use Rattle.sections.specs.Layout.{section_at}
 use Rattle.sections.specs.Access.{order_kind, numbers_at, after-drop}
 use Rattle.sections.specs.Expressions.{first_row}
@@ -29,7 +28,8 @@ use Rattle.statement.specs.EntryAccess.{map-length, key-at}
 use Rattle.plan.specs.Layout.{cells_end, key_size}
 use Rattle.plan.specs.Cells.{Room}
 use Rattle.plan.specs.Emits.{Written, accepted}
-use Rattle.plan.specs.Appended.{Appended, appended-none}
+use Rattle.plan.specs.Pushed.{Pushed, Kept, kept-all, kept-on, pushed-none}
+use Rattle.plan.specs.declared.nodes.Nodes.{Nodes}
 use Rattle.plan.specs.Parts.{keys_on}
 use Rattle.plan.specs.Room.{keys-size}
 use Rattle.plan.specs.Steps.{RefusedWith, refused-on, emits-refused}
@@ -42,44 +42,46 @@ abbrev pub keys_at : Bytes → Bytes → List ℕ → List ℕ → List Key
 keys_at c q t parts = map_entries to_key (section_at c q t parts order_kind)
 
 abbrev pub key_of : Bytes → Bytes → List ℕ → Entry → Key
-key_of c q t e = record { expr = tree_at c q t (first_row e); descending = is_one e.code }
+key_of c q t e = record { expr = tree_at c q t (first_row e); descending = e.descending }
 
 -- CONTRACTS
 -- a key over a scope: its cells up to the p-th and its part of the record, or its refusal
-pub record One (s : Scope) (y : Key) (n k : ℕ) (area nodes : List ℕ) (p : ℕ) (area' nodes' : List ℕ) : Type 0 where
+pub record One (s : Scope) (y : Key) (n : ℕ) (area : List ℕ) (nodes : Nodes) (p : ℕ) (area' : List ℕ) (nodes' : Nodes)
+    : Type 0 where
   pub cells : List Cell
   pub is : emit s n y.expr ≡ ok (cells, p)
   pub stand : take (cells_end p) area' ≡ take (cells_end n) area ++ cells_numbers cells
-  pub part : Appended (key_numbers ((pred p, y.descending) ∷ [])) k nodes (k + key_size) nodes'
+  pub part : Pushed (key_numbers ((pred p, y.descending) ∷ [])) nodes nodes'
 
-unfoldable pub KeyAs : Scope → Key → ℕ → ℕ → List ℕ → List ℕ → List ℕ → List ℕ → Written → Type 0
-KeyAs s y n k area nodes area' nodes' (Ok p) = One s y n k area nodes p area' nodes'
-KeyAs s y n k area nodes area' nodes' (Err w) = RefusedWith (emit s n y.expr) w
+unfoldable pub KeyAs : Scope → Key → ℕ → List ℕ → Nodes → List ℕ → Nodes → Written → Type 0
+KeyAs s y n area nodes area' nodes' (Ok p) = One s y n area nodes p area' nodes'
+KeyAs s y n area nodes area' nodes' (Err w) = RefusedWith (emit s n y.expr) w
 
-pub record KeyPut (c q : Bytes) (t xs ms ts : List ℕ) (e : Entry) (n k : ℕ) (area nodes area' nodes' : List ℕ)
-    (x : Written) : Type 0 where
+pub record KeyPut (c q : Bytes) (t xs ms ts : List ℕ) (e : Entry) (n : ℕ) (area : List ℕ) (nodes : Nodes) (area' : List ℕ)
+    (nodes' : Nodes) (x : Written) : Type 0 where
   pub kept : length area' ≡ length area
-  pub kept-nodes : length nodes' ≡ length nodes
-  pub is : (h : ℕ) → KeyAs (scope_at c q t xs ms ts h) (key_of c q t e) n k area nodes area' nodes' x
+  pub kept-nodes : Kept nodes nodes'
+  pub is : (h : ℕ) → KeyAs (scope_at c q t xs ms ts h) (key_of c q t e) n area nodes area' nodes' x
 
 -- all keys
-pub record All (s : Scope) (ks : List Key) (n k : ℕ) (area nodes : List ℕ) (p : ℕ) (area' nodes' : List ℕ)
+pub record All (s : Scope) (ks : List Key) (n : ℕ) (area : List ℕ) (nodes : Nodes) (p : ℕ) (area' : List ℕ) (nodes' : Nodes)
     : Type 0 where
   pub cells : List Cell
   pub entries : List (ℕ × Bool)
   pub is : emit_firsts (key_built s) n ks ≡ ok (cells, entries, p)
   pub stand : take (cells_end p) area' ≡ take (cells_end n) area ++ cells_numbers cells
-  pub appended : Appended (key_numbers entries) k nodes (k + key_size * length ks) nodes'
+  pub pushed : Pushed (key_numbers entries) nodes nodes'
+  pub counted : nodes'.used ≡ nodes.used + key_size * length ks
 
-unfoldable pub KeysAs : Scope → List Key → ℕ → ℕ → List ℕ → List ℕ → List ℕ → List ℕ → Written → Type 0
-KeysAs s ks n k area nodes area' nodes' (Ok p) = All s ks n k area nodes p area' nodes'
-KeysAs s ks n k area nodes area' nodes' (Err w) = RefusedWith (emit_firsts (key_built s) n ks) w
+unfoldable pub KeysAs : Scope → List Key → ℕ → List ℕ → Nodes → List ℕ → Nodes → Written → Type 0
+KeysAs s ks n area nodes area' nodes' (Ok p) = All s ks n area nodes p area' nodes'
+KeysAs s ks n area nodes area' nodes' (Err w) = RefusedWith (emit_firsts (key_built s) n ks) w
 
-pub record KeysPut (c q : Bytes) (t parts xs ms ts : List ℕ) (n k : ℕ) (area nodes area' nodes' : List ℕ)
-    (x : Written) : Type 0 where
+pub record KeysPut (c q : Bytes) (t parts xs ms ts : List ℕ) (n : ℕ) (area : List ℕ) (nodes : Nodes) (area' : List ℕ)
+    (nodes' : Nodes) (x : Written) : Type 0 where
   pub kept : length area' ≡ length area
-  pub kept-nodes : length nodes' ≡ length nodes
-  pub is : (h : ℕ) → KeysAs (scope_at c q t xs ms ts h) (keys_at c q t parts) n k area nodes area' nodes' x
+  pub kept-nodes : Kept nodes nodes'
+  pub is : (h : ℕ) → KeysAs (scope_at c q t xs ms ts h) (keys_at c q t parts) n area nodes area' nodes' x
 
 -- ONE KEY
 key-two : (x : ℕ) (b : Bool) → length (key_numbers ((x, b) ∷ [])) ≡ key_size
@@ -90,51 +92,49 @@ module _ {c q : Bytes} {t xs ms ts : List ℕ} {r n : ℕ} {area area' : List �
   here : Builds c q t xs ms ts (first_row e) n area area' w
   here = rw (← g) b
 
-  pub key-refuses : {k : ℕ} {nodes : List ℕ} (v : Refusal) → w ≡ Err v
-      → KeyPut c q t xs ms ts e n k area nodes area' nodes (Err v)
+  pub key-refuses : {nodes : Nodes} (v : Refusal) → w ≡ Err v → KeyPut c q t xs ms ts e n area nodes area' nodes (Err v)
   unfolding KeyAs
-  key-refuses {k} {nodes} v f = record {
+  key-refuses {nodes} v f = record {
     kept = (b.is 0).kept;
-    kept-nodes = refl;
+    kept-nodes = kept-all _;
     is = λ h. emits-refused v (here.is h) f;
   }
 
-  pub key-done : {k j : ℕ} {nodes nodes' : List ℕ} (p : ℕ) (d : Bool) → w ≡ Ok p → d ≡ is_one e.code
-      → Appended (key_numbers ((p - 1, d) ∷ [])) k nodes j nodes'
-      → KeyPut c q t xs ms ts e n k area nodes area' nodes' (Ok p)
+  pub key-done : {nodes nodes' : Nodes} (p : ℕ) (d : Bool) → w ≡ Ok p → d ≡ e.descending
+      → Pushed (key_numbers ((p - 1, d) ∷ [])) nodes nodes' → KeyPut c q t xs ms ts e n area nodes area' nodes' (Ok p)
   unfolding KeyAs
-  key-done {k} {j} p d f v a = record {
+  key-done p d f v a = record {
     kept = (b.is 0).kept;
-    kept-nodes = a.all;
+    kept-nodes = a.kept;
     is = λ h.
         let o = accepted p (here.is h) f in
-        let z : j ≡ k + key_size = omega (arith, a.next, key-two (p - 1) d) in
         record {
           cells = o.cells;
           is = o.is;
           stand = (here.is h).cells o.cells p o.is;
-          part = rw (← sub-one p, ← v, ← z) a;
+          part = rw (← sub-one p, ← v) a;
         };
   }
 
 -- ALL KEYS
 -- of the keys ks, i are put: their cells up to the p-th, their parts of the record
-pub record Sofar (s : Scope) (ks : List Key) (n k : ℕ) (area₀ nodes₀ : List ℕ) (i p : ℕ) (area nodes : List ℕ)
-    : Type 0 where
+pub record Sofar (s : Scope) (ks : List Key) (n : ℕ) (area₀ : List ℕ) (nodes₀ : Nodes) (i p : ℕ) (area : List ℕ)
+    (nodes : Nodes) : Type 0 where
   pub cells : List Cell
   pub entries : List (ℕ × Bool)
   pub is : emit_firsts (key_built s) n ks ≡ after (cells, entries, p) (emit_firsts (key_built s) p (drop i ks))
   pub stand : take (cells_end p) area ≡ take (cells_end n) area₀ ++ cells_numbers cells
-  pub appended : Appended (key_numbers entries) k nodes₀ (k + key_size * i) nodes
+  pub pushed : Pushed (key_numbers entries) nodes₀ nodes
 
-pub record Putting (c q : Bytes) (t parts xs ms ts : List ℕ) (n k : ℕ) (area₀ nodes₀ : List ℕ) (i p : ℕ)
-    (area nodes : List ℕ) : Type 0 where
+pub record Putting (c q : Bytes) (t parts xs ms ts : List ℕ) (n : ℕ) (area₀ : List ℕ) (nodes₀ : Nodes) (i p : ℕ)
+    (area : List ℕ) (nodes : Nodes) : Type 0 where
   pub within : i ≤ length (keys_at c q t parts)
   pub area-kept : length area ≡ length area₀
-  pub nodes-kept : length nodes ≡ length nodes₀
+  pub nodes-kept : Kept nodes₀ nodes
+  pub counted : nodes.used ≡ nodes₀.used + key_size * i
   pub room : Room p (3 * keys_size (drop i (keys_at c q t parts))) area
-  pub space : k + key_size * length (keys_at c q t parts) ≤ length nodes
-  pub sofar : (h : ℕ) → Sofar (scope_at c q t xs ms ts h) (keys_at c q t parts) n k area₀ nodes₀ i p area nodes
+  pub space : nodes₀.used + key_size * length (keys_at c q t parts) ≤ length nodes₀.numbers.now
+  pub sofar : (h : ℕ) → Sofar (scope_at c q t xs ms ts h) (keys_at c q t parts) n area₀ nodes₀ i p area nodes
 
 keys_none : key_numbers [] ≡ []
 unfolding key_numbers
@@ -144,25 +144,24 @@ cells-none : cells_numbers [] ≡ []
 unfolding cells_numbers concat
 cells-none = refl
 
-pub putting-begin : {c q : Bytes} {t parts : List ℕ} {n : ℕ} {area : List ℕ} {k : ℕ} {nodes : List ℕ} (xs ms ts : List ℕ)
-    → Room n (3 * keys_size (keys_at c q t parts)) area → k + key_size * length (keys_at c q t parts) ≤ length nodes
-    → Putting c q t parts xs ms ts n k area nodes 0 n area nodes
-putting-begin {n = n} {area} {k} {nodes} xs ms ts r l =
-    let z : k + key_size * 0 ≡ k = omega arith in
-    record {
-      within = omega arith;
-      area-kept = refl;
-      nodes-kept = refl;
-      room = r;
-      space = l;
-      sofar = λ h. record {
-        cells = [];
-        entries = [];
-        is = sym (after_none n _);
-        stand = rw (cells-none, append-nil);
-        appended = rw (keys_none, z) (appended-none k nodes (omega (arith, l)));
-      };
-    }
+pub putting-begin : {c q : Bytes} {t parts : List ℕ} {n : ℕ} {area : List ℕ} {nodes : Nodes} (xs ms ts : List ℕ)
+    → Room n (3 * keys_size (keys_at c q t parts)) area → nodes.used + key_size * length (keys_at c q t parts) ≤ length nodes.numbers.now
+    → Putting c q t parts xs ms ts n area nodes 0 n area nodes
+putting-begin {n = n} {area} {nodes} xs ms ts r l = record {
+  within = omega arith;
+  area-kept = refl;
+  nodes-kept = kept-all nodes;
+  counted = omega arith;
+  room = r;
+  space = l;
+  sofar = λ h. record {
+    cells = [];
+    entries = [];
+    is = sym (after_none n _);
+    stand = rw (cells-none, append-nil);
+    pushed = rw keys_none (pushed-none nodes (omega (arith, l)));
+  };
+}
 
 -- how many there are
 pub keys-count : (c q : Bytes) (t parts : List ℕ) (x : ℕ) → x ≡ length (section_at c q t parts order_kind)
@@ -176,8 +175,8 @@ module _ (c q : Bytes) (t parts : List ℕ) {i x : ℕ} (e : x ≡ length (secti
   pub keys-past : x ≤ i → length (keys_at c q t parts) ≤ i
   keys-past l = omega (arith, l, keys-count c q t parts x e)
 
-module _ {c q : Bytes} {t parts xs ms ts : List ℕ} {n k : ℕ} {area₀ nodes₀ : List ℕ} {i p : ℕ} {area nodes : List ℕ}
-    (u : Putting c q t parts xs ms ts n k area₀ nodes₀ i p area nodes) where
+module _ {c q : Bytes} {t parts xs ms ts : List ℕ} {n : ℕ} {area₀ : List ℕ} {nodes₀ : Nodes} {i p : ℕ} {area : List ℕ} {nodes : Nodes}
+    (u : Putting c q t parts xs ms ts n area₀ nodes₀ i p area nodes) where
   module _ (size_is : length t ≡ table_size) (l : i < length (keys_at c q t parts)) (e : Entry)
       (g : e ≡ numbers_at parts order_kind i) where
     key_here_lem : drop i (keys_at c q t parts) ≡ key_of c q t e ∷ drop (suc i) (keys_at c q t parts)
@@ -196,17 +195,16 @@ module _ {c q : Bytes} {t parts xs ms ts : List ℕ} {n k : ℕ} {area₀ nodes�
       held = omega (arith, size-here, u.room.held);
     }
 
-    pub space-here : k + key_size * i + key_size ≤ length nodes
-    space-here = omega (arith, u.space, l)
+    pub space-here : nodes.used + key_size ≤ length nodes.numbers.now
+    space-here = omega (arith, u.space, u.counted, u.nodes-kept.all, l)
 
-    module _ {area' nodes' : List ℕ} {x : Written}
-        (a : KeyPut c q t xs ms ts e p (k + key_size * i) area nodes area' nodes' x) where
+    module _ {area' : List ℕ} {nodes' : Nodes} {x : Written} (a : KeyPut c q t xs ms ts e p area nodes area' nodes' x) where
       pub putting-refused : (w : Refusal) → x ≡ Err w
-          → KeysPut c q t parts xs ms ts n k area₀ nodes₀ area' nodes' (Err w)
+          → KeysPut c q t parts xs ms ts n area₀ nodes₀ area' nodes' (Err w)
       unfolding KeysAs KeyAs
       putting-refused w f = record {
         kept = a.kept ∙ u.area-kept;
-        kept-nodes = a.kept-nodes ∙ u.nodes-kept;
+        kept-nodes = kept-on u.nodes-kept a.kept-nodes;
         is = λ h.
             let s = scope_at c q t xs ms ts h in
             let o = u.sofar h in
@@ -216,40 +214,40 @@ module _ {c q : Bytes} {t parts xs ms ts : List ℕ} {n k : ℕ} {area₀ nodes�
       }
 
       pub putting-more : (p' : ℕ) → x ≡ Ok p'
-          → Putting c q t parts xs ms ts n k area₀ nodes₀ (i + 1) p' area' nodes'
+          → Putting c q t parts xs ms ts n area₀ nodes₀ (i + 1) p' area' nodes'
       putting-more p' f =
           let o = one 0 in
           let w = emit-within (scope_at c q t xs ms ts 0) p (tree_at c q t (first_row e)) o.cells p' o.is in
           rw (add-one i) (record {
             within = omega (arith, l);
             area-kept = a.kept ∙ u.area-kept;
-            nodes-kept = a.kept-nodes ∙ u.nodes-kept;
+            nodes-kept = kept-on u.nodes-kept a.kept-nodes;
             room = record {
               counted = omega (arith, size-here, w.most, u.room.counted);
               held = omega (arith, size-here, w.most, u.room.held, a.kept);
             };
-            space = omega (arith, u.space, a.kept-nodes);
+            counted = omega (arith, u.counted, o.part.appended.next, key-two (pred p') e.descending);
+            space = u.space;
             sofar = λ h.
                 let s = scope_at c q t xs ms ts h in
                 let d = u.sofar h in
                 let b = one h in
-                let z : k + key_size * suc i ≡ k + key_size * i + key_size = omega arith in
                 record {
                   cells = d.cells ++ b.cells;
-                  entries = d.entries ++ ((pred p', is_one e.code) ∷ []);
+                  entries = d.entries ++ ((pred p', e.descending) ∷ []);
                   is = d.is ∙ rw key_here_lem (firsts-step (key_built s) (d.cells, d.entries, p) _ _ b.cells _ p'
                       (key_step s p (key_of c q t e) b.cells p' b.is));
                   stand = b.stand ∙ rw (d.stand, cells-numbers-append d.cells b.cells)
                       (append_assoc (take (cells_end n) area₀) (cells_numbers d.cells) (cells_numbers b.cells));
-                  appended = rw z (keys_on d.entries _ d.appended b.part);
+                  pushed = keys_on d.entries _ d.pushed b.part;
                 };
           })
         where
-          one : (h : ℕ) → One (scope_at c q t xs ms ts h) (key_of c q t e) p (k + key_size * i) area nodes p' area' nodes'
+          one : (h : ℕ) → One (scope_at c q t xs ms ts h) (key_of c q t e) p area nodes p' area' nodes'
           one h = unfold KeyAs in rw f at (a.is h)
 
   pub putting-end : length (keys_at c q t parts) ≤ i
-      → KeysPut c q t parts xs ms ts n k area₀ nodes₀ area nodes (Ok p)
+      → KeysPut c q t parts xs ms ts n area₀ nodes₀ area nodes (Ok p)
   unfolding KeysAs
   putting-end l =
       let z : i ≡ length (keys_at c q t parts) = omega (arith, l, u.within) in
@@ -265,6 +263,7 @@ module _ {c q : Bytes} {t parts xs ms ts : List ℕ} {n k : ℕ} {area₀ nodes�
               entries = o.entries;
               is = o.is ∙ rw d (firsts-done (key_built s) (o.cells, o.entries, p));
               stand = o.stand;
-              appended = rw (← z) o.appended;
+              pushed = o.pushed;
+              counted = rw (← z) u.counted;
             };
       }

@@ -26,7 +26,8 @@ use Rattle.statement.specs.declared.access.Clause.{Clause}
 use Rattle.numbers.specs.Reasons.{reason_of, named-reason}
 use Rattle.numbers.specs.declared.refusals.Refusal.{Refusal}
 use Rattle.plan.specs.Layout.{cells_end}
-use Rattle.plan.specs.Appended.{Appended}
+use Rattle.plan.specs.Pushed.{Pushed, kept-all}
+use Rattle.plan.specs.declared.nodes.Nodes.{Nodes}
 use Rattle.plan.specs.Kinds.{node_number}
 use Rattle.plan.specs.Records.{rows_numbers}
 use Rattle.plan.specs.declared.nodes.Kind.{Kind}
@@ -34,14 +35,14 @@ use Rattle.plan.specs.declared.nodes.Kind.TheVariants as N
 use Rattle.plan.specs.Steps.{refused-at, Stands, stands_one, Stepped, Steps, step-none, step-done, step-refused}
 
 -- a clause w that refuses by r what is no number of 0 or more, and makes of a number a node by f
-pub record RowsBuilt (r : Reason) (f : ℕ → Node Built → Node Built) (c q : Bytes) (t : List ℕ) (w : Option Clause) (n m k : ℕ)
-    (nodes nodes' : List ℕ) (x : Stepped) : Type 0 where
-  pub is : (area : List ℕ) → Steps (λ d. d) (λ d. build_rows r f d (clause_of c q t w)) n m k area nodes area nodes' x
+pub record RowsBuilt (r : Reason) (f : ℕ → Node Built → Node Built) (c q : Bytes) (t : List ℕ) (w : Option Clause) (n m : ℕ)
+    (nodes nodes' : Nodes) (x : Stepped) : Type 0 where
+  pub is : (area : List ℕ) → Steps (λ d. d) (λ d. build_rows r f d (clause_of c q t w)) n m area nodes area nodes' x
 
-abbrev pub OffsetBuilt : Bytes → Bytes → List ℕ → Option Clause → ℕ → ℕ → ℕ → List ℕ → List ℕ → Stepped → Type 0
+abbrev pub OffsetBuilt : Bytes → Bytes → List ℕ → Option Clause → ℕ → ℕ → Nodes → Nodes → Stepped → Type 0
 OffsetBuilt = RowsBuilt invalid_offset (λ y d. P.offset d y)
 
-abbrev pub LimitBuilt : Bytes → Bytes → List ℕ → Option Clause → ℕ → ℕ → ℕ → List ℕ → List ℕ → Stepped → Type 0
+abbrev pub LimitBuilt : Bytes → Bytes → List ℕ → Option Clause → ℕ → ℕ → Nodes → Nodes → Stepped → Type 0
 LimitBuilt = RowsBuilt invalid_limit (λ y d. P.limit d y)
 
 -- f makes of a source a node of a kind for a number of rows, and v is its record
@@ -51,8 +52,8 @@ pub record RowsNode (kind : Kind) (f : ℕ → Node Built → Node Built) (v : �
       → Lays 0 0 (f y d) cs (rs ++ (v (pred m) y ∷ [])) n (m + 1)
 
 -- a record and no cell behind the n-th
-pub stands-record : (v : NodeRecord) (n : ℕ) (area : List ℕ) {k j : ℕ} {nodes nodes' : List ℕ}
-    → Appended (record_numbers v) k nodes j nodes' → Stands n k area nodes [] (v ∷ []) n j area nodes'
+pub stands-record : (v : NodeRecord) (n : ℕ) (area : List ℕ) {nodes nodes' : Nodes}
+    → Pushed (record_numbers v) nodes nodes' → Stands n area nodes [] (v ∷ []) n area nodes'
 unfolding cells_numbers concat
 stands-record v n area a = stands_one v (sym (append-nil (take (cells_end n) area))) a
 
@@ -87,26 +88,26 @@ unfolding clause_of
 rows_told r f clause {c} {q} {t} told d =
     rows-built r f d (record { line = clause.line; expr = tree_at c q t clause.row }) ∙ ap (λ (a : Answer ℕ). a >>= λ y. ok (f y d)) (sym told.is)
 
-module _ (r : Reason) (f : ℕ → Node Built → Node Built) {c q : Bytes} {t : List ℕ} {w : Option Clause} {n m k : ℕ}
-    {nodes : List ℕ} where
-  pub rows-missing : w ≡ None → k ≤ length nodes → RowsBuilt r f c q t w n m k nodes nodes (Ok (record { cell = n; node = m; used = k }))
+module _ (r : Reason) (f : ℕ → Node Built → Node Built) {c q : Bytes} {t : List ℕ} {w : Option Clause} {n m : ℕ}
+    {nodes : Nodes} where
+  pub rows-missing : w ≡ None → nodes.used ≤ length nodes.numbers.now → RowsBuilt r f c q t w n m nodes nodes (Ok (record { cell = n; node = m }))
   unfolding clause_of build_rows
   rows-missing e l = rw e (record { is = λ area. step-none l (λ d. refl) })
 
   module _ (clause : Clause) (e : w ≡ Some clause) {x : Result ℕ Refusal} (told : Counted r clause.line c q t clause.row x) where
-    pub rows-refused : (v : Refusal) → x ≡ Err v → RowsBuilt r f c q t w n m k nodes nodes (Err v)
+    pub rows-refused : (v : Refusal) → x ≡ Err v → RowsBuilt r f c q t w n m nodes nodes (Err v)
     unfolding answered refuse
     rows-refused v g = rw e (record {
-      is = λ area. step-refused refl refl (λ d cs rs u. refused-at (reason_of v.reason) v.line v.reason v.line
+      is = λ area. step-refused refl (kept-all _) (λ d cs rs u. refused-at (reason_of v.reason) v.line v.reason v.line
           (rows_told r f clause told d ∙ bind-refused _ _ _ (ap (answered (λ y. y)) g)) (sym (named-reason v.reason)) refl);
     })
 
-    pub rows-number : (v : ℕ → ℕ → NodeRecord) {kind : Kind} → RowsNode kind f v → (y : ℕ) → x ≡ Ok y → {j : ℕ} {nodes' : List ℕ}
-        → Appended (rows_numbers (node_number kind) (m - 1) y) k nodes j nodes'
-        → RowsBuilt r f c q t w n m k nodes nodes' (Ok (record { cell = n; node = m + 1; used = j }))
+    pub rows-number : (v : ℕ → ℕ → NodeRecord) {kind : Kind} → RowsNode kind f v → (y : ℕ) → x ≡ Ok y → {nodes' : Nodes}
+        → Pushed (rows_numbers (node_number kind) (m - 1) y) nodes nodes'
+        → RowsBuilt r f c q t w n m nodes nodes' (Ok (record { cell = n; node = m + 1 }))
     unfolding answered
-    rows-number v {kind} made y g {j} {nodes'} a = rw e (record {
-      is = λ area. step-done refl a.all (record {
+    rows-number v {kind} made y g {nodes'} a = rw e (record {
+      is = λ area. step-done refl a.kept (record {
         cells = [];
         records = v (pred m) y ∷ [];
         lies = λ d cs rs h. record {

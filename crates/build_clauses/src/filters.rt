@@ -12,7 +12,7 @@ ghost use Rattle.build_clauses.specs.Filters.{Filtered, WhereBuilt, HavingBuilt}
 use ast::Expressions;
 use build_expression::build_expression;
 use numbers::refusals::{Reason, Refusal};
-use plan::nodes::filter;
+use plan::nodes::{Nodes, filter};
 use plan::steps::Step;
 use scope::view::View;
 use statement::access::Clause;
@@ -23,21 +23,20 @@ fn build_filter(
     r: usize,
     scope: &View,
     area: &mut [u32],
-    nodes: &mut [u32],
+    nodes: &mut Nodes,
     at: Step,
 ) -> Result<Step, Refusal>
     requires room { Room at.cell (3 * size (tree_in exprs.now r)) area.old }
-    requires follows { Follows filter_size at.node at.used nodes.old }
+    requires follows { Follows filter_size at.node nodes.old }
     ensures { Filtered exprs.now.texts.catalog.now exprs.now.texts.statement.now exprs.now.table.now
         scope.now.labels.now scope.now.matches.now scope.now.tables.now
-        r at.cell at.node at.used area.old nodes.old area.new nodes.new result }
+        r at.cell at.node area.old nodes.old area.new nodes.new result }
 {
     let cell = build_expression(exprs, r, scope, area, at.cell)?;
-    let used = filter(nodes, at.used, at.node - 1, cell - 1);
+    filter(nodes, at.node - 1, cell - 1);
     Ok(Step {
         cell,
         node: at.node + 1,
-        used,
     })
 }
 
@@ -47,15 +46,15 @@ pub fn build_where(
     clause: Option<Clause>,
     scope: &View,
     area: &mut [u32],
-    nodes: &mut [u32],
+    nodes: &mut Nodes,
     at: Step,
 ) -> Result<Step, Refusal>
     requires room { Room at.cell (3 * clause_size (clause_of exprs.now.texts.catalog.now exprs.now.texts.statement.now
         exprs.now.table.now clause)) area.old }
-    requires follows { Follows filter_size at.node at.used nodes.old }
+    requires follows { Follows filter_size at.node nodes.old }
     ensures { WhereBuilt exprs.now.texts.catalog.now exprs.now.texts.statement.now exprs.now.table.now clause
         scope.now.labels.now scope.now.matches.now scope.now.tables.now
-        at.cell at.node at.used area.old nodes.old area.new nodes.new result }
+        at.cell at.node area.old nodes.old area.new nodes.new result }
 {
     let Some(clause) = clause else {
         return Ok(at);
@@ -69,24 +68,21 @@ pub fn build_having(
     clause: Option<Clause>,
     scope: &View,
     area: &mut [u32],
-    nodes: &mut [u32],
+    nodes: &mut Nodes,
     at: Step,
 ) -> Result<Step, Refusal>
     requires room { Room at.cell (3 * clause_size (clause_of exprs.now.texts.catalog.now exprs.now.texts.statement.now
         exprs.now.table.now clause)) area.old }
-    requires follows { Follows filter_size at.node at.used nodes.old }
+    requires follows { Follows filter_size at.node nodes.old }
     ensures { HavingBuilt exprs.now.texts.catalog.now exprs.now.texts.statement.now exprs.now.table.now clause
         scope.now.labels.now scope.now.matches.now scope.now.tables.now
-        at.cell at.node at.used area.old nodes.old area.new nodes.new result }
+        at.cell at.node area.old nodes.old area.new nodes.new result }
 {
     let Some(clause) = clause else {
         return Ok(at);
     };
     if !scope.is_matched() {
-        return Err(Refusal {
-            reason: Reason::HavingWithoutAggregate,
-            line: clause.line,
-        });
+        return Err(Reason::HavingWithoutAggregate.at(clause.line));
     }
     build_filter(exprs, clause.row, scope, area, nodes, at)
 }

@@ -15,13 +15,12 @@ use ast::Expressions;
 use build_expression::build_expression;
 use entries::Section;
 use numbers::refusals::Refusal;
-use plan::nodes::Kind;
-use plan::parts::{KEY_SIZE, begin, end, key};
-use plan::steps::{Part, Step};
+use plan::nodes::{Kind, Nodes};
+use plan::parts::{begin, end, key};
+use plan::steps::Step;
 use scope::view::View;
 use sections::entry;
 use sections::entry::{Entry, entry_at, first_row};
-use statement::access::descending;
 
 // The key of an entry: its cells, and its part of the record.
 fn put_key(
@@ -29,19 +28,18 @@ fn put_key(
     e: Entry,
     scope: &View,
     area: &mut [u32],
-    nodes: &mut [u32],
-    at: Part,
+    nodes: &mut Nodes,
+    cell: u32,
 ) -> Result<u32, Refusal>
-    requires room { Room at.cell (3 * size (tree_in exprs.now (first_row e))) area.old }
-    requires key_size_in_bounds { at.used + key_size ≤ length nodes.old }
+    requires room { Room cell (3 * size (tree_in exprs.now (first_row e))) area.old }
+    requires key_size_in_bounds { nodes.old.used + key_size ≤ length nodes.old.numbers.now }
     ensures { KeyPut exprs.now.texts.catalog.now exprs.now.texts.statement.now exprs.now.table.now
         scope.now.labels.now scope.now.matches.now scope.now.tables.now
-        e at.cell at.used area.old nodes.old area.new nodes.new result }
+        e cell area.old nodes.old area.new nodes.new result }
 {
-    let descends = descending(e);
     let r = first_row(e);
-    let p = build_expression(exprs, r, scope, area, at.cell)?;
-    key(nodes, at.used, p - 1, descends);
+    let p = build_expression(exprs, r, scope, area, cell)?;
+    key(nodes, p - 1, e.descending);
     Ok(p)
 }
 
@@ -51,34 +49,24 @@ fn put_keys(
     parts: &[u32],
     scope: &View,
     area: &mut [u32],
-    nodes: &mut [u32],
-    at: Part,
+    nodes: &mut Nodes,
+    cell: u32,
 ) -> Result<u32, Refusal>
     requires cells_len { length exprs.now.table.now ≡ table_size }
-    requires room { Room at.cell (3 * keys_size (keys_at exprs.now.texts.catalog.now exprs.now.texts.statement.now
+    requires room { Room cell (3 * keys_size (keys_at exprs.now.texts.catalog.now exprs.now.texts.statement.now
         exprs.now.table.now parts.now)) area.old }
-    requires parts_in_bounds { at.used + key_size * length (keys_at exprs.now.texts.catalog.now
+    requires parts_in_bounds { nodes.old.used + key_size * length (keys_at exprs.now.texts.catalog.now
         exprs.now.texts.statement.now exprs.now.table.now parts.now)
-        ≤ length nodes.old }
+        ≤ length nodes.old.numbers.now }
     ensures { KeysPut exprs.now.texts.catalog.now exprs.now.texts.statement.now exprs.now.table.now parts.now
         scope.now.labels.now scope.now.matches.now scope.now.tables.now
-        at.cell at.used area.old nodes.old area.new nodes.new result }
+        cell area.old nodes.old area.new nodes.new result }
 {
     let keys = entry::count(parts, Section::Order);
-    let mut p = at.cell;
+    let mut p = cell;
     for i in 0..keys {
         let e = entry_at(parts, Section::Order, i);
-        p = put_key(
-            exprs,
-            e,
-            scope,
-            area,
-            nodes,
-            Part {
-                cell: p,
-                used: at.used + KEY_SIZE * (i as usize),
-            },
-        )?;
+        p = put_key(exprs, e, scope, area, nodes, p)?;
     }
     Ok(p)
 }
@@ -89,7 +77,7 @@ pub fn build_order(
     parts: &[u32],
     scope: &View,
     area: &mut [u32],
-    nodes: &mut [u32],
+    nodes: &mut Nodes,
     at: Step,
 ) -> Result<Step, Refusal>
     requires cells_len { length exprs.now.table.now ≡ table_size }
@@ -97,32 +85,21 @@ pub fn build_order(
         exprs.now.table.now parts.now)) area.old }
     requires follows { Follows (source_head + key_size * length (keys_at exprs.now.texts.catalog.now
         exprs.now.texts.statement.now exprs.now.table.now parts.now))
-        at.node at.used nodes.old }
+        at.node nodes.old }
     ensures { OrderBuilt exprs.now.texts.catalog.now exprs.now.texts.statement.now exprs.now.table.now parts.now
         scope.now.labels.now scope.now.matches.now scope.now.tables.now
-        at.cell at.node at.used area.old nodes.old area.new nodes.new result }
+        at.cell at.node area.old nodes.old area.new nodes.new result }
 {
     let keys = entry::count(parts, Section::Order);
     if keys == 0 {
         return Ok(at);
     }
-    let start = begin(nodes, at.used, Kind::Order, at.node - 1);
-    let cell = put_keys(
-        exprs,
-        parts,
-        scope,
-        area,
-        nodes,
-        Part {
-            cell: at.cell,
-            used: start,
-        },
-    )?;
-    let used = start + KEY_SIZE * (keys as usize);
-    end(nodes, at.used, used);
+    let start = nodes.used;
+    begin(nodes, Kind::Order, at.node - 1);
+    let cell = put_keys(exprs, parts, scope, area, nodes, at.cell)?;
+    end(nodes, start);
     Ok(Step {
         cell,
         node: at.node + 1,
-        used,
     })
 }

@@ -2,44 +2,41 @@
 ghost use Rattle.std.specs.Prelude.{◌+◌, ◌≤◌, length};
 ghost use Rattle.scope.specs.Targets.{target_numbers};
 ghost use Rattle.plan.specs.Layout.{source_head};
-ghost use Rattle.plan.specs.Appended.{Appended};
+ghost use Rattle.plan.specs.Pushed.{Pushed};
 ghost use Rattle.build_clauses.specs.Follows.{Follows};
 ghost use Rattle.build_clauses.specs.Remaps.{RemapBuilt};
 
-use plan::nodes::Kind;
+use plan::nodes::{Kind, Nodes};
 use plan::parts::{begin, end};
-use plan::pushes::push;
 use plan::steps::Step;
 use scope::hidden::hidden_target;
 
 // A target for each column.
-fn push_targets(width: u32, hidden: u32, nodes: &mut [u32], k: usize) -> usize
+fn push_targets(width: u32, hidden: u32, nodes: &mut Nodes)
     requires hidden_le_width { hidden ≤ width }
-    requires width_in_bounds { k + width ≤ length nodes.old }
-    ensures { Appended (target_numbers width hidden) k nodes.old result nodes.new }
+    requires width_in_bounds { nodes.old.used + width ≤ length nodes.old.numbers.now }
+    ensures { Pushed (target_numbers width hidden) nodes.old nodes.new }
 {
-    let mut j = k;
     for i in 0..width {
-        j = push(nodes, j, hidden_target(width, hidden, i));
+        nodes.push(hidden_target(width, hidden, i));
     }
-    j
 }
 
 // The remap of a scope's columns by its width and how many of them are hidden; without these nothing is appended.
-pub fn build_remap(width: u32, hidden: u32, nodes: &mut [u32], at: Step) -> Step
+pub fn build_remap(width: u32, hidden: u32, nodes: &mut Nodes, at: Step) -> Step
     requires hidden_le_width { hidden ≤ width }
-    requires follows { Follows (source_head + width) at.node at.used nodes.old }
-    ensures { RemapBuilt width hidden at.cell at.node at.used nodes.old nodes.new result }
+    requires follows { Follows (source_head + width) at.node nodes.old }
+    ensures { RemapBuilt width hidden at.cell at.node nodes.old nodes.new result }
 {
     if hidden == 0 {
         return at;
     }
-    let start = begin(nodes, at.used, Kind::Remap, at.node - 1);
-    let used = push_targets(width, hidden, nodes, start);
-    end(nodes, at.used, used);
+    let start = nodes.used;
+    begin(nodes, Kind::Remap, at.node - 1);
+    push_targets(width, hidden, nodes);
+    end(nodes, start);
     Step {
         cell: at.cell,
         node: at.node + 1,
-        used,
     }
 }

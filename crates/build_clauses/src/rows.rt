@@ -11,7 +11,7 @@ use ast::Expressions;
 use expression::constants::build_constant_value;
 use expression::planned::to_natural;
 use numbers::refusals::{Reason, Refusal};
-use plan::nodes::{Kind, rows};
+use plan::nodes::{Kind, Nodes, rows};
 use plan::steps::Step;
 use statement::access::Clause;
 
@@ -30,24 +30,23 @@ fn build_rows(
     clause: Option<Clause>,
     kind: Kind,
     reason: Reason,
-    nodes: &mut [u32],
+    nodes: &mut Nodes,
     at: Step,
 ) -> Result<Step, Refusal>
-    requires { Follows rows_size at.node at.used nodes.old }
+    requires { Follows rows_size at.node nodes.old }
     ensures { (f : ℕ → Node Built → Node Built) (v : ℕ → ℕ → NodeRecord) → RowsNode kind f v
         → RowsBuilt (reason_of reason) f
         exprs.now.texts.catalog.now exprs.now.texts.statement.now exprs.now.table.now
-        clause at.cell at.node at.used nodes.old nodes.new result }
+        clause at.cell at.node nodes.old nodes.new result }
 {
     let Some(clause) = clause else {
         return Ok(at);
     };
     let count = row_count(exprs, clause.row, reason.at(clause.line))?;
-    let used = rows(nodes, at.used, kind, at.node - 1, count);
+    rows(nodes, kind, at.node - 1, count);
     Ok(Step {
         cell: at.cell,
         node: at.node + 1,
-        used,
     })
 }
 
@@ -55,13 +54,12 @@ fn build_rows(
 pub fn build_offset(
     exprs: &Expressions,
     clause: Option<Clause>,
-    nodes: &mut [u32],
+    nodes: &mut Nodes,
     at: Step,
 ) -> Result<Step, Refusal>
-    requires { Follows rows_size at.node at.used nodes.old }
+    requires { Follows rows_size at.node nodes.old }
     ensures { OffsetBuilt exprs.now.texts.catalog.now exprs.now.texts.statement.now exprs.now.table.now clause at.cell
-        at.node at.used
-        nodes.old nodes.new result }
+        at.node nodes.old nodes.new result }
 {
     build_rows(
         exprs,
@@ -77,13 +75,12 @@ pub fn build_offset(
 pub fn build_limit(
     exprs: &Expressions,
     clause: Option<Clause>,
-    nodes: &mut [u32],
+    nodes: &mut Nodes,
     at: Step,
 ) -> Result<Step, Refusal>
-    requires { Follows rows_size at.node at.used nodes.old }
+    requires { Follows rows_size at.node nodes.old }
     ensures { LimitBuilt exprs.now.texts.catalog.now exprs.now.texts.statement.now exprs.now.table.now clause at.cell
-        at.node at.used
-        nodes.old nodes.new result }
+        at.node nodes.old nodes.new result }
 {
     build_rows(exprs, clause, Kind::Limit, Reason::InvalidLimit, nodes, at)
 }

@@ -106,11 +106,7 @@ fn call(exprs: &Expressions, r: usize) -> Result<Begun, Refusal>
     if is_root(exprs, r) {
         return Ok(Begun::Operands(Operator::Unary(Unary::SquareRoot)));
     }
-    let refusal = Refusal {
-        reason: Reason::UnknownFunction,
-        line: row::line(exprs.table, r),
-    };
-    Err(refusal)
+    Err(Reason::UnknownFunction.at(row::line(exprs.table, r)))
 }
 
 // A record that is matched to no column.
@@ -130,10 +126,7 @@ fn unmatched(
 {
     let kind = row::kind_of(exprs.table, r);
     match kind {
-        Kind::Star => Err(Refusal {
-            reason: Reason::UnsupportedStar,
-            line: row::line(exprs.table, r),
-        }),
+        Kind::Star => Err(Reason::UnsupportedStar.at(row::line(exprs.table, r))),
         Kind::Column => Ok(Begun::Whole(column(exprs, r, scope, None, area, n)?)),
         Kind::Qualified => Ok(Begun::Whole(qualified(exprs, r, scope, area, n)?)),
         Kind::Call => call(exprs, r),

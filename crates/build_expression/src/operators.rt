@@ -33,10 +33,7 @@ pub fn is(table: &[u32], r: usize, area: &mut [u32], m: u32) -> Result<u32, Refu
 {
     let literal = row::literal(table, r);
     if !literal.is_null_or_nan() {
-        return Err(Refusal {
-            reason: Reason::InvalidIs,
-            line: row::line(table, r),
-        });
+        return Err(Reason::InvalidIs.at(row::line(table, r)));
     }
     cells::is(area, m, m - 1, literal);
     Ok(m + 1)

@@ -31,8 +31,9 @@ use Rattle.scope.specs.Labels.{columns_of}
 use Rattle.scope.specs.Scopes.{scope_of, scope_from, labels_of, table_numbers, Valid, Plain}
 use Rattle.scope.specs.New.{New}
 use Rattle.scope.specs.declared.Scope.{Scope}
-use Rattle.plan.specs.Layout.{nodes_size, empty_row_size}
-use Rattle.plan.specs.Appended.{Appended}
+use Rattle.plan.specs.Layout.{nodes_size}
+use Rattle.plan.specs.Pushed.{Kept, Pushed}
+use Rattle.plan.specs.declared.nodes.Nodes.{Nodes}
 use Rattle.plan.specs.Cells.{Room}
 use Rattle.plan.specs.Steps.{RefusedWith, stands_one, Standing}
 use Rattle.build_from.specs.declared.Source.{Source}
@@ -40,20 +41,22 @@ use Rattle.build_from.specs.declared.Source.{Source}
 -- ROOM
 -- the catalog's numbers ts stand for tables that were read, the items fs are of the statement that was, and there is room
 -- for them
-pub record ClauseRoom (c q : Bytes) (ts : List ℕ) (fs : List From) (area nodes : List ℕ) : Type 0 where
+pub record ClauseRoom (c q : Bytes) (ts : List ℕ) (fs : List From) (area : List ℕ) (nodes : Nodes) : Type 0 where
   pub statement : Statement
   pub within : TextsWithin c q (catalog_at c q ts) statement
   pub parts : All (FromHas (ExprWithin c q) (StatementName c q)) fs
   pub tables : total from_tables fs ≤ most_from_tables
   pub cells : Room 0 (3 * total from_size fs) area
-  pub numbers : FromFits fs (length nodes)
-  pub most : length nodes ≤ nodes_size
+  pub numbers : FromFits fs (length nodes.numbers.now)
+  pub most : length nodes.numbers.now ≤ nodes_size
+  pub none : nodes.used ≡ 0
 
 -- a SELECT that was read has room for its FROM
-pub clause-room : {c q : Bytes} {ts : List ℕ} {fs : List From} {area nodes : List ℕ} (d : Select)
+pub clause-room : {c q : Bytes} {ts : List ℕ} {fs : List From} {area : List ℕ} {nodes : Nodes} (d : Select)
     → TextsWithin c q (catalog_at c q ts) (Ast.select d) → d.from ≡ fs → least_area ≤ length area
-    → FromFits d.from (length nodes) → length nodes ≤ nodes_size → ClauseRoom c q ts fs area nodes
-clause-room {c} {q} {ts} {fs} d h e a n l =
+    → FromFits d.from (length nodes.numbers.now) → length nodes.numbers.now ≤ nodes_size → nodes.used ≡ 0
+    → ClauseRoom c q ts fs area nodes
+clause-room {c} {q} {ts} {fs} d h e a n l z =
     let m : 3 * total from_size fs ≤ _ = rw e at (room-from (catalog_at c q ts) d (select-few h)) in
     record {
       statement = Ast.select d;
@@ -63,27 +66,28 @@ clause-room {c} {q} {ts} {fs} d h e a n l =
       cells = record { counted = omega (arith, m); held = omega (arith, m, a) };
       numbers = rw e at n;
       most = l;
+      none = z;
     }
 
 -- THE CONTRACT
--- accepted: the clause's scope, and its node from the first cell and the first number on, whose labels are the scope's
-pub record ClauseAccepted (c q : Bytes) (ts cells : List ℕ) (fs : List From) (area nodes area' nodes' : List ℕ)
-    (x : Source) : Type 0 where
+-- accepted: the clause's scope, and its node from the first cell on, whose labels are the scope's
+pub record ClauseAccepted (c q : Bytes) (ts cells : List ℕ) (fs : List From) (area : List ℕ) (nodes : Nodes)
+    (area' : List ℕ) (nodes' : Nodes) (x : Source) : Type 0 where
   pub valid : Valid x.scope
   pub plain : Plain x.scope
   pub count : x.scope.count ≤ most_from_tables
-  pub some : 0 < x.node
-  pub few : x.node ≤ x.used
+  pub some : 0 < x.at.node
+  pub few : x.at.node ≤ nodes'.used
   pub node : Node Built
   pub is : build_from_clause (catalog_at c q ts) fs ≡ ok (stage_of node (scope_of (tree_at c q cells) c q x.scope))
-  pub standing : Standing node x.cell x.node x.used area nodes area' nodes'
+  pub standing : Standing node x.at.cell x.at.node area nodes area' nodes'
   pub labelled : labels node ≡ columns_of c q (table_numbers x.scope) (labels_of x.scope)
   pub qualified : All IsQualified (columns_of c q (table_numbers x.scope) (labels_of x.scope))
 
-pub record ClauseBuilds (c q : Bytes) (ts cells : List ℕ) (fs : List From) (area nodes area' nodes' : List ℕ)
-    (r : Result Source Refusal) : Type 0 where
+pub record ClauseBuilds (c q : Bytes) (ts cells : List ℕ) (fs : List From) (area : List ℕ) (nodes : Nodes)
+    (area' : List ℕ) (nodes' : Nodes) (r : Result Source Refusal) : Type 0 where
   pub kept : length area' ≡ length area
-  pub kept-nodes : length nodes' ≡ length nodes
+  pub kept-nodes : Kept nodes nodes'
   pub is : MatchResult r (ClauseAccepted c q ts cells fs area nodes area' nodes')
       (RefusedWith (build_from_clause (catalog_at c q ts) fs))
 
@@ -99,38 +103,34 @@ module _ (c q : Bytes) (ts cells : List ℕ) (fs : List From) (s : Scope) (d : N
   clause-qualified = ensured (build_from_clause (catalog_at c q ts) fs) _ (from-qualified (catalog_at c q ts) fs) _ h
 
 -- NO ITEMS
-pub empty-room : {c q : Bytes} {ts : List ℕ} {fs : List From} {area nodes : List ℕ}
-    → ClauseRoom c q ts fs area nodes → empty_row_size ≤ length nodes
-empty-room h = h.numbers.row
-
-pub clause-none : (c q : Bytes) (ts cells area : List ℕ) {nodes nodes' : List ℕ} {s : Scope} {v : ℕ} → New s
-    → Appended (record_numbers (values ([] ∷ []))) 0 nodes v nodes'
+pub clause-none : (c q : Bytes) (ts cells area : List ℕ) {nodes nodes' : Nodes} {s : Scope} → New s → nodes.used ≡ 0
+    → Pushed (record_numbers (values ([] ∷ []))) nodes nodes'
     → ClauseBuilds c q ts cells [] area nodes area nodes'
-    (Ok (record { scope = s; line = 0; cell = 0; node = 1; used = v }))
+    (Ok (record { scope = s; line = 0; at = record { cell = 0; node = 1 } }))
 unfolding cells_numbers concat
-clause-none c q ts cells area {s = x} s a =
+clause-none c q ts cells area {s = x} s z a =
     let o = from-none (catalog_at c q ts) 0 0 in
     let is : build_from_clause (catalog_at c q ts) [] ≡ ok (stage_of o.node (scope_of (tree_at c q cells) c q x)) =
     rw (s.is (tree_at c q cells) c q) o.answer in
     let n : 1 ≤ length (record_numbers (values ([] ∷ []))) = unfold record_numbers sized in (omega arith) in
     record {
       kept = refl;
-      kept-nodes = a.all;
+      kept-nodes = a.kept;
       is = record {
         valid = s.valid;
         plain = s.plain;
         count = s.valid.tables;
         some = omega arith;
-        few = omega (arith, n, a.next);
+        few = omega (arith, n, a.appended.next);
         node = o.node;
         is = is;
         standing = record {
           cells = [];
           records = values ([] ∷ []) ∷ [];
           lays = o.lays;
+          none = z;
           stands = stands_one _ (rw append-nil) a;
           kept = refl;
-          kept-nodes = a.all;
         };
         labelled = clause-labels c q ts cells [] x o.node is;
         qualified = clause-qualified c q ts cells [] x o.node is;

@@ -2,7 +2,7 @@
 use Rattle.std.specs.Prelude.{ℕ, ◌+◌, ◌-◌, ◌*◌, ◌≤◌, ◌<◌, pred, ◌≡◌, refl, false, List, [], ◌∷◌, ◌++◌, length, Result, MatchResult, Ok, Err}
 use Rattle.std.proofs.Common.{arith, ap, ◌∙◌}
 use Rattle.std.proofs.Math.Numerals.{sub-one}
-use Rattle.std.proofs.Math.Option.{Option, none}
+use Rattle.std.proofs.Math.Option.{none}
 use Rattle.rules.specs.Refusals.{Refusal, Answer, ok, refused, ◌>>=◌}
 use Rattle.rules.specs.Limits.{most_from_tables}
 use Rattle.rules.specs.Lists.{Bytes}
@@ -12,7 +12,7 @@ use Rattle.rules.specs.Plan.{Built, Node}
 use Rattle.rules.specs.Plan as P
 use Rattle.rules.specs.Cells.{Cell}
 use Rattle.rules.specs.Nodes.{NodeRecord, join}
-use Rattle.rules.specs.Area.{option_number, record_numbers}
+use Rattle.rules.specs.Area.{record_numbers}
 use Rattle.rules.specs.Scope as rules
 use Rattle.rules.specs.Stage.{Stage}
 use Rattle.rules.specs.BuildFrom.{merge_into, build_from, build_later_items}
@@ -29,11 +29,12 @@ use Rattle.schema.specs.Layout.{catalog_at}
 use Rattle.scope.specs.Scopes.{scope_of, Valid, Plain}
 use Rattle.scope.specs.declared.Scope.{Scope}
 use Rattle.plan.specs.Layout.{join_size}
-use Rattle.plan.specs.Appended.{Appended}
+use Rattle.plan.specs.Pushed.{Kept, kept-on, Pushed}
+use Rattle.plan.specs.declared.nodes.Nodes.{Nodes}
 use Rattle.plan.specs.Records.{records-on}
 use Rattle.plan.specs.Steps.{refused-on, Lies, Taken, StoppedWith}
 use Rattle.build_from.specs.Sources.{ItemRoom, Accepted, Builds}
-use Rattle.build_from.specs.Merges.{TwoScopes, Merges}
+use Rattle.build_from.specs.Merges.{Merges}
 use Rattle.build_from.specs.Joins.{join-size}
 use Rattle.build_from.specs.Items.{laid_cells, laid-numbers}
 use Rattle.build_from.specs.declared.Source.{Source}
@@ -73,66 +74,57 @@ module _ (cat : Catalog) (f : From) (fs : List From) (r : Stage) where
 
 -- THE CONTRACT
 -- the clause a so far, and room for the item f and the join behind it
-pub record LaterRoom (c q : Bytes) (ts : List ℕ) (f : From) (a : Source) (area nodes : List ℕ) : Type 0 where
+pub record LaterRoom (c q : Bytes) (ts : List ℕ) (f : From) (a : Source) (area : List ℕ) (nodes : Nodes) : Type 0 where
   pub valid : Valid a.scope
   pub plain : Plain a.scope
-  pub some : 0 < a.node
+  pub some : 0 < a.at.node
   pub tables : a.scope.count + from_tables f ≤ most_from_tables
-  pub item : ItemRoom c q ts f a.cell a.node a.used area nodes
-  pub numbers : a.used + table_room * from_tables f ≤ length nodes
+  pub item : ItemRoom c q ts f a.at area nodes
+  pub numbers : nodes.used + table_room * from_tables f ≤ length nodes.numbers.now
 
-pub record LaterAccepted (c q : Bytes) (ts cells : List ℕ) (f : From) (a : Source) (area nodes area' nodes' : List ℕ)
-    (x : Source) : Type 0 where
+pub record LaterAccepted (c q : Bytes) (ts cells : List ℕ) (f : From) (a : Source) (area : List ℕ) (nodes : Nodes)
+    (area' : List ℕ) (nodes' : Nodes) (x : Source) : Type 0 where
   pub valid : Valid x.scope
   pub plain : Plain x.scope
   pub count : x.scope.count ≡ a.scope.count + from_tables f
-  pub more : a.node < x.node
-  pub few : x.node ≤ x.used
-  pub next : x.cell ≤ a.cell + 3 * from_size f
-  pub numbers : x.used ≤ a.used + table_room * from_tables f
+  pub more : a.at.node < x.at.node
+  pub few : x.at.node ≤ nodes'.used
+  pub next : x.at.cell ≤ a.at.cell + 3 * from_size f
+  pub numbers : nodes'.used ≤ nodes.used + table_room * from_tables f
   pub taken : Taken (λ d. stage_of d (scope_of (tree_at c q cells) c q x.scope))
       (later_item (catalog_at c q ts) f (scope_of (tree_at c q cells) c q a.scope))
-      a.cell a.node a.used area nodes x.cell x.node x.used area' nodes'
+      a.at.cell a.at.node area nodes x.at.cell x.at.node area' nodes'
 
-pub record LaterBuilds (c q : Bytes) (ts cells : List ℕ) (f : From) (a : Source) (area nodes area' nodes' : List ℕ)
-    (r : Result Source code.Refusal) : Type 0 where
+pub record LaterBuilds (c q : Bytes) (ts cells : List ℕ) (f : From) (a : Source) (area : List ℕ) (nodes : Nodes)
+    (area' : List ℕ) (nodes' : Nodes) (r : Result Source code.Refusal) : Type 0 where
   pub kept : length area' ≡ length area
-  pub kept-nodes : length nodes' ≡ length nodes
+  pub kept-nodes : Kept nodes nodes'
   pub is : MatchResult r (LaterAccepted c q ts cells f a area nodes area' nodes')
-      (StoppedWith (later_item (catalog_at c q ts) f (scope_of (tree_at c q cells) c q a.scope)) a.cell a.node)
+      (StoppedWith (later_item (catalog_at c q ts) f (scope_of (tree_at c q cells) c q a.scope)) a.at.cell a.at.node)
 
 -- THE RETURNS
-module _ {c q : Bytes} {ts : List ℕ} {f : From} {a : Source} {area nodes : List ℕ}
+module _ {c q : Bytes} {ts : List ℕ} {f : From} {a : Source} {area : List ℕ} {nodes : Nodes}
     (h : LaterRoom c q ts f a area nodes) where
-  pub later-unbuilt : {cells area₁ nodes₁ : List ℕ} {w : code.Refusal} → Builds c q ts cells f a.cell a.node a.used area nodes area₁ nodes₁ (Err w)
+  pub later-unbuilt : {cells area₁ : List ℕ} {nodes₁ : Nodes} {w : code.Refusal} → Builds c q ts cells f a.at area nodes area₁ nodes₁ (Err w)
       → LaterBuilds c q ts cells f a area nodes area₁ nodes₁ (Err w)
   later-unbuilt {cells} d = record {
     kept = d.kept;
     kept-nodes = d.kept-nodes;
-    is = λ n cs rs l. refused-on d.is (later-refused (catalog_at c q ts) n (scope_of (tree_at c q cells) c q a.scope) 0 0 cs rs a.cell a.node l f []);
+    is = λ n cs rs l. refused-on d.is (later-refused (catalog_at c q ts) n (scope_of (tree_at c q cells) c q a.scope) 0 0 cs rs a.at.cell a.at.node l f []);
   }
 
-  module _ {cells area₁ nodes₁ : List ℕ} {b : Source}
-      (d : Builds c q ts cells f a.cell a.node a.used area nodes area₁ nodes₁ (Ok b)) where
-    abbrev built : Accepted c q ts cells f a.cell a.node a.used area nodes area₁ nodes₁ b
+  module _ {cells area₁ : List ℕ} {nodes₁ : Nodes} {b : Source}
+      (d : Builds c q ts cells f a.at area nodes area₁ nodes₁ (Ok b)) where
+    abbrev built : Accepted c q ts cells f a.at area nodes area₁ nodes₁ b
     built = d.is
 
-    in_use : b.used + join_size ≤ a.used + table_room * from_tables f
+    in_use : nodes₁.used + join_size ≤ nodes.used + table_room * from_tables f
     in_use = omega (arith, laid-numbers (catalog_at c q ts) f built.laid)
 
-    pub later-scopes : TwoScopes a.scope b.scope
-    later-scopes = record {
-      valid = h.valid;
-      plain = h.plain;
-      other = built.valid;
-      other-plain = built.plain;
-      tables = omega (arith, h.tables, built.count);
-    }
-
     -- room for the join, and for its node among the numbers of 32 bits
-    pub later-join-room : (b.used + join_size ≤ length nodes₁) × (0 < b.node) × (b.node + 1 < 4294967296)
+    pub later-join-room : (nodes₁.used + join_size ≤ length nodes₁.numbers.now) × (0 < b.at.node) × (b.at.node + 1 < 4294967296)
     later-join-room = (
-      omega (arith, in_use, h.numbers, d.kept-nodes),
+      omega (arith, in_use, h.numbers, d.kept-nodes.all),
       omega (arith, built.more),
       omega (arith, in_use, h.numbers, h.item.most, built.few),
     )
@@ -143,25 +135,24 @@ module _ {c q : Bytes} {ts : List ℕ} {f : From} {a : Source} {area nodes : Lis
       kept = d.kept;
       kept-nodes = d.kept-nodes;
       is = λ n cs rs l. refused-on (g.is (tree_at c q cells))
-          (later-merge (catalog_at c q ts) n (scope_of (tree_at c q cells) c q a.scope) 0 0 cs rs a.cell a.node l f []
-          (scope_of (tree_at c q cells) c q b.scope) b.line built.laid.cells built.laid.records b.cell b.node built.laid.is);
+          (later-merge (catalog_at c q ts) n (scope_of
+          (tree_at c q cells) c q a.scope) 0 0 cs rs a.at.cell a.at.node l f []
+          (scope_of (tree_at c q cells) c q b.scope) b.line built.laid.cells built.laid.records b.at.cell b.at.node built.laid.is);
     }
 
-    module _ {s : Scope} (g : Merges c q a.scope b.scope b.line (Ok s)) {v : ℕ} {nodes' : List ℕ}
-        (j : (x : Option ℕ) → option_number x ≡ 0
-        → Appended (record_numbers (join (a.node - 1) (b.node - 1) x false)) b.used nodes₁ v nodes') where
-      laid_join : Appended (record_numbers (join (pred a.node) (pred b.node) none false)) b.used nodes₁ v nodes'
-      unfolding option_number
-      laid_join = rw (sub-one a.node, sub-one b.node) at (j none refl)
+    module _ {s : Scope} (g : Merges c q a.scope b.scope b.line (Ok s)) {nodes' : Nodes}
+        (j : Pushed (record_numbers (join (a.at.node - 1) (b.at.node - 1) none false)) nodes₁ nodes') where
+      laid_join : Pushed (record_numbers (join (pred a.at.node) (pred b.at.node) none false)) nodes₁ nodes'
+      laid_join = rw (sub-one a.at.node, sub-one b.at.node) at j
 
-      joined-in-use : v ≡ b.used + join_size
-      joined-in-use = laid_join.next ∙ ap (λ n. b.used + n) (join-size _ _ _ _)
+      joined-in-use : nodes'.used ≡ nodes₁.used + join_size
+      joined-in-use = j.appended.next ∙ ap (λ n. nodes₁.used + n) (join-size _ _ _ _)
 
       later-taken : Taken (λ n. stage_of n (scope_of (tree_at c q cells) c q s)) (later_item (catalog_at c q ts) f (scope_of (tree_at c q cells) c q a.scope))
-          a.cell a.node a.used area nodes b.cell (b.node + 1) v area₁ nodes'
+          a.at.cell a.at.node area nodes b.at.cell (b.at.node + 1) area₁ nodes'
       later-taken = record {
         cells = built.laid.cells;
-        records = built.laid.records ++ (join (pred a.node) (pred b.node) none false ∷ []);
+        records = built.laid.records ++ (join (pred a.at.node) (pred b.at.node) none false ∷ []);
         lies = lies;
         stands = record {
           cells = built.laid.stands.cells;
@@ -169,29 +160,31 @@ module _ {c q : Bytes} {ts : List ℕ} {f : From} {a : Source} {area nodes : Lis
         };
       }
         where
-          lies : (n : Node Built) (cs : List Cell) (rs : List NodeRecord) → Lays 0 0 n cs rs a.cell a.node
+          lies : (n : Node Built) (cs : List Cell) (rs : List NodeRecord) → Lays 0 0 n cs rs a.at.cell a.at.node
               → Lies (λ n. stage_of n (scope_of (tree_at c q cells) c q s)) (later_item (catalog_at c q ts) f (scope_of (tree_at c q cells) c q a.scope) n)
               (cs ++ built.laid.cells)
-              (rs ++ (built.laid.records ++ (join (pred a.node) (pred b.node) none false ∷ []))) b.cell (b.node + 1)
+              (rs ++ (built.laid.records ++ (join (pred a.at.node) (pred b.at.node) none false ∷ []))) b.at.cell
+              (b.at.node + 1)
           lies n cs rs l =
               let cat = catalog_at c q ts in
               let o = built.laid in
-              let e = later-end cat (P.join n o.is.node none false) (scope_of (tree_at c q cells) c q s) 0 0 _ _ b.cell (b.node + 1)
-              (later-lays cat n (scope_of (tree_at c q cells) c q a.scope) 0 0 cs rs a.cell a.node l f [] (scope_of (tree_at c q cells) c q b.scope) b.line
-              o.cells o.records b.cell b.node o.is) in
+              let e = later-end cat (P.join n o.is.node none false) (scope_of (tree_at c q cells) c q s) 0 0 _ _ b.at.cell (b.at.node + 1)
+              (later-lays cat n (scope_of (tree_at c q cells) c q a.scope) 0 0 cs rs a.at.cell a.at.node l f []
+              (scope_of (tree_at c q cells) c q b.scope) b.line
+              o.cells o.records b.at.cell b.at.node o.is) in
               record {
                 node = e.node;
-                answer = later-step cat n (scope_of (tree_at c q cells) c q a.scope) 0 0 cs rs a.cell a.node l f [] (scope_of (tree_at c q cells) c q b.scope) b.line
-                    o.cells o.records b.cell b.node o.is (scope_of (tree_at c q cells) c q s)
+                answer = later-step cat n (scope_of (tree_at c q cells) c q a.scope) 0 0 cs rs a.at.cell a.at.node l f [] (scope_of (tree_at c q cells) c q b.scope) b.line
+                    o.cells o.records b.at.cell b.at.node o.is (scope_of (tree_at c q cells) c q s)
                     (g.is.is (tree_at c q cells) b.line) ∙ e.answer;
                 lays = e.lays;
               }
 
       pub later-joined : LaterBuilds c q ts cells f a area nodes area₁ nodes'
-          (Ok (record { scope = s; line = b.line; cell = b.cell; node = b.node + 1; used = v }))
+          (Ok (record { scope = s; line = b.line; at = record { cell = b.at.cell; node = b.at.node + 1 } }))
       later-joined = record {
         kept = d.kept;
-        kept-nodes = laid_join.all ∙ d.kept-nodes;
+        kept-nodes = kept-on d.kept-nodes j.kept;
         is = record {
           valid = g.is.valid;
           plain = g.is.plain;

@@ -1,6 +1,6 @@
 -- The scopes of a join's sides merged, or refused: 6 a table name held by both, then 3 too many columns. Merged into the
 -- empty scope, a scope stays as it is.
-use Rattle.std.specs.Prelude.{ℕ, ◌+◌, ◌≤◌, ◌≡◌, Bool, ltb, length, ⊤, Result, MatchResult, Ok, Err}
+use Rattle.std.specs.Prelude.{ℕ, ◌+◌, ◌≤◌, ◌≡◌, Bool, ltb, length, ⊤, Result, MatchResult, is_ok, Ok, Err}
 use native.Mathlib.Omega.{arith}
 use Rattle.std.proofs.Math.Path.{refl, sym, ap}
 use Rattle.std.proofs.Common.{◌∙◌, length-take-le}
@@ -74,6 +74,15 @@ pub record Merges (c q : Bytes) (s t : Scope) (l : ℕ) (r : Result Scope Refusa
 
 labels-many : (s : Scope) → Valid s → length (labels_of s) ≡ s.width
 labels-many s h = length-take-le s.width s.labels (omega (arith, h.width, h.labels-room))
+
+-- what was told, by whether it is a reason
+pub told-allowed : (m : Result ⊤ Reason) (u : ⊤) → true ≡ is_ok m → m ≡ Ok u
+told-allowed (Ok x) u h = refl
+told-allowed (Err k) u h = absurd (let z : ◌≡◌ {A = ℕ} 0 1 = cc in omega arith)
+
+pub told-refused : (m : Result ⊤ Reason) → false ≡ is_ok m → (k : Reason) × (m ≡ Err k)
+told-refused (Ok x) h = absurd (let z : ◌≡◌ {A = ℕ} 0 1 = cc in omega arith)
+told-refused (Err k) h = (k, refl)
 
 -- what was told, of the rules' merge
 module _ (c q : Bytes) (s t : Scope) (h : TwoScopes s t) {m : Result ⊤ Reason}

@@ -23,6 +23,9 @@ use Rattle.scope.specs.Scopes.{scope_of, Valid, Plain}
 use Rattle.from.specs.Layout.{roots_before, roots_at, from_at, froms_at}
 use Rattle.from.specs.Roots.{froms-count, from-item}
 use Rattle.plan.specs.Cells.{Room}
+use Rattle.plan.specs.Pushed.{kept-on}
+use Rattle.plan.specs.declared.nodes.Nodes.{Nodes}
+use Rattle.plan.specs.declared.steps.Step.{Step}
 use Rattle.plan.specs.Steps.{refused-on, step-done, Standing, standing_on}
 use Rattle.build_from.specs.Sources.{ItemRoom, Builds}
 use Rattle.build_from.specs.Merges.{merge-empty}
@@ -32,28 +35,32 @@ use Rattle.build_from.specs.Clause.{ClauseRoom, ClauseBuilds, clause-labels, cla
 use Rattle.build_from.specs.declared.Source.{Source}
 
 -- the clause a without the items gs that are left: what stands, and room for those
-pub record PartAccepted (c q : Bytes) (ts cells : List ℕ) (fs gs : List From) (area₀ nodes₀ area nodes : List ℕ)
-    (a : Source) : Type 0 where
+pub record PartAccepted (c q : Bytes) (ts cells : List ℕ) (fs gs : List From) (area₀ : List ℕ) (nodes₀ : Nodes)
+    (area : List ℕ) (nodes : Nodes) (a : Source) : Type 0 where
   pub valid : Valid a.scope
   pub plain : Plain a.scope
-  pub some : 0 < a.node
-  pub few : a.node ≤ a.used
+  pub some : 0 < a.at.node
+  pub few : a.at.node ≤ nodes.used
   pub parts : All (FromHas (ExprWithin c q) (StatementName c q)) gs
   pub tables : a.scope.count + total from_tables gs ≤ most_from_tables
-  pub room : Room a.cell (3 * total from_size gs) area
-  pub numbers : a.used + table_room * total from_tables gs ≤ length nodes
+  pub room : Room a.at.cell (3 * total from_size gs) area
+  pub numbers : nodes.used + table_room * total from_tables gs ≤ length nodes.numbers.now
   pub node : Node Built
   pub is : build_from_clause (catalog_at c q ts) fs
       ≡ build_later_items (catalog_at c q ts) gs (stage_of node (scope_of (tree_at c q cells) c q a.scope))
-  pub standing : Standing node a.cell a.node a.used area₀ nodes₀ area nodes
+  pub standing : Standing node a.at.cell a.at.node area₀ nodes₀ area nodes
+
+-- nothing is built
+abbrev pub start : Step
+start = record { cell = 0; node = 0 }
 
 -- the first item
-module _ {c q : Bytes} {ts : List ℕ} {fs : List From} {f : From} {gs : List From} {area₀ nodes₀ : List ℕ}
+module _ {c q : Bytes} {ts : List ℕ} {fs : List From} {f : From} {gs : List From} {area₀ : List ℕ} {nodes₀ : Nodes}
     (h : ClauseRoom c q ts fs area₀ nodes₀) (e : fs ≡ f ∷ gs) where
   abbrev room : ClauseRoom c q ts (f ∷ gs) area₀ nodes₀
   room = rw e at h
 
-  first-item-room : ItemRoom c q ts f 0 0 0 area₀ nodes₀
+  first-item-room : ItemRoom c q ts f start area₀ nodes₀
   unfolding All total
   first-item-room = record {
     statement = room.statement;
@@ -61,13 +68,13 @@ module _ {c q : Bytes} {ts : List ℕ} {fs : List From} {f : From} {gs : List Fr
     parts = room.parts.0;
     tables = omega (arith, room.tables);
     cells = record { counted = omega (arith, room.cells.counted); held = omega (arith, room.cells.held) };
-    numbers = omega (arith, room.numbers.tables);
+    numbers = omega (arith, room.numbers.tables, room.none);
     most = room.most;
     few = omega arith;
   }
 
-  first-refused : {cells area nodes : List ℕ} {w : Refusal}
-      → Builds c q ts cells f 0 0 0 area₀ nodes₀ area nodes (Err w)
+  first-refused : {cells area : List ℕ} {nodes : Nodes} {w : Refusal}
+      → Builds c q ts cells f start area₀ nodes₀ area nodes (Err w)
       → ClauseBuilds c q ts cells fs area₀ nodes₀ area nodes (Err w)
   first-refused d = record {
     kept = d.kept;
@@ -75,7 +82,7 @@ module _ {c q : Bytes} {ts : List ℕ} {fs : List From} {f : From} {gs : List Fr
     is = refused-on d.is (λ w i. ap (build_from_clause (catalog_at c q ts)) e ∙ from-refused (catalog_at c q ts) f gs w i);
   }
 
-  first-built : {cells area nodes : List ℕ} {a : Source} → Builds c q ts cells f 0 0 0 area₀ nodes₀ area nodes (Ok a)
+  first-built : {cells area : List ℕ} {nodes : Nodes} {a : Source} → Builds c q ts cells f start area₀ nodes₀ area nodes (Ok a)
       → PartAccepted c q ts cells fs gs area₀ nodes₀ area nodes a
   unfolding All total
   first-built {cells} {a = a} d =
@@ -94,24 +101,25 @@ module _ {c q : Bytes} {ts : List ℕ} {fs : List From} {f : From} {gs : List Fr
           counted = omega (arith, room.cells.counted, i);
           held = omega (arith, room.cells.held, i, d.kept);
         };
-        numbers = omega (arith, room.numbers.tables, k, d.kept-nodes);
+        numbers = omega (arith, room.numbers.tables, room.none, k, d.kept-nodes.all);
         node = o.laid.is.node;
         is = ap (build_from_clause (catalog_at c q ts)) e
-            ∙ from_first (catalog_at c q ts) f gs s a.line 0 0 o.laid.cells o.laid.records a.cell a.node
+            ∙ from_first (catalog_at c q ts) f gs s a.line 0 0 o.laid.cells o.laid.records a.at.cell a.at.node
             o.laid.is s (merge-empty (tree_at c q cells) c q a.scope a.line o.valid o.plain);
         standing = record {
           cells = o.laid.cells;
           records = o.laid.records;
           lays = o.laid.is.lays;
+          none = room.none;
           stands = o.laid.stands;
           kept = d.kept;
-          kept-nodes = d.kept-nodes;
         };
       }
 
 -- a later one
 module _ {c q : Bytes} {ts cells : List ℕ} {fs gs : List From} {f : From} {gs' : List From}
-    {area₀ nodes₀ area nodes : List ℕ} {a : Source} (h : ClauseRoom c q ts fs area₀ nodes₀) (e : gs ≡ f ∷ gs')
+    {area₀ : List ℕ} {nodes₀ : Nodes} {area : List ℕ} {nodes : Nodes} {a : Source}
+    (h : ClauseRoom c q ts fs area₀ nodes₀) (e : gs ≡ f ∷ gs')
     (p : PartAccepted c q ts cells fs gs area₀ nodes₀ area nodes a) where
   abbrev part : PartAccepted c q ts cells fs (f ∷ gs') area₀ nodes₀ area nodes a
   part = rw e at p
@@ -130,28 +138,28 @@ module _ {c q : Bytes} {ts cells : List ℕ} {fs gs : List From} {f : From} {gs'
       tables = omega (arith, part.tables);
       cells = record { counted = omega (arith, part.room.counted); held = omega (arith, part.room.held) };
       numbers = omega (arith, part.numbers);
-      most = omega (arith, h.most, part.standing.kept-nodes);
+      most = omega (arith, h.most, part.standing.stands.records.kept.all);
       few = part.few;
     };
     numbers = omega (arith, part.numbers);
   }
 
   -- a refusal ends the clause
-  next-refused : {area' nodes' : List ℕ} {w : Refusal} → LaterBuilds c q ts cells f a area nodes area' nodes' (Err w)
+  next-refused : {area' : List ℕ} {nodes' : Nodes} {w : Refusal} → LaterBuilds c q ts cells f a area nodes area' nodes' (Err w)
       → ClauseBuilds c q ts cells fs area₀ nodes₀ area' nodes' (Err w)
   next-refused d = record {
     kept = d.kept ∙ part.standing.kept;
-    kept-nodes = d.kept-nodes ∙ part.standing.kept-nodes;
+    kept-nodes = kept-on part.standing.stands.records.kept d.kept-nodes;
     is = refused-on (d.is part.node part.standing.cells part.standing.records part.standing.lays)
         (λ w i. part.is ∙ later-stops (catalog_at c q ts) f gs' _ w i);
   }
 
-  next_built : {area' nodes' : List ℕ} {x : Source} → LaterBuilds c q ts cells f a area nodes area' nodes' (Ok x)
+  next_built : {area' : List ℕ} {nodes' : Nodes} {x : Source} → LaterBuilds c q ts cells f a area nodes area' nodes' (Ok x)
       → PartAccepted c q ts cells fs gs' area₀ nodes₀ area' nodes' x
   unfolding All total
   next_built {x = x} d =
       let o = d.is in
-      let w = standing_on (record { cell = x.cell; node = x.node; used = x.used }) part.standing
+      let w = standing_on x.at part.standing
       (step-done d.kept d.kept-nodes o.taken) refl in
       record {
         valid = o.valid;
@@ -164,24 +172,25 @@ module _ {c q : Bytes} {ts cells : List ℕ} {fs gs : List From} {f : From} {gs'
           counted = omega (arith, part.room.counted, o.next);
           held = omega (arith, part.room.held, o.next, d.kept);
         };
-        numbers = omega (arith, part.numbers, o.numbers, d.kept-nodes);
+        numbers = omega (arith, part.numbers, o.numbers, d.kept-nodes.all);
         node = w.node;
         is = part.is ∙ later-goes (catalog_at c q ts) f gs' _ _ w.answer;
         standing = w.standing;
       }
 
 -- the whole: nothing is left
-pub part-whole : {c q : Bytes} {ts cells : List ℕ} {fs gs : List From} {area₀ nodes₀ area nodes : List ℕ} {a : Source}
+pub part-whole : {c q : Bytes} {ts cells : List ℕ} {fs gs : List From} {area₀ : List ℕ} {nodes₀ : Nodes}
+    {area : List ℕ} {nodes : Nodes} {a : Source}
     → PartAccepted c q ts cells fs gs area₀ nodes₀ area nodes a → gs ≡ []
     → ClauseBuilds c q ts cells fs area₀ nodes₀ area nodes (Ok a)
 part-whole {c} {q} {ts} {cells} {fs} {a = a} o e =
     let s = o.standing in
     let i = later-end (catalog_at c q ts) o.node (scope_of (tree_at c q cells) c q a.scope) 0 0
-    s.cells s.records a.cell a.node s.lays in
+    s.cells s.records a.at.cell a.at.node s.lays in
     let is = (rw e at o.is) ∙ i.answer in
     record {
       kept = s.kept;
-      kept-nodes = s.kept-nodes;
+      kept-nodes = s.stands.records.kept;
       is = record {
         valid = o.valid;
         plain = o.plain;
@@ -194,9 +203,9 @@ part-whole {c} {q} {ts} {cells} {fs} {a = a} o e =
           cells = s.cells;
           records = s.records;
           lays = i.lays;
+          none = s.none;
           stands = s.stands;
           kept = s.kept;
-          kept-nodes = s.kept-nodes;
         };
         labelled = clause-labels c q ts cells fs a.scope i.node is;
         qualified = clause-qualified c q ts cells fs a.scope i.node is;
@@ -209,13 +218,14 @@ none_of [] h = refl
 none_of (f ∷ fs) h = absurd (omega arith)
 
 -- the first n rows have j items
-module _ (c q : Bytes) (ts cells froms : List ℕ) (n : ℕ) {area₀ nodes₀ : List ℕ}
-    (h : ClauseRoom c q ts (froms_at c q cells froms n) area₀ nodes₀) {j : ℕ} (e : j ≡ length (roots_before froms n)) where
+module _ (c q : Bytes) (ts cells froms : List ℕ) (n : ℕ) {area₀ : List ℕ} {nodes₀ : Nodes}
+    (h : ClauseRoom c q ts (froms_at c q cells froms n) area₀ nodes₀) {j : ℕ} (e : j ≡ length
+    (roots_before froms n)) where
   abbrev items : List From
   items = froms_at c q cells froms n
 
   -- none
-  pub clause-empty : {nodes : List ℕ} {x : Source} → j ≡ 0
+  pub clause-empty : {nodes : Nodes} {x : Source} → j ≡ 0
       → ((b p : Bytes) (us xs ys : List ℕ) → ClauseBuilds b p us xs [] ys nodes₀ ys nodes (Ok x))
       → ClauseBuilds c q ts cells items area₀ nodes₀ area₀ nodes (Ok x)
   clause-empty z k = rw (none_of items (froms-count c q cells froms n ∙ sym e ∙ z)) (k c q ts cells area₀)
@@ -227,32 +237,32 @@ module _ (c q : Bytes) (ts cells froms : List ℕ) (n : ℕ) {area₀ nodes₀ :
 
   -- the first
   module _ {r : ℕ} (z : j ≡ 0 → ⊥) (g : r ≡ get_or (roots_at froms n) 0 0) where
-    pub clause-first-room : ItemRoom c q ts (from_at c q cells froms r) 0 0 0 area₀ nodes₀
+    pub clause-first-room : ItemRoom c q ts (from_at c q cells froms r) start area₀ nodes₀
     clause-first-room = first-item-room h (item-at 0 (omega (arith, z)) g)
 
-    pub clause-first-refused : {area nodes : List ℕ} {w : Refusal}
-        → Builds c q ts cells (from_at c q cells froms r) 0 0 0 area₀ nodes₀ area nodes (Err w)
+    pub clause-first-refused : {area : List ℕ} {nodes : Nodes} {w : Refusal}
+        → Builds c q ts cells (from_at c q cells froms r) start area₀ nodes₀ area nodes (Err w)
         → ClauseBuilds c q ts cells items area₀ nodes₀ area nodes (Err w)
     clause-first-refused d = first-refused h (item-at 0 (omega (arith, z)) g) d
 
-    pub clause-first : {area nodes : List ℕ} {a : Source}
-        → Builds c q ts cells (from_at c q cells froms r) 0 0 0 area₀ nodes₀ area nodes (Ok a)
+    pub clause-first : {area : List ℕ} {nodes : Nodes} {a : Source}
+        → Builds c q ts cells (from_at c q cells froms r) start area₀ nodes₀ area nodes (Ok a)
         → PartAccepted c q ts cells items (drop 1 items) area₀ nodes₀ area nodes a
     clause-first d = first-built h (item-at 0 (omega (arith, z)) g) d
 
   -- item i, or none
-  module _ {i : ℕ} {area nodes : List ℕ} {a : Source}
+  module _ {i : ℕ} {area : List ℕ} {nodes : Nodes} {a : Source}
       (p : PartAccepted c q ts cells items (drop i items) area₀ nodes₀ area nodes a) where
     module _ (l : i < j) {r : ℕ} (g : r ≡ get_or (roots_at froms n) i 0) where
       pub clause-next-room : LaterRoom c q ts (from_at c q cells froms r) a area nodes
       clause-next-room = next-room h (item-at i l g) p
 
-      pub clause-next-refused : {area' nodes' : List ℕ} {w : Refusal}
+      pub clause-next-refused : {area' : List ℕ} {nodes' : Nodes} {w : Refusal}
           → LaterBuilds c q ts cells (from_at c q cells froms r) a area nodes area' nodes' (Err w)
           → ClauseBuilds c q ts cells items area₀ nodes₀ area' nodes' (Err w)
       clause-next-refused d = next-refused h (item-at i l g) p d
 
-      pub clause-next : {area' nodes' : List ℕ} {x : Source}
+      pub clause-next : {area' : List ℕ} {nodes' : Nodes} {x : Source}
           → LaterBuilds c q ts cells (from_at c q cells froms r) a area nodes area' nodes' (Ok x)
           → PartAccepted c q ts cells items (drop (i + 1) items) area₀ nodes₀ area' nodes' x
       clause-next d = next_built h (item-at i l g) p d

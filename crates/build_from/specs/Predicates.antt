@@ -1,8 +1,8 @@
 -- A join's predicate: none, or the tree at its row, built over a scope.
-use Prim.Native.Nat.{ℕ, ◌*◌, pred}
-use Rattle.std.proofs.Common.{arith, append-nil}
+use Prim.Native.Nat.{ℕ, ◌-◌, ◌*◌, ◌≤◌}
+use Rattle.std.proofs.Common.{arith, append-nil, sub-one}
 use Rattle.std.specs.Prelude.{◌≡◌, refl, List, [], ◌++◌, length, take, Result, MatchResult, Ok, Err}
-use Rattle.std.proofs.Math.Option.{Option, none, some}
+use Rattle.std.proofs.Math.Option.{Option, some}
 use Rattle.rules.specs.Refusals.{ok}
 use Rattle.rules.specs.Lists.{Bytes, concat}
 use Rattle.rules.specs.Ast.{Expr, size}
@@ -13,6 +13,7 @@ use Rattle.rules.specs.Sizes.{option_size}
 use Rattle.appends.specs.Area.{cells_numbers}
 use Rattle.appends.specs.Expressions.Emit.{emit}
 use Rattle.appends.specs.Expressions.Option.{emit_option, option-none, option-step, option-stop}
+use Rattle.numbers.specs.Options.{option_of}
 use Rattle.numbers.specs.declared.refusals.Refusal.{Refusal}
 use Rattle.ast.specs.Table.{tree_at}
 use Rattle.from.specs.Access.{predicate_number, predicate_row, predicate_of}
@@ -22,38 +23,46 @@ use Rattle.plan.specs.Cells.{Room}
 use Rattle.plan.specs.Emits.{Emits, accepted}
 use Rattle.build_expression.specs.Rows.{emit-within}
 use Rattle.plan.specs.Steps.{RefusedWith, refused-on, emits-refused}
-use Rattle.build_from.specs.declared.predicates.Root.{Root}
+use Rattle.build_from.specs.declared.predicates.Predicate.{Predicate}
 
 -- the predicate of row r
 abbrev pub predicate_in : Bytes → Bytes → List ℕ → List ℕ → ℕ → Option Expr
 predicate_in c q cells froms r = predicate_of c q cells (predicate_row (predicate_number froms r))
 
 -- its cells stand from the n-th on
-pub record PredicateStands (s : rules.Scope) (o : Option Expr) (n : ℕ) (area area' : List ℕ) (m root : ℕ) : Type 0 where
+pub record PredicateStands (s : rules.Scope) (o : Option Expr) (n : ℕ) (area area' : List ℕ)
+    (x : Predicate) : Type 0 where
   pub cells : List Cell
-  pub number : Option ℕ
-  pub is : emit_option s n o ≡ ok (cells, number, m)
-  pub stands : take (cells_end m) area' ≡ take (cells_end n) area ++ cells_numbers cells
-  pub rooted : option_number number ≡ root
+  pub is : emit_option s n o ≡ ok (cells, option_of x.root, x.cell)
+  pub stands : take (cells_end x.cell) area' ≡ take (cells_end n) area ++ cells_numbers cells
+  pub behind : option_number (option_of x.root) ≤ x.cell
 
-pub record PredicateBuilt (s : rules.Scope) (o : Option Expr) (n : ℕ) (area area' : List ℕ) (r : Result Root Refusal)
+pub record PredicateBuilt (s : rules.Scope) (o : Option Expr) (n : ℕ) (area area' : List ℕ)
+    (r : Result Predicate Refusal)
     : Type 0 where
   pub kept : length area' ≡ length area
-  pub is : MatchResult r (λ x. PredicateStands s o n area area' x.cell x.root) (RefusedWith (emit_option s n o))
+  pub is : MatchResult r (PredicateStands s o n area area') (RefusedWith (emit_option s n o))
 
-module _ (c q : Bytes) (cells froms : List ℕ) (r : ℕ) {f : std.Option ℕ} (e : f ≡ predicate_row (predicate_number froms r)) where
+-- an expression has a root
+pub root-behind : (s : rules.Scope) (n : ℕ) (x : Expr) {area area' : List ℕ} {m : ℕ}
+    → Emits (emit s n x) n area area' (Ok m) → 1 ≤ m
+root-behind s n x {m = m} h =
+    let y = accepted m h refl in
+    omega (arith, (emit-within s n x y.cells m y.is).some')
+
+module _ (c q : Bytes) (cells froms : List ℕ) (r : ℕ) {f : std.Option ℕ} (e : f ≡ predicate_row
+    (predicate_number froms r)) where
   -- none
   pub predicate-missing : (s : rules.Scope) (n : ℕ) (area : List ℕ) → f ≡ std.None
-      → PredicateBuilt s (predicate_in c q cells froms r) n area area (Ok (record { cell = n; root = 0 }))
+      → PredicateBuilt s (predicate_in c q cells froms r) n area area (Ok (record { cell = n; root = std.None }))
   unfolding predicate_of option_number cells_numbers concat
   predicate-missing s n area d = record {
     kept = refl;
     is = record {
       cells = [];
-      number = none;
       is = rw (← e, d) (option-none s n);
       stands = rw append-nil;
-      rooted = refl;
+      behind = omega arith;
     };
   }
 
@@ -79,7 +88,7 @@ module _ (c q : Bytes) (cells froms : List ℕ) (r : ℕ) {f : std.Option ℕ} (
           }
 
       pub predicate-accepted : {m : ℕ} → Emits (emit s n (tree_at c q cells p)) n area area' (Ok m)
-          → PredicateBuilt s (predicate_in c q cells froms r) n area area' (Ok (record { cell = m; root = m }))
+          → PredicateBuilt s (predicate_in c q cells froms r) n area area' (Ok (record { cell = m; root = std.Some (m - 1) }))
       unfolding option_number
       predicate-accepted {m} h =
           let y = accepted m h refl in
@@ -88,9 +97,8 @@ module _ (c q : Bytes) (cells froms : List ℕ) (r : ℕ) {f : std.Option ℕ} (
             kept = h.kept;
             is = record {
               cells = y.cells;
-              number = some (pred m);
-              is = rw is_some (option-step s n (tree_at c q cells p) y.cells m y.is);
+              is = rw (is_some, sub-one m) (option-step s n (tree_at c q cells p) y.cells m y.is);
               stands = h.cells y.cells m y.is;
-              rooted = omega (arith, b.some');
+              behind = omega (arith, b.some');
             };
           }

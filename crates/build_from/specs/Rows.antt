@@ -1,5 +1,5 @@
 -- A row of FROM: a table, or a join with the rows of its sides in the order in which they are built.
-use Rattle.std.specs.Prelude.{ℕ, ◌-◌, ◌<◌, ◌≤◌, ◌≡◌, Bool, List, Option, Some, None, MatchOption}
+use Rattle.std.specs.Prelude.{ℕ, ◌-◌, ◌<◌, ◌≤◌, ◌≡◌, Bool, List, Option, Some, MatchOption}
 use Rattle.std.proofs.Common.{arith, ap, ◌∙◌}
 use Rattle.std.proofs.Math.Path.{refl, sym}
 use mathlib.Core.Logic.{◌⊎◌, inl, inr}
@@ -108,9 +108,6 @@ plain-kind (inr (inl e)) = (rw e, rw e)
 plain-kind (inr (inr e)) = (rw e, rw e)
 
 module _ (froms : List ℕ) (r : ℕ) {k : Kind} (e : k ≡ kind_at froms r) where
-  pub table-row : k ≡ K.Table → SidesAt froms r None
-  table-row h = record { is = sym e ∙ h }
-
   pub behind : is_join k ≡ true → 1 ≤ r
   behind h = omega (arith, join-behind froms r (λ z. no_table k h (e ∙ z)))
 

@@ -22,44 +22,47 @@ use Rattle.schema.specs.Layout.{catalog_at}
 use Rattle.scope.specs.Scopes.{scope_of, Valid, Plain}
 use Rattle.plan.specs.Layout.{nodes_size}
 use Rattle.plan.specs.Cells.{Room}
+use Rattle.plan.specs.Pushed.{Kept}
+use Rattle.plan.specs.declared.nodes.Nodes.{Nodes}
+use Rattle.plan.specs.declared.steps.Step.{Step}
 use Rattle.plan.specs.Steps.{RefusedWith, Stands}
 use Rattle.build_from.specs.declared.Source.{Source}
 
--- an item with scope s and line l: its cells from the i-th on and its records from the k-th on stand there
-pub record Laid (a : Answer building.Source) (s : rules.Scope) (l i k u : ℕ) (area nodes : List ℕ) (j m v : ℕ)
-    (area' nodes' : List ℕ) : Type 0 where
+-- an item with scope s and line l: its cells and its records from step i to j stand there
+pub record Laid (a : Answer building.Source) (s : rules.Scope) (l : ℕ) (i : Step) (area : List ℕ) (nodes : Nodes)
+    (j : Step) (area' : List ℕ) (nodes' : Nodes) : Type 0 where
   pub cells : List Cell
   pub records : List NodeRecord
-  pub is : SourceLaid a s l i k cells records j m
-  pub stands : Stands i u area nodes cells records j v area' nodes'
+  pub is : SourceLaid a s l i.cell i.node cells records j.cell j.node
+  pub stands : Stands i.cell area nodes cells records j.cell area' nodes'
 
 -- ROOM
 -- the catalog's numbers ts stand for tables that were read, f is of the statement that was, and there is room for it
--- from the n-th cell and the m-th node on, k numbers of the nodes being in use
-pub record ItemRoom (c q : Bytes) (ts : List ℕ) (f : From) (n m k : ℕ) (area nodes : List ℕ) : Type 0 where
+-- from step i on
+pub record ItemRoom (c q : Bytes) (ts : List ℕ) (f : From) (i : Step) (area : List ℕ) (nodes : Nodes) : Type 0 where
   pub statement : Statement
   pub within : TextsWithin c q (catalog_at c q ts) statement
   pub parts : FromHas (ExprWithin c q) (StatementName c q) f
   pub tables : from_tables f ≤ most_from_tables
-  pub cells : Room n (3 * from_size f) area
-  pub numbers : k + table_room * from_tables f ≤ length nodes + join_room
-  pub most : length nodes ≤ nodes_size
-  pub few : m ≤ k
+  pub cells : Room i.cell (3 * from_size f) area
+  pub numbers : nodes.used + table_room * from_tables f ≤ length nodes.numbers.now + join_room
+  pub most : length nodes.numbers.now ≤ nodes_size
+  pub few : i.node ≤ nodes.used
 
 -- THE CONTRACT
-pub record Accepted (c q : Bytes) (ts cells : List ℕ) (f : From) (i k u : ℕ) (area nodes area' nodes' : List ℕ)
-    (x : Source) : Type 0 where
+pub record Accepted (c q : Bytes) (ts cells : List ℕ) (f : From) (i : Step) (area : List ℕ) (nodes : Nodes)
+    (area' : List ℕ) (nodes' : Nodes) (x : Source) : Type 0 where
   pub valid : Valid x.scope
   pub plain : Plain x.scope
   pub count : x.scope.count ≡ from_tables f
-  pub more : k < x.node
-  pub few : x.node ≤ x.used
+  pub more : i.node < x.at.node
+  pub few : x.at.node ≤ nodes'.used
   pub laid : Laid (building.build_from (catalog_at c q ts) f) (scope_of (tree_at c q cells) c q x.scope) x.line
-      i k u area nodes x.cell x.node x.used area' nodes'
+      i area nodes x.at area' nodes'
 
-pub record Builds (c q : Bytes) (ts cells : List ℕ) (f : From) (i k u : ℕ) (area nodes area' nodes' : List ℕ)
-    (r : Result Source Refusal) : Type 0 where
+pub record Builds (c q : Bytes) (ts cells : List ℕ) (f : From) (i : Step) (area : List ℕ) (nodes : Nodes)
+    (area' : List ℕ) (nodes' : Nodes) (r : Result Source Refusal) : Type 0 where
   pub kept : length area' ≡ length area
-  pub kept-nodes : length nodes' ≡ length nodes
-  pub is : MatchResult r (Accepted c q ts cells f i k u area nodes area' nodes')
+  pub kept-nodes : Kept nodes nodes'
+  pub is : MatchResult r (Accepted c q ts cells f i area nodes area' nodes')
       (RefusedWith (building.build_from (catalog_at c q ts) f))

@@ -1,5 +1,5 @@
 // FROM as a whole: its items joined one after the other.
-ghost use Rattle.std.specs.Prelude.{ℕ, ◌≤◌, List, [], length, Ok};
+ghost use Rattle.std.specs.Prelude.{◌≡◌, ℕ, ◌≤◌, List, [], length, Ok};
 ghost use Rattle.rules.specs.Lists.{Bytes};
 ghost use Rattle.from.specs.Layout.{from_at, froms_at};
 ghost use Rattle.plan.specs.Layout.{empty_row_size};
@@ -11,10 +11,12 @@ use crate::{Source, build_from};
 use ast::Expressions;
 use from::roots;
 use numbers::refusals::Refusal;
-use plan::nodes;
+use plan::nodes::{self, Nodes};
+use plan::steps::Step;
 use scope::Scope;
 
 // The item in row r behind the clause a: its scope merged into the clause's, and the cross join of both.
+#[tactic(auto, unfolding(rules::specs::Area::option_number))]
 fn join_item(
     exprs: &Expressions,
     tables: &[u32],
@@ -22,7 +24,7 @@ fn join_item(
     r: u32,
     a: Source,
     area: &mut [u32],
-    nodes: &mut [u32],
+    nodes: &mut Nodes,
 ) -> Result<Source, Refusal>
     requires { LaterRoom exprs.now.texts.catalog.now exprs.now.texts.statement.now tables.now
         (from_at exprs.now.texts.catalog.now exprs.now.texts.statement.now exprs.now.table.now froms.now r) a area.old
@@ -31,31 +33,31 @@ fn join_item(
         (from_at exprs.now.texts.catalog.now exprs.now.texts.statement.now exprs.now.table.now froms.now r) a
         area.old nodes.old area.new nodes.new result }
 {
-    let b = build_from(exprs, tables, froms, r, area, nodes, a.cell, a.node, a.used)?;
+    let b = build_from(exprs, tables, froms, r, area, nodes, a.at)?;
     let s = merge_scopes(&exprs.texts, a.scope, b.scope, b.line)?;
-    let k = nodes::join(nodes, b.used, a.node - 1, b.node - 1, false, 0);
+    nodes::join(nodes, a.at.node - 1, b.at.node - 1, false, None);
     Ok(Source {
         scope: s,
         line: b.line,
-        cell: b.cell,
-        node: b.node + 1,
-        used: k,
+        at: Step {
+            cell: b.at.cell,
+            node: b.at.node + 1,
+        },
     })
 }
 
 // No items: one row of no columns.
-fn empty_clause(nodes: &mut [u32]) -> Source
-    requires { empty_row_size ≤ length nodes.old }
+fn empty_clause(nodes: &mut Nodes) -> Source
+    requires none { nodes.old.used ≡ 0 }
+    requires room { empty_row_size ≤ length nodes.old.numbers.now }
     ensures { (c q : Bytes) (ts cells area : List ℕ) → ClauseBuilds c q ts cells [] area nodes.old
         area nodes.new (Ok result) }
 {
-    let k = nodes::empty_row(nodes, 0);
+    nodes::empty_row(nodes);
     Source {
         scope: Scope::new(),
         line: 0,
-        cell: 0,
-        node: 1,
-        used: k,
+        at: Step { cell: 0, node: 1 },
     }
 }
 
@@ -67,7 +69,7 @@ pub fn build_from_clause(
     froms: &[u32],
     rows: u32,
     area: &mut [u32],
-    nodes: &mut [u32],
+    nodes: &mut Nodes,
 ) -> Result<Source, Refusal>
     requires { ClauseRoom exprs.now.texts.catalog.now exprs.now.texts.statement.now tables.now
         (froms_at exprs.now.texts.catalog.now exprs.now.texts.statement.now exprs.now.table.now froms.now rows) area.old
@@ -81,7 +83,8 @@ pub fn build_from_clause(
         return Ok(empty_clause(nodes));
     }
     let first = roots::root(froms, rows, 0);
-    let mut clause = build_from(exprs, tables, froms, first, area, nodes, 0, 0, 0)?;
+    let at = Step { cell: 0, node: 0 };
+    let mut clause = build_from(exprs, tables, froms, first, area, nodes, at)?;
     for i in 1..count {
         let r = roots::root(froms, rows, i);
         clause = join_item(exprs, tables, froms, r, clause, area, nodes)?;

@@ -9,7 +9,8 @@ use crate::rows::join_kind;
 use ast::Expressions;
 use from::row;
 use numbers::refusals::Refusal;
-use plan::nodes;
+use plan::nodes::{self, Nodes};
+use plan::steps::Step;
 
 // The join in row r of the sides a and b, a built before b: their scopes merged, its predicate over both, its record; the
 // columns of a right join swapped back.
@@ -20,7 +21,7 @@ pub fn build_join(
     a: Source,
     b: Source,
     area: &mut [u32],
-    nodes: &mut [u32],
+    nodes: &mut Nodes,
 ) -> Result<Source, Refusal>
     requires { JoinRoom exprs.now.texts.catalog.now exprs.now.texts.statement.now exprs.now.table.now froms.now r a b
         area.old nodes.old }
@@ -29,27 +30,29 @@ pub fn build_join(
 {
     let first = a.scope.width;
     let second = b.scope.width;
-    let m = b.node;
     let s = merge_scopes(&exprs.texts, a.scope, b.scope, b.line)?;
-    let p = build_predicate(exprs, froms, r, &s.view(), area, b.cell)?;
+    let p = build_predicate(exprs, froms, r, &s.view(), area, b.at.cell)?;
     let l = row::line(froms, r);
     let kind = join_kind(froms, r);
-    let k = nodes::join(nodes, b.used, a.node - 1, m - 1, kind.outer, p.root);
+    let m = b.at.node;
+    nodes::join(nodes, a.at.node - 1, m - 1, kind.outer, p.root);
     if kind.right {
-        let end = push_remap(nodes, k, m, first, second);
+        push_remap(nodes, m, first, second);
         return Ok(Source {
             scope: s.swap(first, second),
             line: l,
-            cell: p.cell,
-            node: m + 2,
-            used: end,
+            at: Step {
+                cell: p.cell,
+                node: m + 2,
+            },
         });
     }
     Ok(Source {
         scope: s,
         line: l,
-        cell: p.cell,
-        node: m + 1,
-        used: k,
+        at: Step {
+            cell: p.cell,
+            node: m + 1,
+        },
     })
 }

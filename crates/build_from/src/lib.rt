@@ -14,61 +14,47 @@ ghost use Rattle.build_from.specs.Sources.{ItemRoom, Builds};
 
 use ast::Expressions;
 use numbers::refusals::Refusal;
+use plan::nodes::Nodes;
+use plan::steps::Step;
 use rows::rows_of;
 use scope::Scope;
 
-// A FROM item, or the clause: its scope and its line, and with them the next cell, the next node and how many numbers of the
-// nodes are in use.
-#[derive(Clone, Copy)]
+// A FROM item, or the clause: its scope, its line, and how far building came.
+#[derive(Clone, Copy, Debug, PartialEq, Eq)]
 pub struct Source {
     pub scope: Scope,
     pub line: u32,
-    pub cell: u32,
-    pub node: u32,
-    pub used: usize,
+    pub at: Step,
 }
 
-// The item in row r of FROM from the n-th cell and the m-th node on, k numbers of the nodes being in use: a scan, or a join
-// of the items in two rows before it.
+// The item in row r of FROM behind a step: a scan, or a join of the items in two rows before it.
 pub fn build_from(
     exprs: &Expressions,
     tables: &[u32],
     froms: &[u32],
     r: u32,
     area: &mut [u32],
-    nodes: &mut [u32],
-    n: u32,
-    m: u32,
-    k: usize,
+    nodes: &mut Nodes,
+    at: Step,
 ) -> Result<Source, Refusal>
     requires { ItemRoom exprs.now.texts.catalog.now exprs.now.texts.statement.now tables.now
-        (from_at exprs.now.texts.catalog.now exprs.now.texts.statement.now exprs.now.table.now froms.now r) n m k area.old
+        (from_at exprs.now.texts.catalog.now exprs.now.texts.statement.now exprs.now.table.now froms.now r) at area.old
         nodes.old }
     ensures { Builds exprs.now.texts.catalog.now exprs.now.texts.statement.now tables.now exprs.now.table.now
-        (from_at exprs.now.texts.catalog.now exprs.now.texts.statement.now exprs.now.table.now froms.now r) n m k
+        (from_at exprs.now.texts.catalog.now exprs.now.texts.statement.now exprs.now.table.now froms.now r) at
         area.old nodes.old area.new nodes.new result }
 {
     let rows = rows_of(froms, r);
     match rows {
-        None => tables::build_table(exprs, tables, froms, r, area, nodes, n, m, k),
+        None => tables::build_table(exprs, tables, froms, r, area, nodes, at),
         Some(side) => {
-            let first = build_from(exprs, tables, froms, side.first, area, nodes, n, m, k);
+            let first = build_from(exprs, tables, froms, side.first, area, nodes, at);
             // A match, since ? would hold a scope of 1.6 KB once more in each frame of the recursion.
             let a = match first {
                 Ok(a) => a,
                 Err(refusal) => return Err(refusal),
             };
-            let second = build_from(
-                exprs,
-                tables,
-                froms,
-                side.second,
-                area,
-                nodes,
-                a.cell,
-                a.node,
-                a.used,
-            );
+            let second = build_from(exprs, tables, froms, side.second, area, nodes, a.at);
             match second {
                 Ok(b) => joins::build_join(exprs, froms, r, a, b, area, nodes),
                 Err(refusal) => Err(refusal),

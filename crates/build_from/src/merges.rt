@@ -11,8 +11,6 @@ pub fn merge_scopes(texts: &Texts, a: Scope, b: Scope, line: u32) -> Result<Scop
     requires { TwoScopes a b }
     ensures { Merges texts.now.catalog.now texts.now.statement.now a b line result }
 {
-    match may_merge(texts, &a.view(), &b.view()) {
-        Ok(()) => Ok(a.merge(b)),
-        Err(reason) => Err(Refusal { reason, line }),
-    }
+    may_merge(texts, &a.view(), &b.view()).map_err(|reason| reason.at(line))?;
+    Ok(a.merge(b))
 }

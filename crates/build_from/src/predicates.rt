@@ -11,11 +11,11 @@ use from::row;
 use numbers::refusals::Refusal;
 use scope::view::View;
 
-// The next cell, and the root as the join's record holds it: one more than the predicate's, 0 where there is none.
-#[derive(Clone, Copy)]
-pub struct Root {
+// The next cell, and the predicate's root, where there is one.
+#[derive(Clone, Copy, Debug, PartialEq, Eq)]
+pub struct Predicate {
     pub cell: u32,
-    pub root: u32,
+    pub root: Option<u32>,
 }
 
 // The predicate of the join in row r.
@@ -26,7 +26,7 @@ pub fn build_predicate(
     scope: &View,
     area: &mut [u32],
     n: u32,
-) -> Result<Root, Refusal>
+) -> Result<Predicate, Refusal>
     requires { Room n (3 * option_size (predicate_in exprs.now.texts.catalog.now exprs.now.texts.statement.now
         exprs.now.table.now froms.now r)) area.old }
     ensures { (h : ℕ) → PredicateBuilt (scope_at exprs.now.texts.catalog.now exprs.now.texts.statement.now
@@ -36,12 +36,15 @@ pub fn build_predicate(
         n area.old area.new result }
 {
     match row::predicate_of(froms, r) {
-        None => Ok(Root { cell: n, root: 0 }),
+        None => Ok(Predicate {
+            cell: n,
+            root: None,
+        }),
         Some(p) => {
             let built = build_expression(exprs, p as usize, scope, area, n)?;
-            Ok(Root {
+            Ok(Predicate {
                 cell: built,
-                root: built,
+                root: Some(built - 1),
             })
         }
     }

@@ -7,13 +7,13 @@ use from::roots::left;
 use from::row::{Kind, kind_of};
 
 // The rows of a join's sides in the order in which they are built.
-#[derive(Clone, Copy)]
+#[derive(Clone, Copy, Debug, PartialEq, Eq)]
 pub struct Sides {
     pub first: u32,
     pub second: u32,
 }
 
-#[derive(Clone, Copy)]
+#[derive(Clone, Copy, Debug, PartialEq, Eq)]
 pub struct Joining {
     pub outer: bool,
     pub right: bool,

@@ -9,58 +9,31 @@ use crate::Source;
 use ast::Expressions;
 use from::row;
 use numbers::refusals::{Reason, Refusal};
-use plan::nodes;
+use plan::nodes::{self, Nodes};
+use plan::steps::Step;
 use schema::get_table;
 use scope::Scope;
-use text::places::{Place, Texts};
+use text::places::Texts;
 
 // The scope of the catalog's i-th table under the alias of row r, or its name.
 fn named_scope(tables: &[u32], froms: &[u32], r: u32, i: u32) -> Scope
     ensures { FromNamed tables.now froms.now r i result }
 {
-    let n = row::alias_length(froms, r);
-    if n == 0 {
-        let name = Place {
-            address: row::name_address(froms, r),
-            length: row::name_length(froms, r),
-        };
-        return Scope::from_table(tables, i, name);
-    }
-    let alias = Place {
-        address: row::alias_address(froms, r),
-        length: n,
-    };
-    Scope::from_table(tables, i, alias)
+    let name = row::alias(froms, r).unwrap_or(row::name(froms, r));
+    Scope::from_table(tables, i, name)
 }
 
 // The scan of the table in row r.
-fn scan_row(texts: &Texts, froms: &[u32], r: u32, nodes: &mut [u32], k: usize) -> usize
-    requires { k + scan_size ≤ length nodes.old }
-    ensures { Scanned texts.now.catalog.now texts.now.statement.now froms.now r k
-        nodes.old result nodes.new }
+#[tactic(auto, unfolding(rules::specs::Area::option_number))]
+fn scan_row(texts: &Texts, froms: &[u32], r: u32, nodes: &mut Nodes)
+    requires { nodes.old.used + scan_size ≤ length nodes.old.numbers.now }
+    ensures { Scanned texts.now.catalog.now texts.now.statement.now froms.now r nodes.old nodes.new }
 {
-    let a = row::name_address(froms, r);
-    let len = row::name_length(froms, r);
-    let name = Place {
-        address: a,
-        length: texts.length_at(Place {
-            address: a,
-            length: len,
-        }),
-    };
-    let n = row::alias_length(froms, r);
-    if n == 0 {
-        return nodes::scan(nodes, k, name, None, 0);
+    let name = texts.clipped(row::name(froms, r));
+    match row::alias(froms, r) {
+        None => nodes::scan(nodes, name, None, None),
+        Some(alias) => nodes::scan(nodes, name, Some(texts.clipped(alias)), None),
     }
-    let b = row::alias_address(froms, r);
-    let alias = Place {
-        address: b,
-        length: texts.length_at(Place {
-            address: b,
-            length: n,
-        }),
-    };
-    nodes::scan(nodes, k, name, Some(alias), 0)
 }
 
 // The item in row r, which is a table.
@@ -70,37 +43,30 @@ pub fn build_table(
     froms: &[u32],
     r: u32,
     area: &mut [u32],
-    nodes: &mut [u32],
-    n: u32,
-    m: u32,
-    k: usize,
+    nodes: &mut Nodes,
+    at: Step,
 ) -> Result<Source, Refusal>
     requires { ItemRoom exprs.now.texts.catalog.now exprs.now.texts.statement.now tables.now
         (table_row exprs.now.texts.catalog.now exprs.now.texts.statement.now froms.now r)
-        n m k area.old nodes.old }
+        at area.old nodes.old }
     ensures { Builds exprs.now.texts.catalog.now exprs.now.texts.statement.now tables.now exprs.now.table.now
-        (table_row exprs.now.texts.catalog.now exprs.now.texts.statement.now froms.now r) n m k
+        (table_row exprs.now.texts.catalog.now exprs.now.texts.statement.now froms.now r) at
         area.old nodes.old area.new nodes.new result }
 {
     let l = row::line(froms, r);
-    let name = Place {
-        address: row::name_address(froms, r),
-        length: row::name_length(froms, r),
-    };
+    let name = row::name(froms, r);
     let found = get_table(&exprs.texts, tables, name);
     let Some(i) = found else {
-        return Err(Refusal {
-            reason: Reason::UnknownTable,
-            line: l,
-        });
+        return Err(Reason::UnknownTable.at(l));
     };
     let s = named_scope(tables, froms, r, i);
-    let e = scan_row(&exprs.texts, froms, r, nodes, k);
+    scan_row(&exprs.texts, froms, r, nodes);
     Ok(Source {
         scope: s,
         line: l,
-        cell: n,
-        node: m + 1,
-        used: e,
+        at: Step {
+            cell: at.cell,
+            node: at.node + 1,
+        },
     })
 }

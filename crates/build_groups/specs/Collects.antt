@@ -1,5 +1,5 @@
 -- Rows appended behind others, a few at a time.
-use Rattle.std.specs.Prelude.{ℕ, suc, ◌+◌, ◌-◌, ◌≤◌, ◌<◌, ◌≡◌, refl, List, [], ◌∷◌, ◌++◌, length, set, Option, Some, None}
+use Rattle.std.specs.Prelude.{ℕ, suc, ◌+◌, ◌-◌, ◌≤◌, ◌<◌, ◌≡◌, refl, List, [], ◌∷◌, ◌++◌, length, set, Option, Some, None, unwrap_or}
 use Rattle.std.proofs.Common.{arith, sym, ap, ◌∙◌, append_assoc, append-nil, length-append, lt-ltb}
 use Rattle.std.proofs.lemmas.List.Edits.{sets}
 use Rattle.rules.specs.Lists.{Bytes}
@@ -23,19 +23,10 @@ fits places n (x ∷ xs) h =
 
 module _ (xs s : List ℕ) (k : ℕ) {s' : List ℕ} {r : Option ℕ} (a : r ≡ collected (length s) k xs) (e : s' ≡ sets s k xs)
     (h : k + length xs ≤ length s) where
-  pub collected-rows : (k' : ℕ) → r ≡ Some k' → Appended xs k s k' s'
-  collected-rows k' g =
-      let z : Some k' ≡ Some (k + length xs) = sym g ∙ a ∙ fits (length s) k xs h in
-      let y : k' ≡ k + length xs = rows_same z in
-      rw e (appended-sets xs s k k' y (omega (arith, y)))
-    where
-      rows_same : {i j : ℕ} → Some i ≡ Some j → i ≡ j
-      rows_same f = cc
-
-  pub collected-full : {X : Type 0} → r ≡ None → X
-  collected-full g =
-      let z : Some (k + length xs) ≡ None = sym (fits (length s) k xs h) ∙ sym a ∙ g in
-      absurd (let y : ◌≡◌ {A = ℕ} 0 1 = cc in omega arith)
+  pub collected-rows : Appended xs k s (unwrap_or r k) s'
+  collected-rows =
+      let z : unwrap_or r k ≡ k + length xs = ap (λ o. unwrap_or o k) (a ∙ fits (length s) k xs h) in
+      rw e (appended-sets xs s k _ z (omega (arith, z)))
 
 -- A FEW AT A TIME: of the rows xs behind k₀ others, ys are still to come
 pub record Appending (xs ys : List ℕ) (k₀ : ℕ) (s₀ : List ℕ) (k : ℕ) (s : List ℕ) : Type 0 where

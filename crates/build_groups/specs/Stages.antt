@@ -28,6 +28,8 @@ use Rattle.scope.specs.declared.Scope.{Scope}
 use Rattle.sections.specs.Access.{group_kind}
 use Rattle.plan.specs.Appended.{Appended}
 use Rattle.plan.specs.Emits.{Written}
+use Rattle.plan.specs.Pushed.{kept-all}
+use Rattle.plan.specs.declared.nodes.Nodes.{Nodes}
 use Rattle.plan.specs.Steps.{refused-on, Lies, stage-lies, stands-none, stands_one}
 use Rattle.build_aggregate.specs.Functions.{step_of}
 use Rattle.build_aggregate.specs.Entries.{gave, gave-refused}
@@ -56,26 +58,26 @@ abbrev pub groups_stage : Bytes → Bytes → List ℕ → Scope → List Expr �
 groups_stage c q cells s gs fs d = build_groups (stage_of d (scope_of (tree_at c q cells) c q s)) gs fs
 
 -- over rows of groups and functions, one at least
-abbrev pub StageOver : Bytes → Bytes → List ℕ → Scope → List ℕ → List ℕ → ℕ → ℕ → ℕ → List ℕ → List ℕ → List ℕ
-    → List ℕ → Result Stage Refusal → Type 0
-StageOver c q cells s gs fs n m k area nodes area' nodes' r = 0 < length gs + length fs
-    → StageBuilt c q cells (groups_stage c q cells s (map (tree_at c q cells) gs) (map (tree_at c q cells) fs)) n m k area
-    nodes area' nodes' r
+abbrev pub StageOver : Bytes → Bytes → List ℕ → Scope → List ℕ → List ℕ → ℕ → ℕ → List ℕ → Nodes → List ℕ → Nodes
+    → Result Stage Refusal → Type 0
+StageOver c q cells s gs fs n m area u area' v r = 0 < length gs + length fs
+    → StageBuilt c q cells (groups_stage c q cells s (map (tree_at c q cells) gs) (map (tree_at c q cells) fs)) n m area u
+    area' v r
 
 -- the stage, and where nothing is aggregated the scope as it was
-pub record GroupsBuilt (c q : Bytes) (cells : List ℕ) (s : Scope) (gs fs : List Expr) (n m k : ℕ)
-    (area nodes area' nodes' : List ℕ) (r : Result Stage Refusal) : Type 0 where
-  pub stage : StageBuilt c q cells (groups_stage c q cells s gs fs) n m k area nodes area' nodes' r
+pub record GroupsBuilt (c q : Bytes) (cells : List ℕ) (s : Scope) (gs fs : List Expr) (n m : ℕ) (area : List ℕ)
+    (u : Nodes) (area' : List ℕ) (v : Nodes) (r : Result Stage Refusal) : Type 0 where
+  pub stage : StageBuilt c q cells (groups_stage c q cells s gs fs) n m area u area' v r
   pub same : aggregated gs fs ≡ false → IfOk r (λ x. x.scope ≡ s)
 
 -- none: all is as it was
-pub none-built : (c q : Bytes) (cells : List ℕ) (s : Scope) (gs fs : List Expr) (n m k : ℕ) (area nodes : List ℕ)
-    → Valid s → s.hidden ≤ s.width → k ≤ length nodes → length gs + length fs ≡ 0
-    → StageBuilt c q cells (groups_stage c q cells s gs fs) n m k area nodes area nodes
-    (Ok (record { scope = s; cell = n; node = m; used = k }))
-none-built c q cells s gs fs n m k area nodes v h i e = record {
+pub none-built : (c q : Bytes) (cells : List ℕ) (s : Scope) (gs fs : List Expr) (n m : ℕ) (area : List ℕ)
+    (u : Nodes) → Valid s → s.hidden ≤ s.width → u.used ≤ length u.numbers.now → length gs + length fs ≡ 0
+    → StageBuilt c q cells (groups_stage c q cells s gs fs) n m area u area u
+    (Ok (record { scope = s; at = record { cell = n; node = m } }))
+none-built c q cells s gs fs n m area u v h i e = record {
   kept = refl;
-  kept-nodes = refl;
+  kept-nodes = kept-all u;
   is = record {
     valid = v;
     hidden = h;
@@ -84,7 +86,7 @@ none-built c q cells s gs fs n m k area nodes v h i e = record {
       records = [];
       lies = λ d cs rs y. rw (append-nil cs, append-nil rs) (stage-lies
           (groups_none 0 0 d cs rs n m y gs fs (scope_of (tree_at c q cells) c q s) (aggregated-none gs fs e)));
-      stands = stands-none n k area nodes i;
+      stands = stands-none n area u i;
     };
   };
 }
@@ -97,23 +99,22 @@ lies-as : {a : Answer stages.Stage} {u v : rules.Scope} {cs : List Cell} (rs : L
 lies-as rs as' bs e f h = rw (e, f) (stage-lies h)
 
 -- an accepted node has at most the most columns
-pub built-few : {c q : Bytes} {cells : List ℕ} (s : Scope) {xs ys : List ℕ} {source n k k' : ℕ}
-    {area nodes area' nodes' : List ℕ} {p : ℕ}
-    → NodeBuilt c q cells (labels_of s) (take s.width s.matches) (table_numbers s) xs ys source n k k' area area'
-    nodes nodes' (Ok p) → length xs + length ys ≤ most_columns
+pub built-few : {c q : Bytes} {cells : List ℕ} (s : Scope) {xs ys : List ℕ} {source n : ℕ}
+    {area area' : List ℕ} {u v : Nodes} {p : ℕ}
+    → NodeBuilt c q cells (labels_of s) (take s.width s.matches) (table_numbers s) xs ys source n area area' u v (Ok p)
+    → length xs + length ys ≤ most_columns
 unfolding scope_of
 built-few {c} {q} {cells} s {xs} {ys} {n = n} {p = p} b =
     let tree = tree_at c q cells in
     let o = gave p (b.is s.hidden) refl in
-    let u = step-parts (scope_of tree c q s) n (map tree xs) (map tree ys) o.cells o.entry.0 o.entry.1 p
+    let w = step-parts (scope_of tree c q s) n (map tree xs) (map tree ys) o.cells o.entry.0 o.entry.1 p
     o.is in
-    omega (arith, u.few, length-append (map tree xs) (map tree ys), length-map xs tree, length-map ys tree)
+    omega (arith, w.few, length-append (map tree xs) (map tree ys), length-map xs tree, length-map ys tree)
 
 -- some: by the node over the rows that are retained
-module _ {c q : Bytes} {cells : List ℕ} (s : Scope) (gs fs : List ℕ) (t : 0 < length gs + length fs) (n m k : ℕ)
-    {xs ys : List ℕ} {source k' : ℕ} {area nodes area' nodes' : List ℕ} {x : Written}
-    (b : NodeBuilt c q cells (labels_of s) (take s.width s.matches) (table_numbers s) xs ys source n k k' area area'
-    nodes nodes' x)
+module _ {c q : Bytes} {cells : List ℕ} (s : Scope) (gs fs : List ℕ) (t : 0 < length gs + length fs) (n m : ℕ)
+    {xs ys : List ℕ} {source : ℕ} {area area' : List ℕ} {u v : Nodes} {x : Written}
+    (b : NodeBuilt c q cells (labels_of s) (take s.width s.matches) (table_numbers s) xs ys source n area area' u v x)
     (eg : xs ≡ retained_groups (tree_at c q cells) gs) (ef : ys ≡ retained_functions (tree_at c q cells) gs fs) where
   abbrev tree : ℕ → Expr
   tree = tree_at c q cells
@@ -136,47 +137,47 @@ module _ {c q : Bytes} {cells : List ℕ} (s : Scope) (gs fs : List ℕ) (t : 0 
       )
 
   pub built-refused : {z : Refusal} → x ≡ Err z
-      → StageBuilt c q cells (groups_stage c q cells s (map tree gs) (map tree fs)) n m k area nodes area' nodes' (Err z)
+      → StageBuilt c q cells (groups_stage c q cells s (map tree gs) (map tree fs)) n m area u area' v (Err z)
   unfolding scope_of
   built-refused {z} e =
-      let u = b.is s.hidden in
+      let l = b.is s.hidden in
       record {
-        kept = u.emits.kept;
-        kept-nodes = u.all;
-        is = λ d cs rs y. refused-on (gave-refused z u e) λ w i.
+        kept = l.emits.kept;
+        kept-nodes = l.kept;
+        is = λ d cs rs y. refused-on (gave-refused z l e) λ w i.
             stage-refused over (map tree gs) (map tree fs) some-here d cs rs n m y w (sym step-here ∙ i);
       }
 
-  pub built-done : {p : ℕ} → x ≡ Ok p → source ≡ m - 1 → {rows : List ℕ} {r : Scope} {k'' : ℕ} → k'' ≡ k'
+  pub built-done : {p : ℕ} → x ≡ Ok p → source ≡ m - 1 → {rows : List ℕ} {r : Scope}
       → rows ≡ retained_groups tree gs ++ retained_functions tree gs fs → AggregatesAdded c q cells s rows r
-      → StageBuilt c q cells (groups_stage c q cells s (map tree gs) (map tree fs)) n m k area nodes area' nodes'
-      (Ok (record { scope = r; cell = p; node = m + 1; used = k'' }))
+      → StageBuilt c q cells (groups_stage c q cells s (map tree gs) (map tree fs)) n m area u area' v
+      (Ok (record { scope = r; at = record { cell = p; node = m + 1 } }))
   unfolding scope_of step_of ◌>>=◌
-  built-done {p} e es ek er a =
-      let u = b.is s.hidden in
-      let o = gave p u e in
+  built-done {p} e es er a =
+      let l = b.is s.hidden in
+      let o = gave p l e in
       let z : source ≡ pred m = es ∙ sub-one m in
-      let v = added-functions gs fs a er in
-      rw ek (record {
-        kept = u.emits.kept;
-        kept-nodes = u.all;
+      let f = added-functions gs fs a er in
+      record {
+        kept = l.emits.kept;
+        kept-nodes = l.kept;
         is = record {
           valid = a.valid;
           hidden = omega (arith, a.shown);
           taken = record {
             cells = o.cells;
             records = aggregate source o.entry.0 o.entry.1 ∷ [];
-            lies = λ d cs rs y. lies-as rs o.entry.0 o.entry.1 v z
+            lies = λ d cs rs y. lies-as rs o.entry.0 o.entry.1 f z
                 (stage-built over (map tree gs) (map tree fs) some-here d cs rs n m y o.cells o.entry.0 o.entry.1 p (sym step-here ∙ o.is));
             stands = stands_one (aggregate source o.entry.0 o.entry.1)
-                (u.emits.cells o.cells p (ap step_of o.is)) (u.numbers o.cells o.entry p o.is);
+                (l.emits.cells o.cells p (ap step_of o.is)) (l.numbers o.cells o.entry p o.is);
           };
         };
-      })
+      }
 
 -- FROM THE SELECT'S ROWS
-module _ {c q : Bytes} {cells parts : List ℕ} {s : Scope} {n m k : ℕ} {area nodes : List ℕ}
-    (h : GroupsReady c q cells parts s n m k area nodes) where
+module _ {c q : Bytes} {cells parts : List ℕ} {s : Scope} {n m : ℕ} {area : List ℕ} {u : Nodes}
+    (h : GroupsReady c q cells parts s n m area u) where
   group-rows : map (tree_at c q cells) (section_rows parts group_kind) ≡ groups_at c q cells parts
   group-rows = group-trees c q cells (omega (arith, h.table)) parts
 
@@ -199,10 +200,10 @@ module _ {c q : Bytes} {cells parts : List ℕ} {s : Scope} {n m k : ℕ} {area 
   module _ {g f : ℕ} {gs₀ gs fs₀ fs : List ℕ} (a : Appended (section_rows parts group_kind) 0 gs₀ g gs)
       (b : Appended (function_rows c q cells parts) 0 fs₀ f fs) where
     pub none-stage : g + f ≡ 0
-        → GroupsBuilt c q cells s (groups_at c q cells parts) (functions_at c q cells parts) n m k area nodes area nodes
-        (Ok (record { scope = s; cell = n; node = m; used = k }))
+        → GroupsBuilt c q cells s (groups_at c q cells parts) (functions_at c q cells parts) n m area u area u
+        (Ok (record { scope = s; at = record { cell = n; node = m } }))
     none-stage e = record {
-      stage = none-built c q cells s _ _ n m k area nodes h.valid h.hidden
+      stage = none-built c q cells s _ _ n m area u h.valid h.hidden
           (omega (arith, h.nodes-room)) (omega (arith, e, a.next, b.next, groups-number, functions-number));
       same = λ z. refl;
     }
@@ -221,7 +222,7 @@ module _ {c q : Bytes} {cells parts : List ℕ} {s : Scope} {n m k : ℕ} {area 
     total-functions =
         sym (total-map size (tree_at c q cells) (function_rows c q cells parts)) ∙ ap (total size) rows-of-functions
 
-    pub some-ready : (g + f ≡ 0 → ⊥) → AggregateReady c q cells s (take g gs) (take f fs) n m k area nodes
+    pub some-ready : (g + f ≡ 0 → ⊥) → AggregateReady c q cells s (take g gs) (take f fs) n m area u
     some-ready e = rw (groups-are, functions-are) (record {
       valid = h.valid;
       table = h.table;
@@ -235,10 +236,10 @@ module _ {c q : Bytes} {cells parts : List ℕ} {s : Scope} {n m k : ℕ} {area 
       in_use = h.in_use;
     })
 
-    pub some-stage : {area' nodes' : List ℕ} {r : Result Stage Refusal} → (g + f ≡ 0 → ⊥)
+    pub some-stage : {area' : List ℕ} {v : Nodes} {r : Result Stage Refusal} → (g + f ≡ 0 → ⊥)
         → StageBuilt c q cells (groups_stage c q cells s (map (tree_at c q cells) (take g gs))
-        (map (tree_at c q cells) (take f fs))) n m k area nodes area' nodes' r
-        → GroupsBuilt c q cells s (groups_at c q cells parts) (functions_at c q cells parts) n m k area nodes area' nodes' r
+        (map (tree_at c q cells) (take f fs))) n m area u area' v r
+        → GroupsBuilt c q cells s (groups_at c q cells parts) (functions_at c q cells parts) n m area u area' v r
     some-stage e x = record {
       stage = rw (groups-are, functions-are, group-rows, rows-of-functions) at x;
       same = λ z. absurd (false≢true (sym z ∙ aggregated-some (groups_at c q cells parts) (functions_at c q cells parts)

@@ -1,6 +1,6 @@
 -- What the stage of groups and aggregates needs, and the rows that it retains.
 use Rattle.std.specs.Prelude.{ℕ, ◌+◌, ◌*◌, ◌-◌, ◌≤◌, ◌<◌, ◌≡◌, Bool, true, false, List, [], ◌∷◌, ◌++◌, length, take, drop}
-use Rattle.std.proofs.Common.{arith, sym, ap, ◌∙◌, length-drop, length-take-le, take-take, take_at, take-add, drop_at}
+use Rattle.std.proofs.Common.{arith, sym, ap, ◌∙◌, length-append, length-drop, length-take-le, take_all, take_at, drop_at}
 use Rattle.std.proofs.lemmas.List.Edits.{sets}
 use Rattle.std.proofs.Math.Seq.{length-sets}
 use Rattle.rules.specs.Limits.{most_columns, most_entries, most_cells}
@@ -13,38 +13,39 @@ use Rattle.scope.specs.Retain.{has_equal, retained, retained-length, kept-rows}
 use Rattle.scope.specs.AddAggregates.{Aggregable}
 use Rattle.scope.specs.declared.Scope.{Scope}
 use Rattle.plan.specs.Layout.{nodes_size}
+use Rattle.plan.specs.declared.nodes.Nodes.{Nodes}
 use Rattle.plan.specs.Cells.{Room, room-less}
 use Rattle.build_aggregate.specs.Nodes.{record_end}
 use Rattle.build_groups.specs.Rows.{groups_at, functions_at}
-use Rattle.build_groups.specs.declared.aggregate.Kept.{Kept}
 
 -- READY
--- the stage over a scope, behind n cells, m nodes and k numbers of the nodes
-pub record GroupsReady (c q : Bytes) (cells parts : List ℕ) (s : Scope) (n m k : ℕ) (area nodes : List ℕ) : Type 0 where
+-- the stage over a scope, behind n cells, m nodes and the numbers of u
+pub record GroupsReady (c q : Bytes) (cells parts : List ℕ) (s : Scope) (n m : ℕ) (area : List ℕ) (u : Nodes) : Type 0 where
   pub valid : Valid s
   pub hidden : s.hidden ≤ s.width
   pub table : length cells ≡ table_size
   pub few-groups : length (groups_at c q cells parts) ≤ most_entries
   pub few-functions : length (functions_at c q cells parts) ≤ most_cells
   pub room : Room n (3 * (total size (groups_at c q cells parts) + total size (functions_at c q cells parts))) area
-  pub nodes-room : record_end k (length (groups_at c q cells parts)) (length (functions_at c q cells parts)) ≤ length nodes
-  pub nodes-most : length nodes ≤ nodes_size
+  pub nodes-room : record_end u.used (length (groups_at c q cells parts)) (length (functions_at c q cells parts))
+      ≤ length u.numbers.now
+  pub nodes-most : length u.numbers.now ≤ nodes_size
   pub source : 0 < m
-  pub in_use : m ≤ k
+  pub in_use : m ≤ u.used
 
 -- over the rows of groups and functions, one at least
-pub record AggregateReady (c q : Bytes) (cells : List ℕ) (s : Scope) (gs fs : List ℕ) (n m k : ℕ) (area nodes : List ℕ)
-    : Type 0 where
+pub record AggregateReady (c q : Bytes) (cells : List ℕ) (s : Scope) (gs fs : List ℕ) (n m : ℕ) (area : List ℕ)
+    (u : Nodes) : Type 0 where
   pub valid : Valid s
   pub table : length cells ≡ table_size
   pub some-rows : 0 < length gs + length fs
   pub few-groups : length gs ≤ most_entries
   pub few-functions : length fs ≤ most_cells
   pub room : Room n (3 * (total (λ r. size (tree_at c q cells r)) gs + total (λ r. size (tree_at c q cells r)) fs)) area
-  pub nodes-room : record_end k (length gs) (length fs) ≤ length nodes
-  pub nodes-most : length nodes ≤ nodes_size
+  pub nodes-room : record_end u.used (length gs) (length fs) ≤ length u.numbers.now
+  pub nodes-most : length u.numbers.now ≤ nodes_size
   pub source : 0 < m
-  pub in_use : m ≤ k
+  pub in_use : m ≤ u.used
 
 -- RETAINED
 -- groups and functions that are retained, in all
@@ -66,29 +67,24 @@ retained_groups e gs = retained e [] gs
 abbrev pub retained_functions : (ℕ → Expr) → List ℕ → List ℕ → List ℕ
 retained_functions e gs fs = retained e (retained e [] gs) fs
 
--- the rows of the groups that are retained come first, then those of the functions
-pub record RowsKept (e : ℕ → Expr) (gs fs kept : List ℕ) (r : Kept) : Type 0 where
-  pub groups-number : r.groups ≡ length (retained_groups e gs)
-  pub number : r.all ≡ length (retained_groups e gs) + length (retained_functions e gs fs)
-  pub room : r.all ≤ length kept
-  pub rows : take r.all kept ≡ retained_groups e gs ++ retained_functions e gs fs
+-- the rows from the g-th on
+abbrev pub rows_from : ℕ → List ℕ → List ℕ
+rows_from g rows = take (length rows - g) (drop g rows)
 
-module _ {e : ℕ → Expr} {gs fs kept : List ℕ} {r : Kept} (k : RowsKept e gs fs kept r) where
-  pub kept-groups : take r.groups kept ≡ retained_groups e gs
-  kept-groups =
-      sym (take-take r.groups r.all kept (omega (arith, k.groups-number, k.number)))
-      ∙ ap (take r.groups) k.rows
-      ∙ take_at (retained_groups e gs) (retained_functions e gs fs) r.groups (sym k.groups-number)
+rows-from : (g : ℕ) (rows : List ℕ) → rows_from g rows ≡ drop g rows
+rows-from g rows = take_all (length rows - g) (drop g rows) (omega (arith, length-drop g rows))
 
-  pub kept-functions : take (r.all - r.groups) (drop r.groups kept) ≡ retained_functions e gs fs
-  kept-functions =
-      let z : r.groups + (r.all - r.groups) ≡ r.all = omega (arith, k.groups-number, k.number) in
-      let l : length (take r.groups kept) ≡ r.groups =
-      length-take-le r.groups kept (omega (arith, k.groups-number, k.number, k.room)) in
-      sym (drop_at (take r.groups kept) (take (r.all - r.groups) (drop r.groups kept)) r.groups l)
-      ∙ ap (drop r.groups)
-      (sym (take-add r.groups (r.all - r.groups) kept) ∙ ap (λ i. take i kept) z ∙ k.rows)
-      ∙ drop_at (retained_groups e gs) (retained_functions e gs fs) r.groups (sym k.groups-number)
+-- the rows of the groups that are retained, g of them, then those of the functions
+pub record RowsKept (e : ℕ → Expr) (gs fs rows : List ℕ) (g : ℕ) : Type 0 where
+  pub groups-number : g ≡ length (retained_groups e gs)
+  pub rows-are : rows ≡ retained_groups e gs ++ retained_functions e gs fs
+
+module _ {e : ℕ → Expr} {gs fs rows : List ℕ} {g : ℕ} (k : RowsKept e gs fs rows g) where
+  pub kept-groups : take g rows ≡ retained_groups e gs
+  kept-groups = ap (take g) k.rows-are ∙ take_at (retained_groups e gs) (retained_functions e gs fs) g (sym k.groups-number)
+
+  pub kept-functions : rows_from g rows ≡ retained_functions e gs fs
+  kept-functions = rows-from g rows ∙ ap (drop g) k.rows-are ∙ drop_at (retained_groups e gs) (retained_functions e gs fs) g (sym k.groups-number)
 
 -- retained one after the other
 pub second-room : (e : ℕ → Expr) (gs fs kept : List ℕ) {kept₁ : List ℕ} {g : ℕ}
@@ -104,7 +100,7 @@ pub retained-both : (e : ℕ → Expr) (gs fs kept : List ℕ) {kept₁ kept₂ 
     → length gs + length fs ≤ length kept
     → g ≡ 0 + length (retained e (take 0 kept) gs) → kept₁ ≡ sets kept 0 (retained e (take 0 kept) gs)
     → f ≡ g + length (retained e (take g kept₁) fs) → kept₂ ≡ sets kept₁ g (retained e (take g kept₁) fs)
-    → RowsKept e gs fs kept₂ (record { groups = g; all = f })
+    → (f ≤ length kept₂) × RowsKept e gs fs (take f kept₂) g
 retained-both e gs fs kept {kept₁} {kept₂} {g} {f} h eg e₁ ef e₂ =
     let l₁ : length kept₁ ≡ length kept = ap length e₁ ∙ length-sets kept 0 (retained e (take 0 kept) gs) in
     let l₂ : length kept₂ ≡ length kept = ap length e₂ ∙ length-sets kept₁ g (retained e (take g kept₁) fs) ∙ l₁ in
@@ -114,75 +110,41 @@ retained-both e gs fs kept {kept₁} {kept₂} {g} {f} h eg e₁ ef e₂ =
     let jf : f ≡ g + length (retained e (retained e [] gs) fs) = rw a at ef in
     let b : kept₂ ≡ sets kept₁ g (retained e (retained e [] gs) fs) = rw a at e₂ in
     let m : g + length (retained e (retained e [] gs) fs) ≤ length kept =
-    omega (arith, ig, retained-length e [] gs, retained-length e (retained e [] gs) fs) in
-    record {
-      groups-number = ig;
-      number = omega (arith, ig, jf);
-      room = omega (arith, jf, l₂, m);
-      rows = rw (jf, b) (kept-rows kept₁ (retained e (retained e [] gs) fs) g (omega (arith, m, l₁)) ∙ rw a);
-    }
+    omega (arith, ig, retained-length e [] gs, retained-length e (retained e [] gs) fs) in (
+      omega (arith, jf, l₂, m),
+      record {
+        groups-number = ig;
+        rows-are = rw (jf, b) (kept-rows kept₁ (retained e (retained e [] gs) fs) g (omega (arith, m, l₁)) ∙ rw a);
+      },
+    )
 
--- over the rows that are kept
-pub record KeptReady (c q : Bytes) (cells : List ℕ) (s : Scope) (kept : List ℕ) (r : Kept) (n m k : ℕ)
-    (area nodes : List ℕ) : Type 0 where
+-- over the rows that are kept, the groups' first
+pub record KeptReady (c q : Bytes) (cells : List ℕ) (s : Scope) (rows : List ℕ) (g n m : ℕ) (area : List ℕ) (u : Nodes)
+    : Type 0 where
   pub valid : Valid s
   pub table : length cells ≡ table_size
-  pub order : r.groups ≤ r.all
-  pub held : r.all ≤ length kept
-  pub room : Room n (3 * (total (λ i. size (tree_at c q cells i)) (take r.groups kept)
-      + total (λ i. size (tree_at c q cells i)) (take (r.all - r.groups) (drop r.groups kept)))) area
-  pub nodes-room : record_end k r.groups (r.all - r.groups) ≤ length nodes
-  pub nodes-most : length nodes ≤ nodes_size
+  pub order : g ≤ length rows
+  pub room : Room n (3 * (total (λ i. size (tree_at c q cells i)) (take g rows)
+      + total (λ i. size (tree_at c q cells i)) (rows_from g rows))) area
+  pub nodes-room : record_end u.used (length (take g rows)) (length (rows_from g rows)) ≤ length u.numbers.now
+  pub nodes-most : length u.numbers.now ≤ nodes_size
   pub source : 0 < m
-  pub in_use : m ≤ k
+  pub in_use : m ≤ u.used
 
--- how many rows there are
-module _ {c q : Bytes} {cells : List ℕ} {s : Scope} {kept : List ℕ} {r : Kept} {n m k : ℕ} {area nodes : List ℕ}
-    (a : KeptReady c q cells s kept r n m k area nodes) where
-  pub groups-length : length (take r.groups kept) ≡ r.groups
-  groups-length = length-take-le r.groups kept (omega (arith, a.order, a.held))
+-- there is room in the child scope
+pub kept-aggregable : {c q : Bytes} {cells : List ℕ} {s : Scope} {rows : List ℕ} {g n m : ℕ} {area : List ℕ} {u : Nodes}
+    → KeptReady c q cells s rows g n m area u → length (take g rows) + length (rows_from g rows) ≤ most_columns
+    → Aggregable s cells rows
+kept-aggregable {rows = rows} {g} a h = record {
+  valid = a.valid;
+  few = omega (arith, h, length-take-le g rows a.order, ap length (rows-from g rows), length-drop g rows, a.order);
+  table = omega (arith, a.table);
+}
 
-  pub functions-length : length (take (r.all - r.groups) (drop r.groups kept)) ≡ r.all - r.groups
-  functions-length = length-take-le (r.all - r.groups) (drop r.groups kept)
-      (omega (arith, length-drop r.groups kept, a.order, a.held))
-
-  pub rows-length : length (take r.all kept) ≡ r.all
-  rows-length = length-take-le r.all kept a.held
-
-  -- there is room for what they become
-  module _ {xs : List ℕ} (e : xs ≡ take r.groups kept) where
-    pub kept-cells : Room n (3 * (total (λ i. size (tree_at c q cells i)) xs
-        + total (λ i. size (tree_at c q cells i)) (take (r.all - r.groups) (drop r.groups kept)))) area
-    kept-cells = rw e a.room
-
-    pub kept-end : record_end k r.groups (r.all - r.groups)
-        ≡ record_end k (length xs) (length (take (r.all - r.groups) (drop r.groups kept)))
-    kept-end = rw (e, groups-length, functions-length)
-
-    pub kept-room : record_end k (length xs) (length (take (r.all - r.groups) (drop r.groups kept))) ≤ length nodes
-    kept-room = rw (e, groups-length, functions-length) a.nodes-room
-
-    -- and in the child scope
-    pub kept-aggregable : {rows : List ℕ} → rows ≡ take r.all kept
-        → length xs + length (take (r.all - r.groups) (drop r.groups kept)) ≤ most_columns → Aggregable s cells rows
-    kept-aggregable f h = record {
-      valid = a.valid;
-      few = rw f (omega (arith, h, ap length e, groups-length, functions-length, rows-length, a.order));
-      table = omega (arith, a.table);
-    }
-
--- the same rows, said otherwise
-pub front-rows : (i : ℕ) (s : List ℕ) → take (i - 0) (drop 0 s) ≡ take i s
-front-rows i s = let z : i - 0 ≡ i = omega arith in ap (λ j. take j s) z
-
-pub kept-as : {e : ℕ → Expr} {gs gs' fs fs' kept : List ℕ} {r : Kept} → gs ≡ gs' → fs ≡ fs' → RowsKept e gs fs kept r
-    → RowsKept e gs' fs' kept r
-kept-as x y h = rw (x, y) at h
-
-pub kept-ready : {c q : Bytes} {cells : List ℕ} {s : Scope} {gs fs : List ℕ} {n m k : ℕ} {area nodes kept : List ℕ}
-    {r : Kept} → AggregateReady c q cells s gs fs n m k area nodes → RowsKept (tree_at c q cells) gs fs kept r
-    → KeptReady c q cells s kept r n m k area nodes
-kept-ready {c} {q} {cells} {s} {gs} {fs} {n} {m} {k} {area} {nodes} {kept} {r} a h =
+pub kept-ready : {c q : Bytes} {cells : List ℕ} {s : Scope} {gs fs : List ℕ} {n m : ℕ} {area : List ℕ} {u : Nodes}
+    {rows : List ℕ} {g : ℕ} → AggregateReady c q cells s gs fs n m area u → RowsKept (tree_at c q cells) gs fs rows g
+    → KeptReady c q cells s rows g n m area u
+kept-ready {c} {q} {cells} {gs = gs} {fs} {rows = rows} {g} a h =
     let e = tree_at c q cells in
     let w : ℕ → ℕ = λ i. size (tree_at c q cells i) in
     let tg : total w (retained_groups e gs) ≤ total w gs = retained-total w e [] gs in
@@ -192,10 +154,9 @@ kept-ready {c} {q} {cells} {s} {gs} {fs} {n} {m} {k} {area} {nodes} {kept} {r} a
     record {
       valid = a.valid;
       table = a.table;
-      order = omega (arith, h.groups-number, h.number);
-      held = h.room;
+      order = omega (arith, h.groups-number, ap length h.rows-are, length-append (retained_groups e gs) (retained_functions e gs fs));
       room = rw (kept-groups h, kept-functions h) (room-less _ (omega (arith, tg, tf)) a.room);
-      nodes-room = omega (arith, lg, lf, a.nodes-room, h.groups-number, h.number);
+      nodes-room = omega (arith, lg, lf, a.nodes-room, ap length (kept-groups h), ap length (kept-functions h));
       nodes-most = a.nodes-most;
       source = a.source;
       in_use = a.in_use;

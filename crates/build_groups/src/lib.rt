@@ -11,6 +11,7 @@ ghost use Rattle.build_groups.specs.Stages.{GroupsBuilt};
 use aggregate::{FUNCTIONS, GROUPS, build_aggregate};
 use ast::Expressions;
 use numbers::refusals::Refusal;
+use plan::nodes::Nodes;
 use plan::steps::Step;
 use rows::{function_rows, group_rows};
 use scope::Scope;
@@ -22,27 +23,22 @@ pub fn build_groups(
     parts: &[u32],
     scope: Scope,
     area: &mut [u32],
-    nodes: &mut [u32],
+    nodes: &mut Nodes,
     at: Step,
 ) -> Result<Stage, Refusal>
     requires { GroupsReady exprs.now.texts.catalog.now exprs.now.texts.statement.now exprs.now.table.now parts.now scope
-        at.cell at.node at.used area.old nodes.old }
+        at.cell at.node area.old nodes.old }
     ensures { GroupsBuilt exprs.now.texts.catalog.now exprs.now.texts.statement.now exprs.now.table.now scope
         (groups_at exprs.now.texts.catalog.now exprs.now.texts.statement.now exprs.now.table.now parts.now)
         (functions_at exprs.now.texts.catalog.now exprs.now.texts.statement.now exprs.now.table.now parts.now)
-        at.cell at.node at.used area.old nodes.old area.new nodes.new result }
+        at.cell at.node area.old nodes.old area.new nodes.new result }
 {
     let mut groups = [0usize; GROUPS];
     let g = group_rows(parts, &mut groups);
     let mut functions = [0usize; FUNCTIONS];
     let f = function_rows(exprs, parts, &mut functions);
     if g + f == 0 {
-        return Ok(Stage {
-            scope,
-            cell: at.cell,
-            node: at.node,
-            used: at.used,
-        });
+        return Ok(Stage { scope, at });
     }
-    build_aggregate(exprs, &groups, g, &functions, f, scope, area, nodes, at)
+    build_aggregate(exprs, &groups[..g], &functions[..f], scope, area, nodes, at)
 }

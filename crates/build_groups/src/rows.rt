@@ -1,4 +1,5 @@
-// The rows of a SELECT's groups, and of the aggregates in its items, HAVING and ORDER (planner.rs, collect_aggregates).
+// The rows of a SELECT's groups, and of the aggregates in its items, HAVING and ORDER (planner.rs, collect_aggregates). The
+// rows and how many there are stay two values, as `collect` and `retain` take them and give the count.
 ghost use Rattle.std.specs.Prelude.{◌+◌, ◌≤◌, length};
 ghost use Rattle.entries.specs.Sections.{number_of};
 ghost use Rattle.sections.specs.Access.{group_kind};
@@ -19,8 +20,7 @@ pub fn group_rows(parts: &[u32], rows: &mut [usize]) -> usize
 {
     let n = count(parts, Section::Group);
     for i in 0..n {
-        let e = entry_at(parts, Section::Group, i);
-        rows[i as usize] = first_row(e);
+        rows[i as usize] = first_row(entry_at(parts, Section::Group, i));
     }
     n as usize
 }
@@ -32,11 +32,7 @@ fn collect_at(exprs: &Expressions, r: usize, rows: &mut [usize], k: usize) -> us
     ensures { Appended (collect_rows exprs.now.texts.catalog.now exprs.now.texts.statement.now exprs.now.table.now r) k
         rows.old result rows.new }
 {
-    let collected = collect(exprs, r, rows, k);
-    match collected {
-        Some(x) => x,
-        None => k,
-    }
+    collect(exprs, r, rows, k).unwrap_or(k)
 }
 
 // The aggregates of a section's entries.
@@ -57,8 +53,8 @@ fn collect_section(
     let n = count(parts, kind);
     let mut x = k;
     for i in 0..n {
-        let e = entry_at(parts, kind, i);
-        x = collect_at(exprs, first_row(e), rows, x);
+        let r = first_row(entry_at(parts, kind, i));
+        x = collect_at(exprs, r, rows, x);
     }
     x
 }

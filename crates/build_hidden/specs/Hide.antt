@@ -83,18 +83,6 @@ pub record HidingRows (c q : Bytes) (t xs ms ts rows : List ℕ) (child : Scope)
   pub kept : length positions' ≡ length positions
   pub reached : (h : ℕ) → Reached c q t xs ms ts rows child h i s positions'
 
-pub hiding-begin : {t labels matches tables : List ℕ} {child : Scope} {positions : List ℕ}
-    → Passable t labels matches tables child positions → (c q : Bytes) (rows : List ℕ)
-    → HidingRows c q t labels matches tables rows child positions 0 child positions
-hiding-begin f c q rows = record {
-  valid = f.valid;
-  width = omega (arith, f.shown);
-  count = refl;
-  tables = refl;
-  kept = refl;
-  reached = λ h. record { columns = []; rest = refl; numbers = rw f.shown; count = sym f.shown };
-}
-
 module _ {c q : Bytes} {t labels matches tables rows : List ℕ} {child : Scope}
     {positions : List ℕ} {i : ℕ} {s : Scope} {positions' : List ℕ}
     (f : Passable t labels matches tables child positions)

@@ -7,6 +7,7 @@ use native.Mathlib.Omega.{arith}
 use Rattle.std.proofs.Math.Path.{◌≡◌, refl, sym, ap}
 use Rattle.std.proofs.Common.{◌∙◌}
 use Rattle.std.proofs.Math.Option.{Option, none, some}
+use mathlib.Core.Logic.{◌⊎◌, inl, inr}
 use Rattle.std.proofs.Math.ListN.{length}
 use Rattle.rules.specs.Lists.{Bytes}
 use Rattle.rules.specs.Lines.{Word}
@@ -94,6 +95,20 @@ module _ {c q : Bytes} {xs ms ts : List ℕ} {o : Option Word} {w : Word} {u : R
     name-known {j} z = record { is = λ e h k. lacks-known _ _ j (looked-at m e k) (ap result_ok z) }
 
 -- BY THE KIND OF A ROW
+-- kinds other than a column's name
+abbrev pub Unnamed : Kind → Type 0
+Unnamed k = (k ≡ K.Star) ⊎ ((k ≡ K.Call) ⊎ ((k ≡ K.Unary) ⊎ ((k ≡ K.Binary) ⊎ ((k ≡ K.Is) ⊎ (k ≡ K.Literal)))))
+
+unnamed-tree : (c q : Bytes) (t : List ℕ) (r : ℕ) {k : Kind} → Unnamed k
+    → as_column (tree_of (tree_at c q t) k c q t r) ≡ none
+unfolding tree_of as_column
+unnamed-tree c q t r (inl e) = rw e
+unnamed-tree c q t r (inr (inl e)) = rw e
+unnamed-tree c q t r (inr (inr (inl e))) = rw e
+unnamed-tree c q t r (inr (inr (inr (inl e)))) = rw e
+unnamed-tree c q t r (inr (inr (inr (inr (inl e))))) = rw e
+unnamed-tree c q t r (inr (inr (inr (inr (inr e))))) = rw e
+
 module _ {c q : Bytes} {xs ms ts ys ns us : List ℕ} (t : List ℕ) (r : ℕ) (k : Kind) (h : number_of k ≡ kind_at t r) where
   module _ {a n : ℕ} {x : std.Option ℕ} (ea : a ≡ name_address t r) (en : n ≡ name_length t r) where
     pub column-plain : k ≡ K.Column → NameLacking c q xs ms ts ys ns us (qualifier_of c q std.None) (word_at c q a n) x
@@ -116,16 +131,12 @@ module _ {c q : Bytes} {xs ms ts ys ns us : List ℕ} (t : List ℕ) (r : ℕ) (
     }
 
   -- anything else
-  pub column-none : (v : Kind) → k ≡ v → as_column (tree_of (tree_at c q t) v c q t r) ≡ none
-      → ColumnLacking c q xs ms ts ys ns us (tree_at c q t r) std.None
+  pub column-none : Unnamed k → ColumnLacking c q xs ms ts ys ns us (tree_at c q t r) std.None
   unfolding lacking_column
-  column-none v e o =
-      let w : tree_at c q t r ≡ tree_of (tree_at c q t) v c q t r =
-      row-tree c q t r k h ∙ ap (λ (i : Kind). tree_of (tree_at c q t) i c q t r) e in
-      record {
-        is = λ g i j. sym (ap (lacking_column (scope_from g c q xs ms ts i) (scope_from g c q ys ns us j))
-            (ap as_column w ∙ o));
-      }
+  column-none e = record {
+    is = λ g i j. sym (ap (lacking_column (scope_from g c q xs ms ts i) (scope_from g c q ys ns us j))
+        (ap as_column (row-tree c q t r k h) ∙ unnamed-tree c q t r e));
+  }
 
 -- A MATCH OR ELSE A NAME
 matches-both : (c q : Bytes) (t xs ms ts ys ns us : List ℕ) (r h k : ℕ) (o : Option ℕ)

@@ -20,9 +20,9 @@ use Rattle.statement.specs.Layout.{map_entries, to_key, select_of}
 use Rattle.statement.specs.Access.{select_at}
 use Rattle.statement.specs.EntryAccess.{clause_at, clause_of, clause-is, key-at, map-length}
 use Rattle.statement.specs.declared.access.Clause as Cl
-use Rattle.plan.specs.Appended.{Appended, appended-none, appended-on}
 use Rattle.build_hidden.specs.Visits.{hidden_by, hidden-append, trees_at}
-use Rattle.build_hidden.specs.Rows.{RowsFit, RowsVisited}
+use Rattle.build_hidden.specs.Rows.{Listed, listed-none, listed-on, RowsFit, RowsVisited}
+use Rattle.build_hidden.specs.declared.walk.Rows.{Rows}
 
 -- the order keys, and their expressions
 module _ (c q : Bytes) (cells parts : List ℕ) where
@@ -33,54 +33,53 @@ abbrev pub expressions_of : List Key → List Expr
 expressions_of ks = map (λ (k : Key). k.expr) ks
 
 -- CONTRACTS
--- there is room behind n rows for as many as the keys have cells, by some texts
-pub record KeysFit (cells parts : List ℕ) (n : ℕ) (rows : List ℕ) : Type 0 where
+-- there is room behind the rows of s for as many as the keys have cells, by some texts
+pub record KeysFit (cells parts : List ℕ) (s : Rows) : Type 0 where
   pub c : Bytes
   pub q : Bytes
   pub table : length cells ≡ table_size
-  pub fits : n + total size (expressions_of (keys_at c q cells parts)) ≤ length rows
+  pub fits : s.used + total size (expressions_of (keys_at c q cells parts)) ≤ length s.places.now
 
--- the rows of the keys stand behind n others
-pub record KeysVisited (cells parts rows : List ℕ) (n : ℕ) (rows' : List ℕ) (m : ℕ) : Type 0 where
+-- the rows of the keys stand behind those of s
+pub record KeysVisited (cells parts : List ℕ) (s s' : Rows) : Type 0 where
   pub seen : List ℕ
-  pub is : (c q : Bytes) (s : Scope) (h : Hidden)
-      → hidden_of s (expressions_of (keys_at c q cells parts)) h ≡ hidden_by s (trees_at c q cells seen) h
-  pub appended : Appended seen n rows m rows'
+  pub is : (c q : Bytes) (t : Scope) (h : Hidden)
+      → hidden_of t (expressions_of (keys_at c q cells parts)) h ≡ hidden_by t (trees_at c q cells seen) h
+  pub listed : Listed seen s s'
 
-pub record LaterFit (cells parts rows : List ℕ) : Type 0 where
+pub record LaterFit (cells parts : List ℕ) (s : Rows) : Type 0 where
   pub c : Bytes
   pub q : Bytes
   pub table : length cells ≡ table_size
-  pub fits : (froms : List ℕ) → total size (later_of (select_at c q cells froms parts)) ≤ length rows
+  pub fits : (froms : List ℕ) → s.used + total size (later_of (select_at c q cells froms parts)) ≤ length s.places.now
 
-pub record LaterVisited (cells parts rows rows' : List ℕ) (n : ℕ) : Type 0 where
+pub record LaterVisited (cells parts : List ℕ) (s s' : Rows) : Type 0 where
   pub seen : List ℕ
-  pub is : (c q : Bytes) (froms : List ℕ) (s : Scope) (h : Hidden)
-      → hidden_of s (later_of (select_at c q cells froms parts)) h ≡ hidden_by s (trees_at c q cells seen) h
-  pub appended : Appended seen 0 rows n rows'
+  pub is : (c q : Bytes) (froms : List ℕ) (t : Scope) (h : Hidden)
+      → hidden_of t (later_of (select_at c q cells froms parts)) h ≡ hidden_by t (trees_at c q cells seen) h
+  pub listed : Listed seen s s'
 
 -- THE KEYS
--- m rows with those of the first k keys
-pub record KeysVisiting (cells parts rows : List ℕ) (n : ℕ) (rows' : List ℕ) (m k : ℕ) : Type 0 where
+-- the rows of the first k keys stand behind those of s
+pub record KeysVisiting (cells parts : List ℕ) (s : Rows) (k : ℕ) (s' : Rows) : Type 0 where
   pub seen : List ℕ
-  pub is : (c q : Bytes) (s : Scope) (h : Hidden) → hidden_of s (expressions_of (keys_at c q cells parts)) h
-      ≡ hidden_of s (expressions_of (drop k (keys_at c q cells parts))) (hidden_by s (trees_at c q cells seen) h)
-  pub appended : Appended seen n rows m rows'
+  pub is : (c q : Bytes) (t : Scope) (h : Hidden) → hidden_of t (expressions_of (keys_at c q cells parts)) h
+      ≡ hidden_of t (expressions_of (drop k (keys_at c q cells parts))) (hidden_by t (trees_at c q cells seen) h)
+  pub listed : Listed seen s s'
   pub most : (c q : Bytes) → length seen + total size (expressions_of (drop k (keys_at c q cells parts)))
       ≤ total size (expressions_of (keys_at c q cells parts))
 
-pub keys-begin : {cells parts : List ℕ} {n : ℕ} {rows : List ℕ} → KeysFit cells parts n rows
-    → KeysVisiting cells parts rows n rows n 0
+pub keys-begin : {cells parts : List ℕ} {s : Rows} → KeysFit cells parts s → KeysVisiting cells parts s 0 s
 unfolding hidden_by
-keys-begin {cells} {parts} {n} {rows} f = record {
+keys-begin {s = s} f = record {
   seen = [];
-  is = λ c q s h. refl;
-  appended = appended-none n rows (omega (arith, f.fits));
+  is = λ c q t h. refl;
+  listed = listed-none s (omega (arith, f.fits));
   most = λ c q. omega arith;
 }
 
-module _ {cells parts rows : List ℕ} {n : ℕ} {rows' : List ℕ} {m k : ℕ} (f : KeysFit cells parts n rows)
-    (v : KeysVisiting cells parts rows n rows' m k) (w : ℕ)
+module _ {cells parts : List ℕ} {s : Rows} {k : ℕ} {s' : Rows} (f : KeysFit cells parts s)
+    (v : KeysVisiting cells parts s k s') (w : ℕ)
     (e : (c q : Bytes) (t : List ℕ) → w ≡ length (section_at c q t parts order_kind)) where
   module _ {x : Entry} {r : ℕ} (l : k < w) (g : x ≡ numbers_at parts order_kind k) (y : r ≡ first_row x) where
     next-key : (c q : Bytes) → expressions_of (drop k (keys_at c q cells parts))
@@ -94,7 +93,7 @@ module _ {cells parts rows : List ℕ} {n : ℕ} {rows' : List ℕ} {m k : ℕ} 
     unfolding total
     next-size c q = rw (next-key c q)
 
-    pub keys-fits : RowsFit cells r m rows'
+    pub keys-fits : RowsFit cells r s'
     keys-fits = record {
       c = f.c;
       q = f.q;
@@ -102,38 +101,37 @@ module _ {cells parts rows : List ℕ} {n : ℕ} {rows' : List ℕ} {m k : ℕ} 
         arith,
         f.fits,
         v.most f.c f.q,
-        v.appended.next,
-        v.appended.all,
+        v.listed.appended.next,
+        v.listed.appended.all,
         next-size f.c f.q,
       );
     }
 
-    pub keys-more : {rows'' : List ℕ} {m' : ℕ} {b : Bool} → RowsVisited cells r rows' m rows'' m' b
-        → KeysVisiting cells parts rows n rows'' m' (k + 1)
+    pub keys-more : {s'' : Rows} {b : Bool} → RowsVisited cells r s' s'' b → KeysVisiting cells parts s (k + 1) s''
     unfolding hidden_of
     keys-more o = record {
       seen = v.seen ++ o.seen;
-      is = λ c q s h. v.is c q s h
+      is = λ c q t h. v.is c q t h
           ∙ rw (
             next-key c q,
             hidden_of,
-            o.walks.is c q s (hidden_by s (trees_at c q cells v.seen) h),
+            o.walks.is c q t (hidden_by t (trees_at c q cells v.seen) h),
             add-one k,
             map-append (tree_at c q cells) v.seen o.seen,
-            hidden-append s (trees_at c q cells v.seen) (trees_at c q cells o.seen) h,
+            hidden-append t (trees_at c q cells v.seen) (trees_at c q cells o.seen) h,
           );
-      appended = appended-on v.appended o.appended;
+      listed = listed-on v.listed o.listed;
       most = λ c q. rw (length-append v.seen o.seen, add-one k)
           (omega (arith, v.most c q, o.most c q, next-size c q));
     }
 
-  pub keys-end : w ≤ k → KeysVisited cells parts rows n rows' m
+  pub keys-end : w ≤ k → KeysVisited cells parts s s'
   unfolding keys_at hidden_of
   keys-end l = record {
     seen = v.seen;
-    is = λ c q s h. v.is c q s h ∙ ap (λ ks. hidden_of s (expressions_of ks) (hidden_by s (trees_at c q cells v.seen) h))
+    is = λ c q t h. v.is c q t h ∙ ap (λ ks. hidden_of t (expressions_of ks) (hidden_by t (trees_at c q cells v.seen) h))
         (drop_of_length-le (keys_at c q cells parts) {i = k} (omega (arith, e c q cells, map-length to_key (section_at c q cells parts order_kind))));
-    appended = v.appended;
+    listed = v.listed;
   }
 
 -- HAVING AND ORDER BY
@@ -148,9 +146,9 @@ module _ (c q : Bytes) (cells parts froms : List ℕ) (s : length cells ≡ tabl
   unfolding later_of select_at select_of keys_at clause_of clause_expr given map_option
   later-some clause e = rw (clause-is parts having_kind c q cells (omega (arith, s)) (Some clause) e)
 
-module _ {cells parts rows : List ℕ} (f : LaterFit cells parts rows) {x : Option Cl.Clause} (e : x ≡ clause_at parts having_kind) where
+module _ {cells parts : List ℕ} {s : Rows} (f : LaterFit cells parts s) {x : Option Cl.Clause} (e : x ≡ clause_at parts having_kind) where
   module _ (g : x ≡ None) where
-    pub none-fits : KeysFit cells parts 0 rows
+    pub none-fits : KeysFit cells parts s
     none-fits = record {
       c = f.c;
       q = f.q;
@@ -158,13 +156,12 @@ module _ {cells parts rows : List ℕ} (f : LaterFit cells parts rows) {x : Opti
       fits = omega (arith, f.fits [], ap (total size) (later-none f.c f.q cells parts [] f.table (sym g ∙ e)));
     }
 
-    pub none-visited : {rows' : List ℕ} {n : ℕ} → KeysVisited cells parts rows 0 rows' n
-        → LaterVisited cells parts rows rows' n
+    pub none-visited : {s' : Rows} → KeysVisited cells parts s s' → LaterVisited cells parts s s'
     none-visited o = record {
       seen = o.seen;
-      is = λ c q froms s h. ap (λ es. hidden_of s es h) (later-none c q cells parts froms f.table (sym g ∙ e))
-          ∙ o.is c q s h;
-      appended = o.appended;
+      is = λ c q froms t h. ap (λ es. hidden_of t es h) (later-none c q cells parts froms f.table (sym g ∙ e))
+          ∙ o.is c q t h;
+      listed = o.listed;
     }
 
   module _ {clause : Cl.Clause} (g : x ≡ Some clause) where
@@ -173,29 +170,28 @@ module _ {cells parts rows : List ℕ} (f : LaterFit cells parts rows) {x : Opti
     unfolding total
     some_size = ap (total size) (later-some f.c f.q cells parts [] f.table clause (sym g ∙ e))
 
-    pub having-fits : RowsFit cells clause.row 0 rows
+    pub having-fits : RowsFit cells clause.row s
     having-fits = record { c = f.c; q = f.q; fits = omega (arith, f.fits [], some_size) }
 
-    module _ {rows₁ : List ℕ} {m : ℕ} {b : Bool} (o : RowsVisited cells clause.row rows 0 rows₁ m b) where
-      pub some_fits : KeysFit cells parts m rows₁
+    module _ {s₁ : Rows} {b : Bool} (o : RowsVisited cells clause.row s s₁ b) where
+      pub some_fits : KeysFit cells parts s₁
       some_fits = record {
         c = f.c;
         q = f.q;
         table = f.table;
-        fits = omega (arith, f.fits [], some_size, o.most f.c f.q, o.appended.next, o.appended.all);
+        fits = omega (arith, f.fits [], some_size, o.most f.c f.q, o.listed.appended.next, o.listed.appended.all);
       }
 
-      pub some-visited : {rows₂ : List ℕ} {n : ℕ} → KeysVisited cells parts rows₁ m rows₂ n
-          → LaterVisited cells parts rows rows₂ n
+      pub some-visited : {s₂ : Rows} → KeysVisited cells parts s₁ s₂ → LaterVisited cells parts s s₂
       unfolding hidden_of
       some-visited k = record {
         seen = o.seen ++ k.seen;
-        is = λ c q froms s h. ap (λ es. hidden_of s es h) (later-some c q cells parts froms f.table clause (sym g ∙ e))
-            ∙ ap (λ (u : Hidden). hidden_of s (expressions_of (keys_at c q cells parts)) u) (ap (λ v. v.hidden) (o.walks.is c q s h))
-            ∙ k.is c q s _
+        is = λ c q froms t h. ap (λ es. hidden_of t es h) (later-some c q cells parts froms f.table clause (sym g ∙ e))
+            ∙ ap (λ (u : Hidden). hidden_of t (expressions_of (keys_at c q cells parts)) u) (ap (λ v. v.hidden) (o.walks.is c q t h))
+            ∙ k.is c q t _
             ∙ rw (
               map-append (tree_at c q cells) o.seen k.seen,
-              hidden-append s (trees_at c q cells o.seen) (trees_at c q cells k.seen) h,
+              hidden-append t (trees_at c q cells o.seen) (trees_at c q cells k.seen) h,
             );
-        appended = appended-on o.appended k.appended;
+        listed = listed-on o.listed k.listed;
       }

@@ -30,10 +30,7 @@ pub fn hide_rows(
             continue;
         };
         if COLUMNS <= scope.width as usize {
-            return Err(Refusal {
-                reason: Reason::LimitPassed,
-                line: line(exprs.table, r),
-            });
+            return Err(Reason::LimitPassed.at(line(exprs.table, r)));
         }
         positions[scope.hidden as usize] = j;
         scope = scope.add_hidden(exprs, parent.labels[j as usize], parent.matches[j as usize]);

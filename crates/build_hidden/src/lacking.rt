@@ -60,24 +60,14 @@ fn lacking_column(exprs: &Expressions, r: usize, parent: &View, child: &View) ->
         child.now.labels.now child.now.matches.now child.now.tables.now
         (tree_in exprs.now r) result }
 {
-    let k = kind_of(exprs.table, r);
-    match k {
-        Kind::Column => {
-            let sought = name(exprs.table, r);
-            lacking_name(&exprs.texts, parent, child, None, sought)
-        }
-        Kind::Qualified => {
-            let sought = name(exprs.table, r);
-            let place = qualifier(exprs.table, r);
-            lacking_name(&exprs.texts, parent, child, Some(place), sought)
-        }
-        Kind::Star => None,
-        Kind::Call => None,
-        Kind::Unary => None,
-        Kind::Binary => None,
-        Kind::Is => None,
-        Kind::Literal => None,
-    }
+    let place = match kind_of(exprs.table, r) {
+        Kind::Column => None,
+        Kind::Qualified => Some(qualifier(exprs.table, r)),
+        Kind::Star | Kind::Call | Kind::Unary | Kind::Binary | Kind::Is | Kind::Literal =>
+            return None,
+    };
+    let sought = name(exprs.table, r);
+    lacking_name(&exprs.texts, parent, child, place, sought)
 }
 
 // The parent's column to hide for the expression at row r.

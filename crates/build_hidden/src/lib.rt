@@ -15,6 +15,7 @@ use later::later_rows;
 use numbers::refusals::Refusal;
 use scope::Scope;
 use scope::view::View;
+use walk::Rows;
 
 // The child with the columns of the parent that are passed on hidden to it. The parent's position
 // of each goes into `positions`. Refused where the child is full, at the line of the record that calls for one more.
@@ -32,7 +33,11 @@ pub fn build_select_hidden(
         parts.now parent.now.labels.now parent.now.matches.now
         parent.now.tables.now child positions.old positions.new result }
 {
-    let mut rows = [0usize; STATEMENT_ROWS as usize];
-    let n = later_rows(exprs.table, parts, &mut rows);
-    hide_rows(exprs, &rows[..n], parent, child, positions)
+    let mut places = [0usize; STATEMENT_ROWS as usize];
+    let mut rows = Rows {
+        places: &mut places,
+        used: 0,
+    };
+    later_rows(exprs.table, parts, &mut rows);
+    hide_rows(exprs, rows.seen(), parent, child, positions)
 }

@@ -1,14 +1,14 @@
 -- INSERT's column map: the column's position for each value, in a slice, and the names that give it.
-use Prim.Native.Nat.{ℕ, zero, suc, ◌+◌, ◌-◌, ◌≤◌, ◌<◌}
+use Prim.Native.Nat.{ℕ, zero, suc, ◌+◌, ◌≤◌, ◌<◌}
 use native.Mathlib.Omega.{arith}
-use Rattle.std.proofs.Common.{add-one, sym, ◌∙◌, length-set, get_or-set_same, get_or-set_other}
+use Rattle.std.proofs.Common.{add-one, sym, ◌∙◌, length-set, length-take-le, get_or-set_same, get_or-set_other, get_or-take}
 use Rattle.std.specs.Prelude as std
-use Rattle.std.specs.Prelude.{◌≡◌, Bool, true, false, set, get_or, Result, Ok, Err, Some, None}
+use Rattle.std.specs.Prelude.{◌≡◌, Bool, true, false, ◌||◌, eqb, set, get_or, take, ⊤, Result, Ok, Err, Some, None}
+use Rattle.std.specs.List.{list_any}
 use Rattle.std.proofs.Math.Path.{refl, ap}
 use mathlib.Core.List.{List, [], ◌∷◌, ◌++◌}
 use Rattle.std.proofs.Math.Option.{Option, none, some}
 use Rattle.std.proofs.Math.ListN.{length, drop, drop_of_length-le}
-use borrow.Author.Tests.{eq-eqb, ne_eqb}
 use Rattle.rules.specs.Refusals.{Reason, Answer, ok, refuse, unknown_insert_column, repeated_insert_column}
 use Rattle.rules.specs.Lists.{Bytes, any}
 use Rattle.rules.specs.Places.{bytes_at, word_at}
@@ -25,7 +25,9 @@ use Rattle.sections.specs.Layout.{section_at}
 use Rattle.sections.specs.Access.{columns_kind, name_kind, numbers_at, after-drop}
 use Rattle.sections.specs.declared.entry.Entry.{Entry}
 use Rattle.statement.specs.Layout.{map_entries, to_named, to_names}
-use Rattle.statement.specs.EntryAccess.{name_start, word_of, map-length, named-at, names-none, names-some}
+use Rattle.text.specs.declared.places.Place.{Place}
+use Rattle.statement.specs.Access.{name_or}
+use Rattle.statement.specs.EntryAccess.{word_of, map-length, named-at, names-none, names-some}
 use Rattle.numbers.specs.Reasons.{named}
 use Rattle.numbers.specs.declared.refusals.Reason.TheVariants as Re
 use Rattle.numbers.specs.declared.refusals.Refusal.{Refusal}
@@ -48,25 +50,44 @@ unfolding mappings
 mappings-set ps k x i zero h = refl
 mappings-set ps k x i (suc n) h = rw (get_or-set_other ps k i x 0 (omega arith), mappings-set ps k x (suc i) n (omega arith))
 
--- WHETHER A COLUMN IS IN THE MAP, from the i-th value on
-module _ (ps : List ℕ) (c : ℕ) where
-  pub mapped-hit : (i v : ℕ) → i < v → get_or ps i 0 ≡ c → mapped (cindex c) (mappings ps i (v - i)) ≡ true
+mappings-below : (ps : List ℕ) (n i k : ℕ) → i + k ≤ n → mappings (take n ps) i k ≡ mappings ps i k
+unfolding mappings
+mappings-below ps n i zero h = refl
+mappings-below ps n i (suc k) h = rw (get_or-take n ps i 0 (omega arith), mappings-below ps n (suc i) k (omega arith))
+
+-- those of the first n values
+pub mappings-first : (ps : List ℕ) (n : ℕ) → n ≤ length ps → mappings (take n ps) 0 (length (take n ps)) ≡ mappings ps 0 n
+mappings-first ps n h = rw (length-take-le n ps h) (mappings-below ps n 0 n (omega arith))
+
+-- the map of columns that may be given, a value each
+unfoldable pub given_map : std.Option (List ℕ) → Option (List Mapping)
+given_map None = none
+given_map (Some ps) = some (mappings ps 0 (length ps))
+
+-- WHETHER A COLUMN IS IN THE MAP
+module _ (c : ℕ) where
+  mapped-behind : (p : ℕ) (ps : List ℕ) (i n : ℕ)
+      → mapped (cindex c) (mappings (p ∷ ps) (suc i) n) ≡ mapped (cindex c) (mappings ps i n)
   unfolding mapped any mappings same_position
-  mapped-hit i v h e = let z : v - i ≡ suc (v - suc i) = omega arith in rw (z, any, eq-eqb (get_or ps i 0) c e)
+  mapped-behind p ps i zero = refl
+  mapped-behind p ps i (suc n) =
+      ap (λ (b : Bool). elim (eqb (get_or ps i 0) c) [ true ↦ true | false ↦ b ]) (mapped-behind p ps (suc i) n)
 
-  pub mapped-miss : (i v : ℕ) → i < v → (get_or ps i 0 ≡ c → ⊥)
-      → mapped (cindex c) (mappings ps i (v - i)) ≡ mapped (cindex c) (mappings ps (i + 1) (v - (i + 1)))
+  mapped-all : (ps : List ℕ) → list_any (λ y. eqb y c) ps ≡ mapped (cindex c) (mappings ps 0 (length ps))
   unfolding mapped any mappings same_position
-  mapped-miss i v h e =
-      let z : v - i ≡ suc (v - suc i) = omega arith in
-      rw (add-one i, z, any, ne_eqb (get_or ps i 0) c e)
+  mapped-all [] = refl
+  mapped-all (p ∷ ps) = go (eqb p c)
+      ∙ ap (λ (b : Bool). elim (eqb p c) [ true ↦ true | false ↦ b ])
+      (mapped-all ps ∙ sym (mapped-behind p ps 0 (length ps)))
+    where
+      go : (b : Bool) → (b || list_any (λ y. eqb y c) ps) ≡ elim b [ true ↦ true | false ↦ list_any (λ y. eqb y c) ps ]
+      go true = refl
+      go false = refl
 
-  pub mapped-all : (v : ℕ) → mapped (cindex c) (mappings ps 0 v) ≡ mapped (cindex c) (mappings ps 0 (v - 0))
-  mapped-all v = let z : v - 0 ≡ v = omega arith in rw z
-
-  pub mapped_end : (i v : ℕ) → v ≤ i → mapped (cindex c) (mappings ps i (v - i)) ≡ false
-  unfolding mapped any mappings
-  mapped_end i v h = let z : v - i ≡ 0 = omega arith in rw z
+  -- among the first n values
+  pub mapped-first : (ps : List ℕ) (n : ℕ) → n ≤ length ps
+      → list_any (λ y. eqb y c) (take n ps) ≡ mapped (cindex c) (mappings ps 0 n)
+  mapped-first ps n h = mapped-all (take n ps) ∙ ap (mapped (cindex c)) (mappings-first ps n h)
 
 -- THE NAMES
 -- the columns of the i-th table
@@ -78,14 +99,34 @@ unfoldable pub map_of : List ℕ → std.Option ℕ → Option (List Mapping)
 map_of ps None = none
 map_of ps (Some n) = some (mappings ps 0 n)
 
+-- as the map of a slice
+pub map-none-is : (ps : List ℕ) (m : std.Option ℕ) → m ≡ None → map_of ps m ≡ given_map None
+unfolding map_of given_map
+map-none-is ps m e = ap (map_of ps) e
+
+pub map-some-is : (ps : List ℕ) (m : std.Option ℕ) (n : ℕ) → m ≡ Some n → n ≤ length ps → map_of ps m ≡ given_map (Some (take n ps))
+unfolding map_of given_map
+map-some-is ps m n e h = ap (map_of ps) e ∙ ap some (sym (mappings-first ps n h))
+
 -- the map, or a refusal
 unfoldable pub MapsAs : Answer (Option (List Mapping)) → List ℕ → Result (std.Option ℕ) Refusal → Type 0
 MapsAs a ps (Ok m) = a ≡ ok (map_of ps m)
 MapsAs a ps (Err w) = RefusedWith a w
 
+-- as many values as there are places
+abbrev pub Within : List ℕ → Result (std.Option ℕ) Refusal → Type 0
+Within ps (Ok None) = ⊤
+Within ps (Ok (Some n)) = n ≤ length ps
+Within ps (Err w) = ⊤
+
 pub record Maps (a : Answer (Option (List Mapping))) (ps ps' : List ℕ) (r : Result (std.Option ℕ) Refusal) : Type 0 where
   pub kept : length ps' ≡ length ps
+  pub within : Within ps' r
   pub is : MapsAs a ps' r
+
+pub map-within : {a : Answer (Option (List Mapping))} {ps ps' : List ℕ} {r : Result (std.Option ℕ) Refusal} → Maps a ps ps' r
+    → (m : std.Option ℕ) (n : ℕ) → r ≡ Ok m → m ≡ Some n → n ≤ length ps'
+map-within h m n e f = rw (e ∙ ap Ok f) at h.within
 
 -- there is a place for each name
 abbrev pub NamesFit : Option (List Named) → List ℕ → Type 0
@@ -131,20 +172,21 @@ module _ (c q : Bytes) (cells parts : List ℕ) (cs : List Column) where
 
   module _ {ps₀ ps : List ℕ} {v : ℕ} (p : MapSoFar ps₀ ps v) where
     pub map-all : (n : ℕ) → n ≡ length (section_at c q cells parts name_kind) → n ≤ v → v ≤ length (section_at c q cells parts name_kind)
-        → Maps whole ps₀ ps (Ok (Some n))
+        → length (section_at c q cells parts name_kind) ≤ length ps₀ → Maps whole ps₀ ps (Ok (Some n))
     unfolding MapsAs map_of
-    map-all n e h l =
+    map-all n e h l f =
         let z : drop v names ≡ [] = drop_of_length-le names {i = v}
         (omega (arith, map-length to_named (section_at c q cells parts name_kind), e, h)) in
         let y : v ≡ n = omega (arith, h, l, e) in
         record {
           kept = p.same;
+          within = omega (arith, e, f, p.same);
           is = whole-ok (mappings ps 0 n)
               (p.left ∙ ap (λ ns. map_from cs ns v (mappings ps 0 v)) z ∙ map-done cs v _ ∙ rw y);
         }
 
     module _ (e : Entry) (x : e ≡ numbers_at parts name_kind v) (l : v < length (section_at c q cells parts name_kind))
-        (a : ℕ) (s : a ≡ name_start e) (r : std.Option ℕ) (f : found_of r ≡ column_at 0 cs (bytes_at c q a e.length)) where
+        (p₁ : Place) (s : p₁ ≡ name_or e.name) (r : std.Option ℕ) (f : found_of r ≡ column_at 0 cs (bytes_at c q p₁.address p₁.length)) where
       here : map ≡ map_from cs (named_of e ∷ drop (suc v) names) v (mappings ps 0 v)
       here = p.left ∙ ap (λ ns. map_from cs ns v (mappings ps 0 v))
           (after-drop v names (named_of e) (named-at c q cells parts name_kind v e x l))
@@ -156,6 +198,7 @@ module _ (c q : Bytes) (cells parts : List ℕ) (cs : List Column) where
           let z : table_position cs (word_of c q e) ≡ none = rw (table_position, ← s, ← f, g) in
           record {
             kept = p.same;
+            within = tt;
             is = refused-at unknown_insert_column e.line Re.UnknownInsertColumn e.line
                 (whole-refused unknown_insert_column e.line
                 (here ∙ map-unknown cs (named_of e) (drop (suc v) names) v (mappings ps 0 v) z)) refl refl;
@@ -172,6 +215,7 @@ module _ (c q : Bytes) (cells parts : List ℕ) (cs : List Column) where
         name-repeated b y t =
             record {
               kept = p.same;
+              within = tt;
               is = refused-at repeated_insert_column e.line Re.RepeatedInsertColumn e.line
                   (whole-refused repeated_insert_column e.line
                   (here ∙ map-repeated cs (named_of e) (drop (suc v) names) v (mappings ps 0 v) (cindex j) position
@@ -201,7 +245,7 @@ module _ (c q : Bytes) (cells parts : List ℕ) (cs : List Column) (n : ℕ)
   unfolding MapsAs map_of column_map
   map-missing z ps =
       let y = names-none (section_at c q cells parts columns_kind) (section_at c q cells parts name_kind) (sym e ∙ z) in
-      record { kept = refl; is = ap (column_map cs) y }
+      record { kept = refl; within = tt; is = ap (column_map cs) y }
 
   module _ (z : n ≡ 0 → ⊥) where
     given : given_names c q cells parts ≡ some (names_at c q cells parts)

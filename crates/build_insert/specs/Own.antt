@@ -9,13 +9,16 @@ use Rattle.rules.specs.Lists.{concat}
 use Rattle.rules.specs.Schema.{Table}
 use Rattle.rules.specs.Plan.{Node, cindex, vindex, Mapping}
 use Rattle.rules.specs.Plan as P
-use Rattle.rules.specs.Area.{span, mapping_numbers, own_numbers}
+use Rattle.rules.specs.Area.{span, option_number, mapping_numbers, own_numbers}
 use Rattle.claims.specs.Room.Nodes.{map_room}
 use Rattle.plan.specs.Layout.{own_size, mapping_size, nodes_size}
-use Rattle.plan.specs.Appended.{Appended, appended-none}
+use Rattle.plan.specs.Pushed.{Pushed, pushed-none}
+use Rattle.plan.specs.Places.{place_numbers}
+use Rattle.plan.specs.declared.nodes.Nodes.{Nodes}
+use Rattle.text.specs.declared.places.Place.{Place}
 use Rattle.plan.specs.Own.{inserting, mappings-on, mapping-one, insert-mappings, insert-plain, insert-mapped}
 use Rattle.plan.specs.Room.{mappings-size}
-use Rattle.build_insert.specs.Map.{mappings, mappings-last, map_of}
+use Rattle.build_insert.specs.Map.{mappings, mappings-last, given_map}
 use Rattle.std.specs.Prelude as std
 use Rattle.std.specs.Prelude.{Some, None}
 
@@ -33,10 +36,10 @@ unfolding own_count map_room
 own-count none = refl
 own-count (some ms) = omega arith
 
--- there is room for them behind k numbers
-pub record MapFits (ps : List ℕ) (m : std.Option ℕ) (k : ℕ) (nodes : List ℕ) : Type 0 where
-  pub numbers : k + own_count (map_of ps m) ≤ length nodes
-  pub all : length nodes ≡ nodes_size
+-- there is room for them
+pub record MapFits (o : Option (List Mapping)) (s : Nodes) : Type 0 where
+  pub numbers : s.used + own_count o ≤ length s.numbers.now
+  pub all : length s.numbers.now ≡ nodes_size
 
 -- MAPPINGS
 pub mappings-length : (ps : List ℕ) (i n : ℕ) → length (mappings ps i n) ≡ n
@@ -44,105 +47,106 @@ unfolding mappings
 mappings-length ps i zero = refl
 mappings-length ps i (suc n) = ap suc (mappings-length ps (suc i) n)
 
--- those of the first v values are appended
-pub record PutSoFar (ps : List ℕ) (k : ℕ) (nodes₀ : List ℕ) (v j : ℕ) (nodes : List ℕ) : Type 0 where
-  pub numbers : Appended (map_numbers_of (mappings ps 0 v)) k nodes₀ j nodes
+-- those of the first v values are pushed
+pub record PutSoFar (ps : List ℕ) (v : ℕ) (s t : Nodes) : Type 0 where
+  pub numbers : Pushed (map_numbers_of (mappings ps 0 v)) s t
 
-pub put-none : (ps : List ℕ) (k : ℕ) (nodes : List ℕ) → k ≤ length nodes → PutSoFar ps k nodes 0 k nodes
+pub put-none : (ps : List ℕ) (s : Nodes) → s.used ≤ length s.numbers.now → PutSoFar ps 0 s s
 unfolding mappings concat
-put-none ps k nodes h = record { numbers = appended-none k nodes h }
+put-none ps s h = record { numbers = pushed-none s h }
 
-module _ {ps : List ℕ} {k : ℕ} {nodes₀ : List ℕ} {v j : ℕ} {nodes : List ℕ} (s : PutSoFar ps k nodes₀ v j nodes) where
-  pub put-kept : length nodes ≡ length nodes₀
-  put-kept = s.numbers.all
-
-  pub put-room : (n : ℕ) → v < n → k + mapping_size * n ≤ length nodes₀ → j + mapping_size ≤ length nodes
+module _ {ps : List ℕ} {v : ℕ} {s t : Nodes} (p : PutSoFar ps v s t) where
+  pub put-room : (n : ℕ) → v < n → s.used + mapping_size * n ≤ length s.numbers.now
+      → t.used + mapping_size ≤ length t.numbers.now
   put-room n l h = omega (
     arith,
     l,
     h,
-    put-kept,
-    s.numbers.next,
+    p.numbers.kept.all,
+    p.numbers.appended.next,
     mappings-size (mappings ps 0 v),
     mappings-length ps 0 v,
   )
 
-  pub put-more : {j' : ℕ} {nodes' : List ℕ} (x : ℕ) → x ≡ get_or ps v 0
-      → Appended (mapping_numbers (record { column = cindex x; value = vindex v })) j nodes j' nodes'
-      → PutSoFar ps k nodes₀ (v + 1) j' nodes'
+  pub put-more : {u : Nodes} (x : ℕ) → x ≡ get_or ps v 0
+      → Pushed (mapping_numbers (record { column = cindex x; value = vindex v })) t u → PutSoFar ps (v + 1) s u
   put-more x e a =
       let z : 0 + v ≡ v = omega arith in
       let y : mappings ps 0 (suc v) ≡ mappings ps 0 v ++ (record { column = cindex x; value = vindex v } ∷ []) =
       mappings-last ps 0 v ∙ rw (z, e) in
       rw (add-one v) (record {
-        numbers = rw y (mappings-on (mappings ps 0 v) (record { column = cindex x; value = vindex v } ∷ []) s.numbers
+        numbers = rw y (mappings-on (mappings ps 0 v) (record { column = cindex x; value = vindex v } ∷ []) p.numbers
             (mapping-one (record { column = cindex x; value = vindex v }) a));
       })
 
-  pub put_all : (n : ℕ) → v ≤ n → n ≤ v → Appended (map_numbers_of (mappings ps 0 n)) k nodes₀ j nodes
-  put_all n l h = let z : n ≡ v = omega arith in rw z s.numbers
+  pub put_all : (n : ℕ) → v ≤ n → n ≤ v → Pushed (map_numbers_of (mappings ps 0 n)) s t
+  put_all n l h = let z : n ≡ v = omega arith in rw z p.numbers
 
 -- ALL
--- a table whose name is n bytes at a
-abbrev named : ℕ → ℕ → Table
-named a n = record { name = record { bytes = replicate n 0; start = a }; key = 0; columns = [] }
+-- a table whose name is at a place
+abbrev named : Place → Table
+named p = record { name = record { bytes = replicate p.length 0; start = p.address }; key = 0; columns = [] }
 
-named-span : (a n : ℕ) → span (named a n).name ≡ a ∷ n ∷ []
+named-span : (p : Place) → span (named p).name ≡ place_numbers p
 unfolding span
-named-span a n = rw (length-replicate {A = ℕ} n 0)
+named-span p = rw (length-replicate {A = ℕ} p.length 0)
 
--- what is appended for a name
-abbrev pub Inserting : ℕ → ℕ → ℕ → ℕ → List ℕ → ℕ → List ℕ → Type 0
-Inserting a n x k nodes j nodes' = (t : Table) → span t.name ≡ a ∷ n ∷ []
-    → Appended (inserting t x []) k nodes j nodes'
+-- what is pushed for a name
+abbrev pub Inserting : Place → ℕ → Nodes → Nodes → Type 0
+Inserting p x s t = (b : Table) → span b.name ≡ place_numbers p → Pushed (inserting b x []) s t
 
 head-size : (t : Table) (x : ℕ) → length (inserting t x []) ≡ own_size
 unfolding inserting span concat
 head-size t x = refl
 
-module _ {ps : List ℕ} {m : std.Option ℕ} {k : ℕ} {nodes : List ℕ} (f : MapFits ps m k nodes) (a n : ℕ) where
-  pub own-missing-room : m ≡ None → k + own_size ≤ length nodes
-  unfolding map_of own_count
-  own-missing-room e = let z : k + own_count (map_of ps m) ≤ length nodes = f.numbers in rw e at z
+own-least : (o : Option (List Mapping)) → own_size ≤ own_count o
+unfolding own_count
+own-least none = omega arith
+own-least (some ms) = omega arith
 
-  pub own-missing : {j : ℕ} {nodes' : List ℕ} → m ≡ None → Inserting a n 0 k nodes j nodes'
-      → (t : Table) (p : Node ℕ) → span t.name ≡ a ∷ n ∷ []
-      → Appended (own_numbers (P.insert t (map_of ps m) p)) k nodes j nodes'
-  unfolding map_of
-  own-missing e h t p s = rw e (insert-plain t p (h t s))
+module _ (m : std.Option (List ℕ)) {s : Nodes} (f : MapFits (given_map m) s) (p : Place) where
+  pub own-head-room : s.used + own_size ≤ length s.numbers.now
+  own-head-room = omega (arith, own-least (given_map m), f.numbers)
 
-  module _ (c : ℕ) (e : m ≡ Some c) where
-    own-mapped-all : k + (own_size + mapping_size * c) ≤ length nodes
-    unfolding map_of own_count
+  pub own-missing : {t : Nodes} → m ≡ None → Inserting p (option_number none) s t → (b : Table) (d : Node ℕ)
+      → span b.name ≡ place_numbers p → Pushed (own_numbers (P.insert b (given_map m) d)) s t
+  unfolding given_map option_number
+  own-missing e h b d g = rw e (insert-plain b d (h b g))
+
+  module _ (ps : List ℕ) (e : m ≡ Some ps) where
+    own-mapped-all : s.used + (own_size + mapping_size * length ps) ≤ length s.numbers.now
+    unfolding given_map own_count
     own-mapped-all =
-        let z : k + own_count (map_of ps m) ≤ length nodes = f.numbers in
-        let y : k + (own_size + mapping_size * length (mappings ps 0 c)) ≤ length nodes = rw e at z in
-        omega (arith, y, mappings-length ps 0 c)
+        let z : s.used + own_count (given_map m) ≤ length s.numbers.now = f.numbers in
+        let y : s.used + (own_size + mapping_size * length (mappings ps 0 (length ps))) ≤ length s.numbers.now = rw e at z in
+        omega (arith, y, mappings-length ps 0 (length ps))
 
-    pub own-small : c + 1 < 4294967296
+    -- how many columns there are can be said
+    pub own-small : length ps + 1 < 4294967296
     own-small = omega (arith, own-mapped-all, f.all)
 
-    pub own-mapped-room : k + own_size ≤ length nodes
-    own-mapped-room = omega (arith, own-mapped-all)
-
-    module _ {j : ℕ} {nodes₁ : List ℕ} (h : Inserting a n (c + 1) k nodes j nodes₁) where
-      pub own-mappings-room : j + mapping_size * c ≤ length nodes₁
+    module _ {t : Nodes} (h : Inserting p (option_number (some (length ps))) s t) where
+      pub own-mappings-room : t.used + mapping_size * length ps ≤ length t.numbers.now
       own-mappings-room =
-          let x = h (named a n) (named-span a n) in
-          omega (arith, own-mapped-all, x.next, x.all, head-size (named a n) (c + 1))
+          let x = h (named p) (named-span p) in
+          omega (
+            arith,
+            own-mapped-all,
+            x.appended.next,
+            x.kept.all,
+            head-size (named p) (option_number (some (length ps))),
+          )
 
-      pub own-mapped : {i : ℕ} {nodes₂ : List ℕ} → Appended (map_numbers_of (mappings ps 0 c)) j nodes₁ i nodes₂
-          → (t : Table) (p : Node ℕ) → span t.name ≡ a ∷ n ∷ []
-          → Appended (own_numbers (P.insert t (map_of ps m) p)) k nodes i nodes₂
-      unfolding map_of
-      own-mapped g t p s = rw e (insert-mapped t p (c + 1) (mappings ps 0 c)
-          (ap (λ x. x + 1) (sym (mappings-length ps 0 c)))
-          (insert-mappings t (c + 1) [] (mappings ps 0 c) (h t s) g))
+      pub own-mapped : {u : Nodes} → Pushed (map_numbers_of (mappings ps 0 (length ps))) t u → (b : Table) (d : Node ℕ)
+          → span b.name ≡ place_numbers p → Pushed (own_numbers (P.insert b (given_map m) d)) s u
+      unfolding given_map option_number
+      own-mapped g b d z =
+          rw e (insert-mapped b d (length ps + 1) (mappings ps 0 (length ps))
+          (ap (λ x. x + 1) (sym (mappings-length ps 0 (length ps))))
+          (insert-mappings b (length ps + 1) [] (mappings ps 0 (length ps)) (h b z) g))
 
--- what is in use then
-pub own-in-use : (o : Option (List Mapping)) {a n k j : ℕ} {nodes nodes' : List ℕ}
-    → ((t : Table) (p : Node ℕ) → span t.name ≡ a ∷ n ∷ [] → Appended (own_numbers (P.insert t o p)) k nodes j nodes')
-    → (k ≤ j) × (j ≤ length nodes) × (length nodes' ≡ length nodes)
-own-in-use o {a = a} {n = n} h =
-    let x = h (named a n) (P.values []) (named-span a n) in
-    (omega (arith, x.next), x.fits, x.all)
+-- those of some table
+pub some-own : (o : Option (List Mapping)) (p : Place) {s t : Nodes}
+    → ((b : Table) (d : Node ℕ) → span b.name ≡ place_numbers p → Pushed (own_numbers (P.insert b o d)) s t)
+    → Pushed (own_numbers (P.insert (named p) o (P.values []))) s t
+some-own o p h = h (named p) (P.values []) (named-span p)

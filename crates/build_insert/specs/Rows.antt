@@ -1,7 +1,7 @@
 -- The rows of INSERT, one behind the other, and their values node.
 use Prim.Native.Nat.{ℕ, suc, ◌+◌, ◌-◌, ◌*◌, ◌≤◌, ◌<◌}
 use Rattle.std.proofs.Common.{arith, add-one, sym, ◌∙◌, drop_of_length-le}
-use Rattle.std.specs.Prelude.{◌≡◌, refl, drop, set, Ok, Err}
+use Rattle.std.specs.Prelude.{◌≡◌, refl, drop, Ok, Err}
 use Rattle.std.proofs.Math.Path.{ap}
 use mathlib.Core.List.{List, [], ◌∷◌, append-nil}
 use Rattle.std.proofs.Math.ListN.{length}
@@ -36,14 +36,14 @@ use Rattle.statement.specs.Layout.{map_entries, to_row}
 use Rattle.statement.specs.EntryAccess.{map-length, row_at}
 use Rattle.plan.specs.Layout.{record_head, length_place, nodes_size}
 use Rattle.plan.specs.Cells.{Room}
-use Rattle.plan.specs.Appended.{Appended}
+use Rattle.plan.specs.Pushed.{Kept, Pushed, Stored, Countable, kept-on}
+use Rattle.plan.specs.declared.nodes.Nodes.{Nodes}
 use Rattle.plan.specs.Records.{opened, ended, opened-room, records-first}
 use Rattle.plan.specs.Parts.{rows_on, values-rows}
 use Rattle.plan.specs.Room.{values-in-use, rows-size}
 use Rattle.build_insert.specs.Lists.{one_row, values_node, Stands, Listed, Lists, lists-done, lists-refused}
 use Rattle.build_insert.specs.Lists.{was-done, was-refused, SoFar, so-far-none, so_far_more, so-far-stop, so-far-all}
 use Rattle.build_insert.specs.Values.{values_at, all-length}
-use Rattle.plan.specs.declared.steps.Part.{Part}
 use Rattle.numbers.specs.declared.refusals.Refusal.{Refusal}
 
 -- the statement's rows
@@ -51,39 +51,37 @@ abbrev pub rows_at : Bytes → Bytes → List ℕ → List ℕ → List (List Ex
 rows_at c q cells parts = map_entries to_row (section_at c q cells parts row_kind)
 
 -- ALL ROWS: those from the i-th on are to come
-pub record RowsSoFar (c q : Bytes) (cells parts area₀ : List ℕ) (k : ℕ) (nodes₀ : List ℕ) (i m j : ℕ)
-    (area nodes : List ℕ) : Type 0 where
+pub record RowsSoFar (c q : Bytes) (cells parts area₀ : List ℕ) (s : Nodes) (i m : ℕ) (area : List ℕ) (t : Nodes) : Type 0 where
   pub within : i ≤ length (section_at c q cells parts row_kind)
   pub room : Room m (3 * rows_size (drop i (rows_at c q cells parts))) area
-  pub space : j + rows_room (drop i (rows_at c q cells parts)) ≤ length nodes
+  pub space : t.used + rows_room (drop i (rows_at c q cells parts)) ≤ length t.numbers.now
   pub so_far : SoFar row_numbers (emit_rows empty 0 (rows_at c q cells parts))
-      (λ x. emit_rows empty x (drop i (rows_at c q cells parts))) 0 area₀ k nodes₀ m j area nodes
+      (λ x. emit_rows empty x (drop i (rows_at c q cells parts))) 0 area₀ s m area t
 
-pub rows_none : (c q : Bytes) (cells parts area : List ℕ) (k : ℕ) (nodes : List ℕ)
-    → Room 0 (3 * rows_size (rows_at c q cells parts)) area → k + rows_room (rows_at c q cells parts) ≤ length nodes
-    → RowsSoFar c q cells parts area k nodes 0 0 k area nodes
+pub rows_none : (c q : Bytes) (cells parts area : List ℕ) (s : Nodes)
+    → Room 0 (3 * rows_size (rows_at c q cells parts)) area
+    → s.used + rows_room (rows_at c q cells parts) ≤ length s.numbers.now → RowsSoFar c q cells parts area s 0 0 area s
 unfolding row_numbers
-rows_none c q cells parts area k nodes h l = record {
+rows_none c q cells parts area s h l = record {
   within = omega arith;
   room = h;
   space = l;
-  so_far = so-far-none row_numbers (λ x. emit_rows empty x (rows_at c q cells parts)) 0 area k nodes refl (omega (arith, l));
+  so_far = so-far-none row_numbers (λ x. emit_rows empty x (rows_at c q cells parts)) 0 area s refl (omega (arith, l));
 }
 
-module _ {c q : Bytes} {cells parts area₀ : List ℕ} {k : ℕ} {nodes₀ : List ℕ} {i m j : ℕ} {area nodes : List ℕ}
-    (s : RowsSoFar c q cells parts area₀ k nodes₀ i m j area nodes) where
+module _ {c q : Bytes} {cells parts area₀ : List ℕ} {s₀ : Nodes} {i m : ℕ} {area : List ℕ} {t : Nodes}
+    (s : RowsSoFar c q cells parts area₀ s₀ i m area t) where
   abbrev following : ℕ → Answer (Entries (List ℕ))
   following x = emit_rows empty x (drop i (rows_at c q cells parts))
 
   pub rows-kept : length area ≡ length area₀
   rows-kept = s.so_far.kept
 
-  pub rows_all : length nodes ≡ length nodes₀
-  rows_all = s.so_far.numbers.all
+  pub rows_all : Kept s₀ t
+  rows_all = s.so_far.numbers.kept
 
   pub rows-done : (n : ℕ) → n ≡ length (section_at c q cells parts row_kind) → n ≤ i
-      → Lists row_numbers (emit_rows empty 0 (rows_at c q cells parts)) 0 area₀ area k nodes₀ nodes
-      (Ok (record { cell = m; used = j }))
+      → Lists row_numbers (emit_rows empty 0 (rows_at c q cells parts)) 0 area₀ area s₀ t (Ok m)
   rows-done n e l =
       let z : drop i (rows_at c q cells parts) ≡ [] = drop_of_length-le (rows_at c q cells parts) {i = i}
       (omega (arith, map-length to_row (section_at c q cells parts row_kind), e, l)) in
@@ -113,44 +111,42 @@ module _ {c q : Bytes} {cells parts area₀ : List ℕ} {k : ℕ} {nodes₀ : Li
       held = omega (arith, row-size, s.room.held);
     }
 
-    pub rows-space : j + 1 + e.expressions ≤ length nodes
+    pub rows-space : t.used + 1 + e.expressions ≤ length t.numbers.now
     rows-space = omega (arith, row-numbers, s.space)
 
-    module _ {area' nodes' : List ℕ} {x : Listed}
-        (h : Lists one_row (emit_all empty m row) m area area' j nodes nodes' x) where
+    module _ {area' : List ℕ} {u : Nodes} {x : Listed} (h : Lists one_row (emit_all empty m row) m area area' t u x) where
       pub rows-stop : (b : Refusal) → x ≡ Err b
-          → Lists row_numbers (emit_rows empty 0 (rows_at c q cells parts)) 0 area₀ area' k nodes₀ nodes' (Err b)
-      rows-stop b f = (lists-refused row_numbers (h.kept ∙ rows-kept) (h.all ∙ rows_all)
+          → Lists row_numbers (emit_rows empty 0 (rows_at c q cells parts)) 0 area₀ area' s₀ u (Err b)
+      rows-stop b f = (lists-refused row_numbers (h.kept ∙ rows-kept) (kept-on rows_all h.all)
           (so-far-stop row_numbers following s.so_far (was-refused one_row h b f) (λ w o.
           ap (λ rs. after (s.so_far.cells, s.so_far.entries, m) (emit_rows empty m rs)) row_here_lem
           ∙ ap (after (s.so_far.cells, s.so_far.entries, m))
           (rows-refused empty m row (drop (suc i) (rows_at c q cells parts)) w o)
           ∙ after-refused (s.so_far.cells, s.so_far.entries, m) w)))
 
-      pub rows_more : (b : Part) → x ≡ Ok b
-          → RowsSoFar c q cells parts area₀ k nodes₀ (i + 1) b.cell b.used area' nodes'
+      pub rows_more : (m' : ℕ) → x ≡ Ok m' → RowsSoFar c q cells parts area₀ s₀ (i + 1) m' area' u
       unfolding joined
-      rows_more b f =
-          let d = was-done one_row h b f in
-          let o = row_next empty m row d.cells d.entry b.cell d.is in
-          let t = exprs-three empty row in
+      rows_more m' f =
+          let d = was-done one_row h m' f in
+          let o = row_next empty m row d.cells d.entry m' d.is in
+          let w = exprs-three empty row in
           let y : length d.entry ≡ e.expressions =
-          all-length empty m row d.cells d.entry b.cell d.is
+          all-length empty m row d.cells d.entry m' d.is
           ∙ list_length (tree_at c q cells) cells e.expressions e.row in
-          let u : length (one_row d.entry) ≡ suc (length d.entry) = one-row d.entry in
+          let z : length (one_row d.entry) ≡ suc (length d.entry) = one-row d.entry in
           rw (add-one i) (record {
             within = omega (arith, l);
             room = record {
-              counted = omega (arith, row-size, o, t, s.room.counted);
-              held = omega (arith, row-size, o, t, s.room.held, h.kept);
+              counted = omega (arith, row-size, o, w, s.room.counted);
+              held = omega (arith, row-size, o, w, s.room.held, h.kept);
             };
-            space = omega (arith, row-numbers, s.space, d.numbers.next, u, y, h.all);
+            space = omega (arith, row-numbers, s.space, d.numbers.appended.next, z, y, h.all.all);
             so_far = so_far_more row_numbers following s.so_far
                 (λ x. emit_rows empty x (drop (suc i) (rows_at c q cells parts))) h.kept d
                 (ap (λ rs. after (s.so_far.cells, s.so_far.entries, m) (emit_rows empty m rs)) row_here_lem
                 ∙ ap (after (s.so_far.cells, s.so_far.entries, m))
-                (rows_step empty m row (drop (suc i) (rows_at c q cells parts)) d.cells d.entry b.cell d.is)
-                ∙ after-after (s.so_far.cells, s.so_far.entries, m) (d.cells, d.entry ∷ [], b.cell) _)
+                (rows_step empty m row (drop (suc i) (rows_at c q cells parts)) d.cells d.entry m' d.is)
+                ∙ after-after (s.so_far.cells, s.so_far.entries, m) (d.cells, d.entry ∷ [], m') _)
                 (rows_on s.so_far.entries (d.entry ∷ []) s.so_far.numbers d.numbers);
           })
         where
@@ -206,34 +202,32 @@ rows_take rs xs ns m h = go (each (each (build empty)) rs) refl h
 
 -- THE NODE
 -- there is room for it
-pub record RowsFit (rs : List (List Expr)) (nodes : List ℕ) : Type 0 where
-  pub numbers : record_head + rows_room rs ≤ length nodes
-  pub all : length nodes ≡ nodes_size
+pub record RowsFit (rs : List (List Expr)) (s : Nodes) : Type 0 where
+  pub numbers : s.used + record_head + rows_room rs ≤ length s.numbers.now
+  pub all : length s.numbers.now ≡ nodes_size
 
-module _ {rs : List (List Expr)} {nodes nodes₁ : List ℕ} {k : ℕ} (f : RowsFit rs nodes)
-    (b : Appended (opened (values [])) 0 nodes k nodes₁) where
-  pub node-room : k + rows_room rs ≤ length nodes₁
-  node-room = omega (arith, f.numbers, values-in-use b, b.all)
+module _ {rs : List (List Expr)} {s t : Nodes} (f : RowsFit rs s) (b : Pushed (opened (values [])) s t) where
+  pub node-room : t.used + rows_room rs ≤ length t.numbers.now
+  node-room = omega (arith, f.numbers, values-in-use b, b.kept.all)
 
-  module _ {a : Answer (Entries (List ℕ))} {area area' nodes₂ : List ℕ} {x : Listed}
-      (h : Lists row_numbers a 0 area area' k nodes₁ nodes₂ x) where
-    pub node-refused : (v : Refusal) → x ≡ Err v → Lists values_node a 0 area area' 0 nodes nodes₂ (Err v)
-    node-refused v e = lists-refused values_node h.kept (h.all ∙ b.all) (was-refused row_numbers h v e)
+  module _ {a : Answer (Entries (List ℕ))} {area area' : List ℕ} {u : Nodes} {x : Listed}
+      (h : Lists row_numbers a 0 area area' t u x) where
+    pub node-refused : (v : Refusal) → x ≡ Err v → Lists values_node a 0 area area' s u (Err v)
+    node-refused v e = lists-refused values_node h.kept (kept-on b.kept h.all) (was-refused row_numbers h v e)
 
-    module _ (p : Part) (e : x ≡ Ok p) where
-      open-rows : (d : Stands row_numbers a 0 area area' k nodes₁ nodes₂ p.cell p.used)
-          → Appended (opened (values d.entry)) 0 nodes p.used nodes₂
+    module _ (m : ℕ) (e : x ≡ Ok m) where
+      open-rows : (d : Stands row_numbers a 0 area area' t u m) → Pushed (opened (values d.entry)) s u
       open-rows d = values-rows [] d.entry b d.numbers
 
-      pub node_end : (record_head ≤ p.used) × (p.used ≤ length nodes₂) × (p.used ≤ nodes_size)
+      pub node_end : Countable (s.used + length_place) u
       node_end =
-          let o = opened-room (values (was-done row_numbers h p e).entry) (open-rows (was-done row_numbers h p e)) in
-          (omega (arith, o.0), o.1, omega (arith, o.1, h.all, b.all, f.all))
+          let p = open-rows (was-done row_numbers h m e) in
+          opened-room (values (was-done row_numbers h m e).entry) p (omega (arith, p.appended.fits, f.all))
 
-      pub node_lists : {nodes₃ : List ℕ} → nodes₃ ≡ set nodes₂ length_place (p.used - record_head)
-          → Lists values_node a 0 area area' 0 nodes nodes₃ (Ok p)
+      pub node_lists : {v : Nodes} → Stored (s.used + length_place) (u.used - (s.used + record_head)) u v
+          → Lists values_node a 0 area area' s v (Ok m)
       node_lists g =
-          let d = was-done row_numbers h p e in
+          let d = was-done row_numbers h m e in
           lists-done values_node h.kept (record {
             cells = d.cells;
             entry = d.entry;

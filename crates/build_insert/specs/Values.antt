@@ -28,9 +28,9 @@ use Rattle.scope.specs.Scopes.{matches_of, up_to, scope_from}
 use Rattle.sections.specs.Expressions.{list-none, list-more, list_length}
 use Rattle.plan.specs.Cells.{Room}
 use Rattle.plan.specs.Emits.{Written, Emits, accepted}
-use Rattle.plan.specs.Appended.{Appended, appended-on, appended-as}
+use Rattle.plan.specs.Pushed.{Kept, Pushed, kept-all, kept-on, pushed-on, pushed-as}
+use Rattle.plan.specs.declared.nodes.Nodes.{Nodes}
 use Rattle.plan.specs.Parts.{row-whole}
-use Rattle.plan.specs.declared.steps.Part.{Part}
 use Rattle.plan.specs.Steps.{refused-on, emits-refused}
 use Rattle.numbers.specs.declared.refusals.Refusal.{Refusal}
 use Rattle.build_expression.specs.Rows.{emit-within}
@@ -49,9 +49,9 @@ module _ {c q : Bytes} {t : List ℕ} {r n : ℕ} {area area' : List ℕ} {w : W
   unfolding scope_from matches_of columns_of tables_of up_to empty
   emits = b.is 0
 
-  pub value-refused : {k : ℕ} {nodes : List ℕ} (v : Refusal) → w ≡ Err v
-      → Lists one_root (emit_one empty n (tree_at c q t r)) n area area' k nodes nodes (Err v)
-  value-refused v e = lists-refused one_root emits.kept refl
+  pub value-refused : {s : Nodes} (v : Refusal) → w ≡ Err v
+      → Lists one_root (emit_one empty n (tree_at c q t r)) n area area' s s (Err v)
+  value-refused {s} v e = lists-refused one_root emits.kept (kept-all s)
       (refused-on (emits-refused v emits e) (one-refused empty n (tree_at c q t r)))
 
   pub value-some : (m : ℕ) → w ≡ Ok m → n < m
@@ -59,10 +59,8 @@ module _ {c q : Bytes} {t : List ℕ} {r n : ℕ} {area area' : List ℕ} {w : W
       let o = accepted m emits e in
       (emit-within empty n (tree_at c q t r) o.cells m o.is).some'
 
-  pub value-done : {k j : ℕ} {nodes nodes' : List ℕ} (m : ℕ) → w ≡ Ok m
-      → Appended ((m - 1) ∷ []) k nodes j nodes'
-      → Lists one_root (emit_one empty n (tree_at c q t r)) n area area' k nodes nodes'
-      (Ok (record { cell = m; used = j }))
+  pub value-done : {s u : Nodes} (m : ℕ) → w ≡ Ok m → Pushed ((m - 1) ∷ []) s u
+      → Lists one_root (emit_one empty n (tree_at c q t r)) n area area' s u (Ok m)
   value-done m e a =
       let o = accepted m emits e in
       lists-done one_root emits.kept (record {
@@ -86,36 +84,35 @@ one-within s n e xs r m h = go (build s e) refl h
     go (refused w) f g = ok-not-refused _ w (sym g)
 
 -- THE VALUES OF A ROW: `left` of them are to come, the first at row p
-pub record ValuesSoFar (c q : Bytes) (cells : List ℕ) (v r n : ℕ) (area₀ : List ℕ) (k : ℕ) (nodes₀ : List ℕ)
-    (left p m j : ℕ) (area nodes : List ℕ) : Type 0 where
+pub record ValuesSoFar (c q : Bytes) (cells : List ℕ) (v r n : ℕ) (area₀ : List ℕ) (s : Nodes) (left p m : ℕ)
+    (area : List ℕ) (t : Nodes) : Type 0 where
   pub room : Room m (3 * total size (values_at c q cells left p)) area
-  pub space : j + left ≤ length nodes
+  pub space : t.used + left ≤ length t.numbers.now
   pub so_far : SoFar all_roots (emit_all empty n (values_at c q cells v r))
-      (λ i. emit_all empty i (values_at c q cells left p)) n area₀ k nodes₀ m j area nodes
+      (λ i. emit_all empty i (values_at c q cells left p)) n area₀ s m area t
 
-pub values-none : (c q : Bytes) (cells : List ℕ) (v r n : ℕ) (area : List ℕ) (k : ℕ) (nodes : List ℕ)
-    → Room n (3 * total size (values_at c q cells v r)) area → k + v ≤ length nodes
-    → ValuesSoFar c q cells v r n area k nodes v r n k area nodes
-values-none c q cells v r n area k nodes h l = record {
+pub values-none : (c q : Bytes) (cells : List ℕ) (v r n : ℕ) (area : List ℕ) (s : Nodes)
+    → Room n (3 * total size (values_at c q cells v r)) area → s.used + v ≤ length s.numbers.now
+    → ValuesSoFar c q cells v r n area s v r n area s
+values-none c q cells v r n area s h l = record {
   room = h;
   space = l;
-  so_far = so-far-none all_roots (λ i. emit_all empty i (values_at c q cells v r)) n area k nodes refl (omega (arith, l));
+  so_far = so-far-none all_roots (λ i. emit_all empty i (values_at c q cells v r)) n area s refl (omega (arith, l));
 }
 
-module _ {c q : Bytes} {cells : List ℕ} {v r n : ℕ} {area₀ : List ℕ} {k : ℕ} {nodes₀ : List ℕ} {left p m j : ℕ}
-    {area nodes : List ℕ} (s : ValuesSoFar c q cells v r n area₀ k nodes₀ left p m j area nodes) where
+module _ {c q : Bytes} {cells : List ℕ} {v r n : ℕ} {area₀ : List ℕ} {s₀ : Nodes} {left p m : ℕ} {area : List ℕ}
+    {t : Nodes} (s : ValuesSoFar c q cells v r n area₀ s₀ left p m area t) where
   abbrev rest : ℕ → Answer (Entries ℕ)
   rest i = emit_all empty i (values_at c q cells left p)
 
   pub values-kept : length area ≡ length area₀
   values-kept = s.so_far.kept
 
-  pub values-all : length nodes ≡ length nodes₀
-  values-all = s.so_far.numbers.all
+  pub values-all : Kept s₀ t
+  values-all = s.so_far.numbers.kept
 
   pub values-done : left ≤ 0
-      → Lists all_roots (emit_all empty n (values_at c q cells v r)) n area₀ area k nodes₀ nodes
-      (Ok (record { cell = m; used = j }))
+      → Lists all_roots (emit_all empty n (values_at c q cells v r)) n area₀ area s₀ t (Ok m)
   unfolding emit_all
   values-done l =
       let z : values_at c q cells left p ≡ [] = list-none (tree_at c q cells) cells left p l in
@@ -136,37 +133,37 @@ module _ {c q : Bytes} {cells : List ℕ} {v r n : ℕ} {area₀ : List ℕ} {k 
       held = omega (arith, size-here, s.room.held);
     }
 
-    pub value-space : j + 1 ≤ length nodes
+    pub value-space : t.used + 1 ≤ length t.numbers.now
     value-space = omega (arith, s.space)
 
-    module _ {area' nodes' : List ℕ} {x : Listed}
-        (h : Lists one_root (emit_one empty m (tree_at c q cells p)) m area area' j nodes nodes' x) where
+    module _ {area' : List ℕ} {u : Nodes} {x : Listed}
+        (h : Lists one_root (emit_one empty m (tree_at c q cells p)) m area area' t u x) where
       pub values-stop : (b : Refusal) → x ≡ Err b
-          → Lists all_roots (emit_all empty n (values_at c q cells v r)) n area₀ area' k nodes₀ nodes' (Err b)
+          → Lists all_roots (emit_all empty n (values_at c q cells v r)) n area₀ area' s₀ u (Err b)
       unfolding emit_all emit_one
-      values-stop b e = (lists-refused all_roots (h.kept ∙ values-kept) (h.all ∙ values-all)
+      values-stop b e = (lists-refused all_roots (h.kept ∙ values-kept) (kept-on values-all h.all)
           (so-far-stop all_roots rest s.so_far (was-refused one_root h b e) (λ w f.
           ap (λ es. after (s.so_far.cells, s.so_far.entries, m) (emit_all empty m es)) here
           ∙ each-stop (λ b. b) (λ b r. r) (build empty) (s.so_far.cells, s.so_far.entries, m) (tree_at c q cells p) _ w f)))
 
-      pub values-more : (b : Part) (p' : ℕ) → x ≡ Ok b → p' ≡ p + table.rows_at cells p
-          → ValuesSoFar c q cells v r n area₀ k nodes₀ (left - 1) p' b.cell b.used area' nodes'
+      pub values-more : (m' p' : ℕ) → x ≡ Ok m' → p' ≡ p + table.rows_at cells p
+          → ValuesSoFar c q cells v r n area₀ s₀ (left - 1) p' m' area' u
       unfolding emit_all emit_one
-      values-more b p' e f =
-          let d = was-done one_root h b e in
-          let o = one-within empty m (tree_at c q cells p) d.cells d.entry b.cell d.is in
+      values-more m' p' e f =
+          let d = was-done one_root h m' e in
+          let o = one-within empty m (tree_at c q cells p) d.cells d.entry m' d.is in
           rw f (record {
             room = record {
               counted = omega (arith, size-here, o, s.room.counted);
               held = omega (arith, size-here, o, s.room.held, h.kept);
             };
-            space = omega (arith, s.space, d.numbers.next, h.all, l);
+            space = omega (arith, s.space, d.numbers.appended.next, h.all.all, l);
             so_far = so_far_more all_roots rest s.so_far
                 (λ i. emit_all empty i (values_at c q cells (left - 1) (p + table.rows_at cells p))) h.kept d
                 (ap (λ es. after (s.so_far.cells, s.so_far.entries, m) (emit_all empty m es)) here
                 ∙ each_step (λ b. b) (λ b r. r) (build empty) (s.so_far.cells, s.so_far.entries, m)
-                (tree_at c q cells p) _ d.cells d.entry b.cell d.is)
-                (appended-on s.so_far.numbers d.numbers);
+                (tree_at c q cells p) _ d.cells d.entry m' d.is)
+                (pushed-on s.so_far.numbers d.numbers);
           })
 
 -- A ROW: as many roots as values
@@ -181,27 +178,26 @@ all-length s n es xs ns m h =
     sym (ap length a.numbers) ∙ roots-length a.built n
     ∙ ensured (each (build s) es) _ (each-length (build s) es) a.built a.answer
 
-pub row-lists : (c q : Bytes) (cells : List ℕ) (v r : ℕ) {n : ℕ} {area area' : List ℕ} {k j : ℕ}
-    {nodes nodes₁ nodes' : List ℕ} {x : Listed} → Appended (v ∷ []) k nodes j nodes₁
-    → Lists all_roots (emit_all empty n (values_at c q cells v r)) n area area' j nodes₁ nodes' x
-    → Lists one_row (emit_all empty n (values_at c q cells v r)) n area area' k nodes nodes' x
-row-lists c q cells v r {n} {area} {area'} {k} {j} {nodes} {nodes₁} {nodes'} {x} a h = go x h
+pub row-lists : (c q : Bytes) (cells : List ℕ) (v r : ℕ) {n : ℕ} {area area' : List ℕ} {s t u : Nodes} {x : Listed}
+    → Pushed (v ∷ []) s t → Lists all_roots (emit_all empty n (values_at c q cells v r)) n area area' t u x
+    → Lists one_row (emit_all empty n (values_at c q cells v r)) n area area' s u x
+row-lists c q cells v r {n} {area} {area'} {s} {t} {u} {x} a h = go x h
   where
-    go : (x : Listed) → Lists all_roots (emit_all empty n (values_at c q cells v r)) n area area' j nodes₁ nodes' x
-        → Lists one_row (emit_all empty n (values_at c q cells v r)) n area area' k nodes nodes' x
-    go (Ok b) h =
-        let d = was-done all_roots h b refl in
-        let e : v ≡ length d.entry = sym (all-length empty n (values_at c q cells v r) d.cells d.entry b.cell d.is
+    go : (x : Listed) → Lists all_roots (emit_all empty n (values_at c q cells v r)) n area area' t u x
+        → Lists one_row (emit_all empty n (values_at c q cells v r)) n area area' s u x
+    go (Ok m) h =
+        let d = was-done all_roots h m refl in
+        let e : v ≡ length d.entry = sym (all-length empty n (values_at c q cells v r) d.cells d.entry m d.is
         ∙ list_length (tree_at c q cells) cells v r) in
         lists-done one_row h.kept (record {
           cells = d.cells;
           entry = d.entry;
           is = d.is;
           stand = d.stand;
-          numbers = row-whole d.entry (appended-as (ap (λ y. y ∷ []) e) a) d.numbers;
+          numbers = row-whole d.entry (pushed-as (ap (λ y. y ∷ []) e) a) d.numbers;
         })
-    go (Err b) h = lists-refused one_row h.kept (h.all ∙ a.all) (was-refused all_roots h b refl)
+    go (Err b) h = lists-refused one_row h.kept (kept-on a.kept h.all) (was-refused all_roots h b refl)
 
-pub row_room : {v k j : ℕ} {nodes nodes₁ : List ℕ} → Appended (v ∷ []) k nodes j nodes₁ → k + 1 + v ≤ length nodes
-    → j + v ≤ length nodes₁
-row_room a h = omega (arith, a.next, a.all, h)
+pub row_room : {v : ℕ} {s t : Nodes} → Pushed (v ∷ []) s t → s.used + 1 + v ≤ length s.numbers.now
+    → t.used + v ≤ length t.numbers.now
+row_room a h = omega (arith, a.appended.next, a.kept.all, h)

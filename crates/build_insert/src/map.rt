@@ -14,15 +14,14 @@ use numbers::number;
 use numbers::refusals::{Reason, Refusal};
 use schema::column_at;
 use sections::entry;
-use statement::access::name_start;
-use text::places::Place;
+use statement::access::name_or;
 
 // A column's position in its table (the Rust's cindex).
-#[derive(Clone, Copy)]
+#[derive(Clone, Copy, Debug, PartialEq, Eq)]
 pub struct TablePosition(pub u32);
 
 // A value's position in its row (the Rust's vindex).
-#[derive(Clone, Copy)]
+#[derive(Clone, Copy, Debug, PartialEq, Eq)]
 pub struct ValuePosition(pub u32);
 
 // The column that a value is for.
@@ -43,15 +42,10 @@ fn map_value(columns: &mut [u32], value: ValuePosition, column: TablePosition)
 
 // Whether a column is among those of the first n values.
 fn is_mapped(columns: &[u32], n: u32, column: TablePosition) -> bool
+    requires { n ≤ length columns.now }
     ensures { result ≡ mapped (cindex column.0) (map.mappings columns.now 0 n) }
 {
-    for i in 0..n {
-        let other = column_of(columns, ValuePosition(i));
-        if other.0 == column.0 {
-            return true;
-        }
-    }
-    false
+    columns[..n as usize].contains(&column.0)
 }
 
 // The column of each name in the i-th table, in order. Refused at the name of no column, and at one that was given before.
@@ -72,23 +66,14 @@ fn map_names(
     let count = entry::count(parts, Section::Name);
     for v in 0..count {
         let e = entry::entry_at(parts, Section::Name, v);
-        let name = Place {
-            address: name_start(e),
-            length: e.length,
-        };
+        let name = name_or(e.name);
         let found = column_at(&exprs.texts, tables, i, name);
         let Some(j) = found else {
-            return Err(Refusal {
-                reason: Reason::UnknownInsertColumn,
-                line: e.line,
-            });
+            return Err(Reason::UnknownInsertColumn.at(e.line));
         };
         let column = TablePosition(j);
         if is_mapped(columns, v, column) {
-            return Err(Refusal {
-                reason: Reason::RepeatedInsertColumn,
-                line: e.line,
-            });
+            return Err(Reason::RepeatedInsertColumn.at(e.line));
         }
         map_value(columns, ValuePosition(v), column);
     }

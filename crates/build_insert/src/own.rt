@@ -1,46 +1,44 @@
 // The own numbers of INSERT: its table's name and its column map.
-ghost use Rattle.std.specs.Prelude.{◌≡◌, ℕ, ◌+◌, ◌*◌, ◌≤◌, length};
+ghost use Rattle.std.specs.Prelude.{◌≡◌, ℕ, ◌+◌, ◌*◌, ◌≤◌, ◌<◌, ◌^◌, length, option_copied};
 ghost use Rattle.rules.specs.Schema.{Table};
 ghost use Rattle.rules.specs.Plan.{Node};
 ghost use Rattle.rules.specs.Plan as plan;
 ghost use Rattle.rules.specs.Area.{span, own_numbers};
 ghost use Rattle.plan.specs.Layout.{mapping_size};
-ghost use Rattle.plan.specs.Appended.{Appended};
+ghost use Rattle.plan.specs.Pushed.{Pushed};
 ghost use Rattle.plan.specs.Places.{place_numbers};
-ghost use Rattle.build_insert.specs.Map.{mappings, map_of};
+ghost use Rattle.build_insert.specs.Map.{mappings, given_map};
 ghost use Rattle.build_insert.specs.Own.{map_numbers_of, MapFits};
 
 use crate::map::{ValuePosition, column_of};
+use plan::nodes::Nodes;
 use plan::own::{insert, mapping};
 use text::places::Place;
 
-// The column and the position of each of the first n values, behind k numbers.
-fn put_mappings(columns: &[u32], n: u32, nodes: &mut [u32], k: usize) -> usize
-    requires { k + mapping_size * n ≤ length nodes.old }
-    ensures { Appended (map_numbers_of (mappings columns.now 0 n))
-        k nodes.old result nodes.new }
+// The column and the position of each value.
+fn put_mappings(columns: &[u32], nodes: &mut Nodes)
+    requires few { length columns.now < 2 ^ 32 }
+    requires room { nodes.old.used + mapping_size * length columns.now ≤ length nodes.old.numbers.now }
+    ensures { Pushed (map_numbers_of (mappings columns.now 0 (length columns.now))) nodes.old nodes.new }
 {
-    let mut j = k;
-    for v in 0..n {
-        let value = ValuePosition(v);
+    for v in 0..columns.len() {
+        let value = ValuePosition(v as u32);
         let column = column_of(columns, value);
-        j = mapping(nodes, j, column.0, value.0);
+        mapping(nodes, column.0, value.0);
     }
-    j
 }
 
-// The own numbers behind k others, of a table by its name.
-pub fn put_own(columns: &[u32], map: Option<u32>, nodes: &mut [u32], k: usize, name: Place) -> usize
-    requires { MapFits columns.now map k nodes.old }
+// The own numbers of a table by its name.
+pub fn put_own(columns: Option<&[u32]>, nodes: &mut Nodes, name: Place)
+    requires { MapFits (given_map (option_copied columns)) nodes.old }
     ensures { (t : Table) (p : Node ℕ) → span t.name ≡ place_numbers name
-        → Appended (own_numbers (plan.insert t (map_of columns.now map) p))
-        k nodes.old result nodes.new }
+        → Pushed (own_numbers (plan.insert t (given_map (option_copied columns.entry)) p)) nodes.old nodes.new }
 {
-    match map {
-        None => insert(nodes, k, name, 0),
-        Some(count) => {
-            let j = insert(nodes, k, name, count + 1);
-            put_mappings(columns, count, nodes, j)
+    match columns {
+        None => insert(nodes, name, None),
+        Some(columns) => {
+            insert(nodes, name, Some(columns.len() as u32));
+            put_mappings(columns, nodes);
         }
     }
 }

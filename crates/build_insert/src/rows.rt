@@ -19,9 +19,8 @@ use ast::rows::next;
 use build_expression::build_expression;
 use entries::Section;
 use numbers::refusals::Refusal;
+use plan::nodes::Nodes;
 use plan::parts::{begin_values, end};
-use plan::pushes::push;
-use plan::steps::Part;
 use scope::view::View;
 use sections::entry::{Entry, count, entry_at};
 
@@ -30,23 +29,23 @@ fn build_value(
     exprs: &Expressions,
     r: usize,
     area: &mut [u32],
-    nodes: &mut [u32],
-    at: Part,
-) -> Result<Part, Refusal>
-    requires room { Room at.cell (3 * size (tree_in exprs.now r)) area.old }
-    requires k_in_bounds { at.used + 1 ≤ length nodes.old }
+    nodes: &mut Nodes,
+    cell: u32,
+) -> Result<u32, Refusal>
+    requires room { Room cell (3 * size (tree_in exprs.now r)) area.old }
+    requires nodes_room { nodes.old.used + 1 ≤ length nodes.old.numbers.now }
     ensures { Lists one_root
-        (emit_one empty at.cell (tree_in exprs.now r))
-        at.cell area.old area.new at.used nodes.old nodes.new result }
+        (emit_one empty cell (tree_in exprs.now r))
+        cell area.old area.new nodes.old nodes.new result }
 {
     let empty = View {
         labels: &[0u32; 0],
         matches: &[0u16; 0],
         tables: &[0u32; 0],
     };
-    let cell = build_expression(exprs, r, &empty, area, at.cell)?;
-    let used = push(nodes, at.used, cell - 1);
-    Ok(Part { cell, used })
+    let next = build_expression(exprs, r, &empty, area, cell)?;
+    nodes.push(next - 1);
+    Ok(next)
 }
 
 // Several values one behind the other, the first at row r.
@@ -55,22 +54,22 @@ fn build_values(
     r: usize,
     values: u32,
     area: &mut [u32],
-    nodes: &mut [u32],
-    at: Part,
-) -> Result<Part, Refusal>
-    requires room { Room at.cell (3 * total size (values_at exprs.now.texts.catalog.now exprs.now.texts.statement.now
+    nodes: &mut Nodes,
+    cell: u32,
+) -> Result<u32, Refusal>
+    requires room { Room cell (3 * total size (values_at exprs.now.texts.catalog.now exprs.now.texts.statement.now
         exprs.now.table.now values r)) area.old }
-    requires values_in_bounds { at.used + values ≤ length nodes.old }
+    requires nodes_room { nodes.old.used + values ≤ length nodes.old.numbers.now }
     ensures { Lists all_roots
-        (emit_all empty at.cell (values_at exprs.now.texts.catalog.now exprs.now.texts.statement.now exprs.now.table.now
+        (emit_all empty cell (values_at exprs.now.texts.catalog.now exprs.now.texts.statement.now exprs.now.table.now
         values r))
-        at.cell area.old area.new at.used nodes.old nodes.new result }
+        cell area.old area.new nodes.old nodes.new result }
 {
-    let mut p = r;
-    let mut built = at;
+    let mut row = r;
+    let mut built = cell;
     for _ in 0..values {
-        built = build_value(exprs, p, area, nodes, built)?;
-        p = next(exprs.table, p);
+        built = build_value(exprs, row, area, nodes, built)?;
+        row = next(exprs.table, row);
     }
     Ok(built)
 }
@@ -80,30 +79,19 @@ fn build_row(
     exprs: &Expressions,
     e: Entry,
     area: &mut [u32],
-    nodes: &mut [u32],
-    at: Part,
-) -> Result<Part, Refusal>
-    requires room { Room at.cell (3 * total size (values_at exprs.now.texts.catalog.now exprs.now.texts.statement.now
+    nodes: &mut Nodes,
+    cell: u32,
+) -> Result<u32, Refusal>
+    requires room { Room cell (3 * total size (values_at exprs.now.texts.catalog.now exprs.now.texts.statement.now
         exprs.now.table.now e.expressions e.row)) area.old }
-    requires expressions_in_bounds { at.used + 1 + e.expressions ≤ length nodes.old }
+    requires nodes_room { nodes.old.used + 1 + e.expressions ≤ length nodes.old.numbers.now }
     ensures { Lists one_row
-        (emit_all empty at.cell (values_at exprs.now.texts.catalog.now exprs.now.texts.statement.now exprs.now.table.now
+        (emit_all empty cell (values_at exprs.now.texts.catalog.now exprs.now.texts.statement.now exprs.now.table.now
         e.expressions e.row))
-        at.cell area.old area.new at.used nodes.old nodes.new result }
+        cell area.old area.new nodes.old nodes.new result }
 {
-    let j = push(nodes, at.used, e.expressions);
-    let r = e.row as usize;
-    build_values(
-        exprs,
-        r,
-        e.expressions,
-        area,
-        nodes,
-        Part {
-            cell: at.cell,
-            used: j,
-        },
-    )
+    nodes.push(e.expressions);
+    build_values(exprs, e.row as usize, e.expressions, area, nodes, cell)
 }
 
 // All rows, their cells the plan's first ones.
@@ -111,19 +99,18 @@ fn build_rows(
     exprs: &Expressions,
     parts: &[u32],
     area: &mut [u32],
-    nodes: &mut [u32],
-    k: usize,
-) -> Result<Part, Refusal>
+    nodes: &mut Nodes,
+) -> Result<u32, Refusal>
     requires room { Room 0 (3 * rows_size (rows_at exprs.now.texts.catalog.now exprs.now.texts.statement.now
         exprs.now.table.now parts.now)) area.old }
-    requires parts_in_bounds { k + rows_room (rows_at exprs.now.texts.catalog.now exprs.now.texts.statement.now
-        exprs.now.table.now parts.now) ≤ length nodes.old }
+    requires nodes_room { nodes.old.used + rows_room (rows_at exprs.now.texts.catalog.now exprs.now.texts.statement.now
+        exprs.now.table.now parts.now) ≤ length nodes.old.numbers.now }
     ensures { Lists row_numbers
         (emit_rows empty 0 (rows_at exprs.now.texts.catalog.now exprs.now.texts.statement.now exprs.now.table.now parts.now))
-        0 area.old area.new k nodes.old nodes.new result }
+        0 area.old area.new nodes.old nodes.new result }
 {
     let rows = count(parts, Section::Row);
-    let mut built = Part { cell: 0, used: k };
+    let mut built = 0;
     for i in 0..rows {
         let e = entry_at(parts, Section::Row, i);
         built = build_row(exprs, e, area, nodes, built)?;
@@ -136,18 +123,19 @@ pub fn build_node(
     exprs: &Expressions,
     parts: &[u32],
     area: &mut [u32],
-    nodes: &mut [u32],
-) -> Result<Part, Refusal>
+    nodes: &mut Nodes,
+) -> Result<u32, Refusal>
     requires room { Room 0 (3 * rows_size (rows_at exprs.now.texts.catalog.now exprs.now.texts.statement.now
         exprs.now.table.now parts.now)) area.old }
     requires rows_fit { RowsFit (rows_at exprs.now.texts.catalog.now exprs.now.texts.statement.now exprs.now.table.now
         parts.now) nodes.old }
     ensures { Lists values_node
         (emit_rows empty 0 (rows_at exprs.now.texts.catalog.now exprs.now.texts.statement.now exprs.now.table.now parts.now))
-        0 area.old area.new 0 nodes.old nodes.new result }
+        0 area.old area.new nodes.old nodes.new result }
 {
-    let k = begin_values(nodes, 0);
-    let rows = build_rows(exprs, parts, area, nodes, k)?;
-    end(nodes, 0, rows.used);
-    Ok(rows)
+    let start = nodes.used;
+    begin_values(nodes);
+    let cells = build_rows(exprs, parts, area, nodes)?;
+    end(nodes, start);
+    Ok(cells)
 }

@@ -1,6 +1,6 @@
 -- The hidden columns' cells and parts of the record.
 use Rattle.std.specs.Prelude.{ℕ, suc, ◌+◌, ◌-◌, ◌*◌, ◌≤◌, ◌<◌, ◌≡◌, refl, List, [], ◌∷◌, ◌++◌, map, length, get_or, take}
-use Rattle.std.proofs.Common.{arith, add-one, sym, ap, ◌∙◌, append-nil, take-suc, take_all, length-take-le}
+use Rattle.std.proofs.Common.{arith, add-one, sym, ap, ◌∙◌, append-nil, take-suc, length-take-le}
 use Rattle.std.proofs.Math.Option.{Option, none}
 use Rattle.std.proofs.lemmas.List.{length-map}
 use Rattle.rules.specs.Refusals.{ok, ◌>>=◌}
@@ -17,7 +17,8 @@ use Rattle.appends.specs.Lists.Kinds.{emit_firsts}
 use Rattle.appends.specs.Lists.Entry.{emit_first, hidden-step}
 use Rattle.plan.specs.Layout.{cells_end, item_size}
 use Rattle.plan.specs.Cells.{Room, Puts, puts_then}
-use Rattle.plan.specs.Appended.{Appended, appended-none}
+use Rattle.plan.specs.Pushed.{Pushed, pushed-none}
+use Rattle.plan.specs.declared.nodes.Nodes.{Nodes}
 use Rattle.plan.specs.Parts.{items-on}
 use Rattle.plan.specs.Room.{items-size}
 
@@ -26,10 +27,10 @@ unfoldable pub column_parts : ℕ → List ℕ → List (ℕ × Option Word)
 column_parts n [] = []
 column_parts n (p ∷ ps) = (n, none) ∷ column_parts (n + 1) ps
 
--- the columns at the positions ps: their cells from the n-th on, their parts behind k numbers
-pub record ColumnsPut (ps : List ℕ) (n : ℕ) (area area' : List ℕ) (k : ℕ) (nodes nodes' : List ℕ) (r : ℕ) : Type 0 where
+-- the columns at the positions ps: their cells from the n-th on, and their parts
+pub record ColumnsPut (ps : List ℕ) (n : ℕ) (area area' : List ℕ) (u v : Nodes) : Type 0 where
   pub cells : Puts n (map column ps) area area'
-  pub parts : Appended (item_numbers (column_parts n ps)) k nodes r nodes'
+  pub parts : Pushed (item_numbers (column_parts n ps)) u v
 
 -- AS THE RULES HAVE THEM
 abbrev pub positions_of : List HiddenColumn → List ℕ
@@ -54,21 +55,21 @@ part-more (x ∷ ps) n p =
     rw (z, part-more ps (n + 1) p)
 
 -- of the columns, i are put
-pub record Putting (ps : List ℕ) (n : ℕ) (area₀ area : List ℕ) (k : ℕ) (nodes₀ nodes : List ℕ) (i j : ℕ) : Type 0 where
+pub record Putting (ps : List ℕ) (n : ℕ) (area₀ area : List ℕ) (u₀ u : Nodes) (i : ℕ) : Type 0 where
   pub within : i ≤ length ps
   pub room : Room n (length ps) area
-  pub space : j + item_size * (length ps - i) ≤ length nodes
-  pub put : ColumnsPut (take i ps) n area₀ area k nodes₀ nodes j
+  pub space : u.used + item_size * (length ps - i) ≤ length u.numbers.now
+  pub put : ColumnsPut (take i ps) n area₀ area u₀ u
 
 items-none : item_numbers [] ≡ []
 unfolding item_numbers
 items-none = refl
 
-pub putting-begin : (ps : List ℕ) (n : ℕ) (area : List ℕ) (k : ℕ) (nodes : List ℕ) → Room n (length ps) area
-    → k + item_size * length ps ≤ length nodes → Putting ps n area area k nodes nodes 0 k
+pub putting-begin : (ps : List ℕ) (n : ℕ) (area : List ℕ) (u : Nodes) → Room n (length ps) area
+    → u.used + item_size * length ps ≤ length u.numbers.now → Putting ps n area area u u 0
 unfolding column_parts cells_numbers concat
-putting-begin ps n area k nodes h g =
-    let l : k ≤ length nodes = omega arith in
+putting-begin ps n area u h g =
+    let l : u.used ≤ length u.numbers.now = omega arith in
     let z : n + 0 ≡ n = omega arith in
     record {
       within = omega arith;
@@ -76,52 +77,32 @@ putting-begin ps n area k nodes h g =
       space = omega arith;
       put = record {
         cells = record { kept = refl; cells = rw z (sym (append-nil (take (cells_end n) area))) };
-        parts = rw items-none (appended-none k nodes l);
+        parts = rw items-none (pushed-none u l);
       };
     }
 
-module _ {ps : List ℕ} {n : ℕ} {area₀ area : List ℕ} {k : ℕ} {nodes₀ nodes : List ℕ} {i j : ℕ}
-    (h : Putting ps n area₀ area k nodes₀ nodes i j) where
-  pub putting-kept : length area ≡ length area₀
-  putting-kept = h.put.cells.kept
-
-  pub putting-nodes : length nodes ≡ length nodes₀
-  putting-nodes = h.put.parts.all
-
-  module _ (l : i < length ps) where
-    pub room-here : {at : ℕ} → at ≡ n + i → Room at 1 area
-    room-here e = record {
-      counted = omega (arith, e, h.room.counted);
-      held = omega (arith, e, h.room.held);
-    }
-
-    pub space-here : j + item_size ≤ length nodes
-    space-here = omega (arith, h.space)
-
-    pub putting-more : {area' nodes' : List ℕ} {at j' : ℕ} → at ≡ n + i → Puts at (column (get_or ps i 0) ∷ []) area area'
-        → Appended (item_numbers ((at, none) ∷ [])) j nodes j' nodes'
-        → Putting ps n area₀ area' k nodes₀ nodes' (i + 1) j'
-    putting-more {area'} {nodes'} {at} {j'} e c p =
-        let t : length (take i ps) ≡ i = length-take-le i ps (omega arith) in
-        let b : n + length (map column (take i ps)) ≡ n + i = rw (length-map (take i ps) column, t) in
-        let w : take (i + 1) ps ≡ take i ps ++ (get_or ps i 0 ∷ []) = rw (add-one i) (take-suc ps i 0 l) in
-        let three : length (item_numbers ((at, none) ∷ [])) ≡ item_size = items-size ((at, none) ∷ []) in
-        let v : n + length (take i ps) ≡ at = rw t (sym e) in
-        record {
-          within = omega arith;
-          room = record {
-            counted = h.room.counted;
-            held = omega (arith, h.room.held, c.kept);
-          };
-          space = omega (arith, h.space, p.next, three, p.all);
-          put = rw w (record {
-            cells = rw (map-append column (take i ps) (get_or ps i 0 ∷ [])) (puts_then h.put.cells (b ∙ sym e) c);
-            parts = rw (part-more (take i ps) n (get_or ps i 0), v) (items-on _ _ h.put.parts p);
-          });
-        }
-
-  pub putting-end : length ps ≤ i → ColumnsPut ps n area₀ area k nodes₀ nodes j
-  putting-end l = rw (take_all i ps l) at h.put
+module _ {ps : List ℕ} {n : ℕ} {area₀ area : List ℕ} {u₀ u : Nodes} {i : ℕ}
+    (h : Putting ps n area₀ area u₀ u i) (l : i < length ps) where
+  pub putting-more : {area' : List ℕ} {v : Nodes} {at : ℕ} → at ≡ n + i → Puts at (column (get_or ps i 0) ∷ []) area area'
+      → Pushed (item_numbers ((at, none) ∷ [])) u v → Putting ps n area₀ area' u₀ v (i + 1)
+  putting-more {at = at} e c p =
+      let t : length (take i ps) ≡ i = length-take-le i ps (omega arith) in
+      let b : n + length (map column (take i ps)) ≡ n + i = rw (length-map (take i ps) column, t) in
+      let w : take (i + 1) ps ≡ take i ps ++ (get_or ps i 0 ∷ []) = rw (add-one i) (take-suc ps i 0 l) in
+      let three : length (item_numbers ((at, none) ∷ [])) ≡ item_size = items-size ((at, none) ∷ []) in
+      let w' : n + length (take i ps) ≡ at = rw t (sym e) in
+      record {
+        within = omega arith;
+        room = record {
+          counted = h.room.counted;
+          held = omega (arith, h.room.held, c.kept);
+        };
+        space = omega (arith, h.space, p.appended.next, three, p.kept.all);
+        put = rw w (record {
+          cells = rw (map-append column (take i ps) (get_or ps i 0 ∷ [])) (puts_then h.put.cells (b ∙ sym e) c);
+          parts = rw (part-more (take i ps) n (get_or ps i 0), w') (items-on _ _ h.put.parts p);
+        });
+      }
 
 -- no alias
 pub no-alias : option_span none ≡ 0 ∷ 0 ∷ []

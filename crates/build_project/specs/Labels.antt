@@ -1,11 +1,11 @@
 -- The labels of items over a scope, by their numbers.
 use Rattle.std.specs.Prelude.{ℕ, zero, suc, ◌≤◌, ◌<◌, ◌≡◌, Bool, true, false, eqb, ltb, take}
+use Rattle.std.specs.Prelude as std
 use Rattle.std.proofs.Common.{arith, sym, ap, ◌∙◌, ltb-true, ltb-false, eqb-true}
 use Rattle.std.proofs.Math.Path.{refl}
 use mathlib.Core.List.{List, [], ◌∷◌, map}
 use Rattle.std.proofs.Math.Option.{Option, none, some}
 use Rattle.std.proofs.Math.ListN.{length}
-use Rattle.std.proofs.lemmas.List.{length-map}
 use Rattle.std.proofs.lemmas.Bool.{eqb-false}
 use Rattle.rules.specs.Limits.{most_bytes}
 use Rattle.rules.specs.Lists.{Bytes}
@@ -16,8 +16,9 @@ use Rattle.rules.specs.Ast.{Item}
 use Rattle.rules.specs.Scope.{item_label}
 use Rattle.claims.specs.Answers.{All, Given}
 use Rattle.text.specs.Places.{bytes-catalog, bytes-statement}
+use Rattle.text.specs.declared.places.Place.{Place}
 use Rattle.ast.specs.Table.{statement_rows, tree_at}
-use Rattle.ast.specs.Names.{name_at}
+use Rattle.ast.specs.Names.{option_name}
 use Rattle.scope.specs.Labels.{slot_of, slot-packed, Fits, label_at, columns_of}
 use Rattle.scope.specs.Slots.{Below, none, more}
 use Rattle.scope.specs.Scopes.{labels_of, table_numbers}
@@ -61,12 +62,12 @@ bytes-again c q a n = go (ltb a most_bytes) refl
         rw (bytes-statement c q a n l) (bytes-statement c q a _ l ∙ take_again n _)
 
 -- a name is the word at its place
-name-word : (c q : Bytes) (a n : ℕ) (w : Word) → name_at c q a n ≡ some w → w ≡ word_at c q w.start (length w.bytes)
-unfolding name_at word_at
-name-word c q a zero w h = absurd (let z : ◌≡◌ {A = ℕ} 0 1 = cc in omega arith)
-name-word c q a (suc n) w h =
-    let e : word_at c q a (suc n) ≡ w = cc in
-    rw (← e) (ap (λ (b : Bytes). record { bytes = b; start = a }) (sym (bytes-again c q a (suc n))))
+name-word : (c q : Bytes) (o : std.Option Place) (w : Word) → option_name c q o ≡ some w → w ≡ word_at c q w.start (length w.bytes)
+unfolding option_name word_at
+name-word c q std.None w h = absurd (let z : ◌≡◌ {A = ℕ} 0 1 = cc in omega arith)
+name-word c q (std.Some p) w h =
+    let e : word_at c q p.address p.length ≡ w = cc in
+    rw (← e) (ap (λ (b : Bytes). record { bytes = b; start = p.address }) (sym (bytes-again c q p.address p.length)))
 
 alias-word : (c q : Bytes) (t parts : List ℕ) (x : ℕ) (w : Word) → (item_of c q t parts x).alias ≡ some w
     → w ≡ word_at c q w.start (length w.bytes)
@@ -74,7 +75,7 @@ unfolding item_of entry_item starred_at
 alias-word c q t parts x w h = go (ltb x statement_rows) refl
   where
     go : (b : Bool) → ltb x statement_rows ≡ b → w ≡ word_at c q w.start (length w.bytes)
-    go true e = name-word c q _ _ w (rw (item_of, e) at h)
+    go true e = name-word c q _ w (rw (item_of, e) at h)
     go false e = absurd (let y : ◌≡◌ {A = Option Word} none (some w) = rw (item_of, e) at h in
         let z : ◌≡◌ {A = ℕ} 0 1 = cc in omega arith)
 
@@ -131,11 +132,3 @@ pub rows_are : (c q : Bytes) (t parts items : List ℕ)
     → map (λ (i : Item). i.expr) (map (item_of c q t parts) items) ≡ map (tree_at c q t) (map (row_of parts) items)
 rows_are c q t parts [] = refl
 rows_are c q t parts (x ∷ items) = rw (item-tree c q t parts x, rows_are c q t parts items)
-
--- HOW MANY
-pub labels_length : (c q : Bytes) (t parts : List ℕ) (s : Scope) (items : List ℕ) {xs : List ℕ}
-    → xs ≡ item_labels c q t parts s items → length items ≡ length xs
-labels_length c q t parts s items e = sym (ap length e ∙ length-map items (label_number c q t parts (labels_of s) (take s.width s.matches) (table_numbers s)))
-
-pub rows-length : (parts items : List ℕ) {xs : List ℕ} → xs ≡ map (row_of parts) items → length items ≡ length xs
-rows-length parts items e = sym (ap length e ∙ length-map items (row_of parts))

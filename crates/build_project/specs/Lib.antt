@@ -4,5 +4,5 @@ pub mod Names
 pub mod Ready
 pub mod Projected
 pub mod Hidden
-pub mod Ends
+pub mod Widens
 pub mod Whole

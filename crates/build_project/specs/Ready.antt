@@ -11,6 +11,7 @@ use Rattle.scope.specs.declared.Scope.{Scope}
 use Rattle.statement.specs.Access.{select_at}
 use Rattle.plan.specs.Layout.{nodes_size, source_head, item_size}
 use Rattle.plan.specs.Cells.{Room}
+use Rattle.plan.specs.declared.nodes.Nodes.{Nodes}
 use Rattle.build_projection.specs.Items.{item_of}
 use Rattle.build_projection.specs.Pushes.{items_size}
 use Rattle.build_project.specs.Labels.{AliasesFit}
@@ -31,12 +32,12 @@ LaterFew c q cells parts = (froms : List ℕ) → total size (later_of (select_a
 
 -- With that, there is room for three cells for each expression cell of the items, for the hidden columns' cells, and for
 -- the record.
-pub record ProjectionReady (c q : Bytes) (cells parts items : List ℕ) (s : Scope) (n m k : ℕ) (area nodes : List ℕ)
-    : Type 0 where
+pub record ProjectionReady (c q : Bytes) (cells parts items : List ℕ) (s : Scope) (n m : ℕ) (area : List ℕ)
+    (u : Nodes) : Type 0 where
   pub items-ready : ItemsReady c q cells parts items s
   pub later : LaterFew c q cells parts
   pub room : Room n (3 * items_size c q cells parts items + most_columns) area
-  pub space : k + source_head + item_size * most_columns ≤ length nodes
-  pub most : length nodes ≤ nodes_size
+  pub space : u.used + source_head + item_size * most_columns ≤ length u.numbers.now
+  pub most : length u.numbers.now ≤ nodes_size
   pub some-node : 0 < m
-  pub few-nodes : m ≤ k
+  pub few-nodes : m ≤ u.used

@@ -1,5 +1,5 @@
 -- The projection as a stage: the node before it, the items, the hidden columns.
-use Rattle.std.specs.Prelude.{ℕ, pred, ◌+◌, ◌-◌, ◌*◌, ◌≤◌, ◌≡◌, true, false, List, [], ◌∷◌, ◌++◌, map, length, take, Result, Ok, Err}
+use Rattle.std.specs.Prelude.{ℕ, pred, ◌+◌, ◌-◌, ◌*◌, ◌≤◌, ◌<◌, ◌≡◌, true, false, List, [], ◌∷◌, ◌++◌, map, length, take, Result, Ok, Err}
 use Rattle.std.proofs.Common.{arith, sub-one, sym, ap, ◌∙◌, append_assoc}
 use Rattle.std.proofs.Math.Path.{refl}
 use Rattle.std.proofs.Math.Option.{Option}
@@ -31,23 +31,22 @@ use Rattle.ast.specs.Table.{tree_at}
 use Rattle.scope.specs.Scopes.{scope_of, labels_of, table_numbers}
 use Rattle.scope.specs.declared.Scope.{Scope}
 use Rattle.statement.specs.Access.{select_at}
-use Rattle.plan.specs.Layout.{cells_end}
-use Rattle.plan.specs.Cells.{room-less}
-use Rattle.plan.specs.Appended.{Appended}
-use Rattle.plan.specs.Records.{opened}
+use Rattle.plan.specs.Layout.{cells_end, length_place, record_head}
+use Rattle.plan.specs.Emits.{Written}
+use Rattle.plan.specs.Pushed.{Kept, kept-all, kept-on, Pushed, Stored, Countable}
+use Rattle.plan.specs.declared.nodes.Nodes.{Nodes}
+use Rattle.plan.specs.Records.{opened, opened-room, ended}
 use Rattle.plan.specs.Parts.{project-items}
 use Rattle.plan.specs.Room.{items-size, project-in-use}
 use Rattle.plan.specs.Steps.{refused-at, refused-on, stands_one, stage-lies, step-none, taken}
-use Rattle.plan.specs.declared.steps.Part.{Part}
 use Rattle.stage.specs.Stages.{StageBuilt}
-use Rattle.stage.specs.declared.Stage.{Stage}
 use Rattle.build_expression.specs.Builds.{scope_at}
 use Rattle.build_projection.specs.Items.{item_of}
 use Rattle.build_projection.specs.Pushes.{items_size, ItemsFit, ItemsPut}
 use Rattle.build_projection.specs.Pushes as pushes
 use Rattle.build_project.specs.Ready.{ProjectionReady}
 use Rattle.build_project.specs.Hidden.{column_parts, positions_of, hidden-emits}
-use Rattle.build_project.specs.Ends.{EndReady, hidden_at, ProjectionEnded}
+use Rattle.build_project.specs.Widens.{HiddenReady, hidden_at, HiddenPut}
 
 -- ITEMS: how many parts and cells they are
 first-length : {B : Type 0} (bs : List (Built × B)) (n : ℕ) → length (number_first n bs) ≡ length bs
@@ -84,8 +83,8 @@ items-pushed s c q t parts items n xs as' m e =
       parts_are = ap length (sym o.numbers) ∙ first-length o.built n ∙ l ∙ length-map items (item_of c q t parts);
     }
 
-module _ {c q : Bytes} {t parts items : List ℕ} {s : Scope} {n m k : ℕ} {area nodes : List ℕ}
-    (f : ProjectionReady c q t parts items s n m k area nodes) where
+module _ {c q : Bytes} {t parts items : List ℕ} {s : Scope} {n m : ℕ} {area : List ℕ} {u : Nodes}
+    (f : ProjectionReady c q t parts items s n m area u) where
   abbrev scope_here : rules.Scope
   scope_here = scope_of (tree_at c q t) c q s
 
@@ -108,52 +107,43 @@ module _ {c q : Bytes} {t parts items : List ℕ} {s : Scope} {n m k : ℕ} {are
   lone e froms d = rw (e, build_projection)
 
   pub stage-lone : ((c q : Bytes) → true ≡ is_lone (map (item_of c q t parts) items))
-      → (froms : List ℕ) → StageBuilt c q t (step froms) n m k area nodes area nodes
-      (Ok (record { scope = s; cell = n; node = m; used = k }))
+      → (froms : List ℕ) → StageBuilt c q t (step froms) n m area u area u
+      (Ok (record { scope = s; at = record { cell = n; node = m } }))
   stage-lone e froms = record {
     kept = refl;
-    kept-nodes = refl;
+    kept-nodes = kept-all u;
     is = record {
       valid = f.items-ready.valid;
       hidden = omega (arith, f.items-ready.shown);
-      taken = taken (record { cell = n; node = m; used = k })
+      taken = taken (record { cell = n; node = m })
           (step-none (omega (arith, f.space)) (lone (sym (e c q)) froms)) refl;
     };
   }
 
   -- ITEMS
-  module _ {j : ℕ} {nodes₁ : List ℕ} (o : Appended (opened (project (m - 1) [])) k nodes j nodes₁)
+  module _ {u₁ : Nodes} (o : Pushed (opened (project (m - 1) [])) u u₁)
       (e : (c q : Bytes) → false ≡ is_lone (map (item_of c q t parts) items)) where
-    pub items-fit : ItemsFit c q t parts items n area j nodes₁
-    items-fit = record {
-      few = f.items-ready.few;
-      room = room-less _ (omega arith) f.room;
-      space = omega (arith, f.space, project-in-use (m - 1) o, o.all, f.items-ready.few);
-    }
+    abbrev Put : List ℕ → Nodes → Written → Type 0
+    Put area₁ u₂ r = ItemsPut c q t parts (labels_of s) (take s.width s.matches) (table_numbers s) items n area area₁ u₁ u₂ r
 
-    abbrev Put : List ℕ → List ℕ → Result Part Refusal → Type 0
-    Put area₁ nodes₂ r = ItemsPut c q t parts (labels_of s) (take s.width s.matches) (table_numbers s) items n area area₁
-        j nodes₁ nodes₂ r
-
-    pub stage-refused : {area₁ nodes₂ : List ℕ} {w : Refusal} → Put area₁ nodes₂ (Err w) → length area₁ ≡ length area
-        → length nodes₂ ≡ length nodes₁
-        → (froms : List ℕ) → StageBuilt c q t (step froms) n m k area nodes area₁ nodes₂ (Err w)
-    stage-refused ps ka kn froms = record {
+    pub stage-refused : {area₁ : List ℕ} {u₂ : Nodes} {w : Refusal} → Put area₁ u₂ (Err w) → length area₁ ≡ length area
+        → (froms : List ℕ) → StageBuilt c q t (step froms) n m area u area₁ u₂ (Err w)
+    stage-refused ps ka froms = record {
       kept = ka;
-      kept-nodes = kn ∙ o.all;
+      kept-nodes = kept-on o.kept ps.kept;
       is = λ d cs rs v. refused-on (rw same-scope (ps.is s.hidden)) λ y i.
           project-refused 0 0 d cs rs n m v items_here (later_of (select_at c q t froms parts)) scope_here (sym (e c q)) y i;
     }
 
-    module _ {area₁ nodes₂ : List ℕ} {y : Part} (ps : Put area₁ nodes₂ (Ok y)) (ka : length area₁ ≡ length area) where
-      all : pushes.All (emit_firsts (item_built scope_here) n items_here) n area area₁ j nodes₁ nodes₂ y.cell y.used
+    module _ {area₁ : List ℕ} {u₂ : Nodes} {y : ℕ} (ps : Put area₁ u₂ (Ok y)) (ka : length area₁ ≡ length area) where
+      all : pushes.All (emit_firsts (item_built scope_here) n items_here) n area area₁ u₁ u₂ y
       all = rw same-scope (ps.is s.hidden)
 
-      pushed : Pushes n y.cell (length items) (3 * items_size c q t parts items) (length all.parts)
-      pushed = items-pushed scope_here c q t parts items n all.cells all.parts y.cell all.is
+      pushed : Pushes n y (length items) (3 * items_size c q t parts items) (length all.parts)
+      pushed = items-pushed scope_here c q t parts items n all.cells all.parts y all.is
 
-      pub end-ready : EndReady c q t parts items s y.cell m k y.used area₁ nodes₂
-      end-ready =
+      pub hidden-ready : HiddenReady c q t parts items s y area₁ u₂
+      hidden-ready =
           let b = project-in-use (m - 1) o in
           let d = items-size all.parts in
           record {
@@ -163,52 +153,82 @@ module _ {c q : Bytes} {t parts items : List ℕ} {s : Scope} {n m k : ℕ} {are
               counted = omega (arith, pushed.most, f.room.counted);
               held = omega (arith, pushed.most, f.room.held, ka);
             };
-            begun = omega (arith, b, all.appended.next);
-            space = omega (arith, b, all.appended.next, d, pushed.parts_are, all.appended.all, o.all, f.space, f.items-ready.few);
-            most = omega (arith, all.appended.all, o.all, f.most);
-            few-nodes = f.few-nodes;
+            space = omega (
+              arith,
+              b,
+              all.pushed.appended.next,
+              d,
+              pushed.parts_are,
+              all.pushed.kept.all,
+              o.kept.all,
+              f.space,
+              f.items-ready.few,
+            );
           }
 
-      pub stage-ended : {area₂ nodes₃ : List ℕ} (r : Result Stage Refusal)
-          → ProjectionEnded c q t parts items s y.cell m k y.used area₁ nodes₂ area₂ nodes₃ r
-          → (froms : List ℕ) → StageBuilt c q t (step froms) n m k area nodes area₂ nodes₃ r
+      abbrev Widens : List ℕ → Nodes → Result Scope Refusal → Type 0
+      Widens area₂ u₃ r = HiddenPut c q t parts items s y area₁ area₂ u₂ u₃ r
+
+      lent : {area₂ : List ℕ} {u₃ : Nodes} {r : Result Scope Refusal} → Widens area₂ u₃ r → Kept u u₃
+      lent p = kept-on o.kept (kept-on ps.kept p.kept-nodes)
+
+      pub stage-wide : {area₂ : List ℕ} {u₃ : Nodes} {z : Refusal} → Widens area₂ u₃ (Err z)
+          → (froms : List ℕ) → StageBuilt c q t (step froms) n m area u area₂ u₃ (Err z)
       unfolding named
-      stage-ended (Err z) p froms =
+      stage-wide p froms =
           let l : length items_here ≡ length items = length-map items (item_of c q t parts) in
           let w = p.is froms in
           record {
             kept = p.kept ∙ ka;
-            kept-nodes = p.kept-nodes ∙ all.appended.all ∙ o.all;
+            kept-nodes = lent p;
             is = λ d cs rs v. rw w.is (refused-at limit_passed w.one.line _ _
                 (project-wide 0 0 d cs rs n m v items_here (later_of (select_at c q t froms parts)) scope_here (sym (e c q))
-                all.cells all.parts y.cell all.is w.before w.one w.behind w.columns (rw l w.room)) refl refl);
+                all.cells all.parts y all.is w.before w.one w.behind w.columns (rw l w.room)) refl refl);
           }
-      stage-ended (Ok x) p froms =
-          let later = later_of (select_at c q t froms parts) in
-          let h = hidden_at c q t parts items s froms in
-          let l : length items_here ≡ length items = length-map items (item_of c q t parts) in
-          let w = p.is.widened froms in
-          let ys = map column (positions_of h.columns) in
-          let bs = column_parts y.cell (positions_of h.columns) in
-          let u : Appended (opened (project (m - 1) all.parts)) k nodes y.used nodes₂ =
-          project-items (m - 1) [] all.parts o all.appended in
-          let v = w.whole (m - 1) all.parts nodes u in
-          record {
-            kept = p.kept ∙ ka;
-            kept-nodes = p.kept-nodes ∙ all.appended.all ∙ o.all;
-            is = record {
-              valid = p.is.valid;
-              hidden = p.is.hidden;
-              taken = record {
-                cells = all.cells ++ ys;
-                records = project (pred m) (all.parts ++ bs) ∷ [];
-                lies = λ d cs rs b. stage-lies (rw (w.scope-is, w.node, w.next) (project-step 0 0 d cs rs n m b items_here
-                    later scope_here (sym (e c q)) all.cells all.parts y.cell all.is ys bs (y.cell + length h.columns)
-                    (rw l w.few) (hidden-emits h.columns y.cell)));
-                stands = stands_one _
-                    (w.stand ∙ rw (all.stand, cells-numbers-append all.cells ys)
-                    (append_assoc (take (cells_end n) area) (cells_numbers all.cells) (cells_numbers ys)))
-                    (rw (← sub-one m) v);
+
+      module _ {area₂ : List ℕ} {u₃ : Nodes} {x : Scope} (p : Widens area₂ u₃ (Ok x)) where
+        abbrev parts_here : List ℕ → List (ℕ × Option Word)
+        parts_here froms = all.parts ++ column_parts y (positions_of (hidden_at c q t parts items s froms).columns)
+
+        -- the record with all of its parts, its length not known
+        open_record : (froms : List ℕ) → Pushed (opened (project (m - 1) (parts_here froms))) u u₃
+        open_record froms = project-items (m - 1) all.parts _ (project-items (m - 1) [] all.parts o all.pushed)
+            (p.is.widened froms).parts
+
+        pub end-room : Countable (u.used + length_place) u₃
+        end-room =
+            let h = (open_record []).appended in
+            opened-room (project (m - 1) (parts_here [])) (open_record []) (omega (arith, h.fits, f.most))
+
+        pub next-cell : y + x.hidden < 4294967296
+        next-cell = omega (arith, p.is.few, hidden-ready.room.counted)
+
+        pub stage-ended : {u₄ : Nodes} → Stored (u.used + length_place) (u₃.used - (u.used + record_head)) u₃ u₄
+            → (froms : List ℕ) → StageBuilt c q t (step froms) n m area u area₂ u₄
+            (Ok (record { scope = x; at = record { cell = y + x.hidden; node = m + 1 } }))
+        stage-ended en froms =
+            let h = hidden_at c q t parts items s froms in
+            let l : length items_here ≡ length items = length-map items (item_of c q t parts) in
+            let w = p.is.widened froms in
+            let ys = map column (positions_of h.columns) in
+            let bs = column_parts y (positions_of h.columns) in
+            let v = ended (project (m - 1) (all.parts ++ bs)) (open_record froms) en in
+            record {
+              kept = p.kept ∙ ka;
+              kept-nodes = v.kept;
+              is = record {
+                valid = p.is.valid;
+                hidden = p.is.hidden;
+                taken = record {
+                  cells = all.cells ++ ys;
+                  records = project (pred m) (all.parts ++ bs) ∷ [];
+                  lies = λ d cs rs b. stage-lies (rw (w.scope-is, w.count) (project-step 0 0 d cs rs n m b items_here
+                      (later_of (select_at c q t froms parts)) scope_here (sym (e c q)) all.cells all.parts y all.is ys bs
+                      (y + length h.columns) (rw l w.few) (hidden-emits h.columns y)));
+                  stands = stands_one _
+                      (w.stand ∙ rw (all.stand, cells-numbers-append all.cells ys)
+                      (append_assoc (take (cells_end n) area) (cells_numbers all.cells) (cells_numbers ys)))
+                      (rw (← sub-one m) v);
+                };
               };
-            };
-          }
+            }

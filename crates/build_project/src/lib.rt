@@ -2,7 +2,7 @@
 // the items lack.
 #![tactic(auto)]
 
-mod hidden; // hidden.rt: the hidden columns' cells and parts, and the record's end
+mod hidden; // hidden.rt: the hidden columns' cells and parts
 mod lone; // lone.rt: a star that stands alone
 mod projected; // projected.rt: the projected scope
 mod rows; // rows.rt: the rows of the items
@@ -19,12 +19,12 @@ ghost use Rattle.build_project.specs.Ready.{ProjectionReady};
 
 use ast::Expressions;
 use build_projection::projection::put_items;
-use hidden::end_projection;
+use hidden::put_hidden;
 use lone::is_lone;
 use numbers::refusals::Refusal;
-use plan::nodes::Kind;
-use plan::parts::begin;
-use plan::steps::{Part, Step};
+use plan::nodes::{Kind, Nodes};
+use plan::parts::{begin, end};
+use plan::steps::Step;
 use scope::{COLUMNS, Scope};
 use stage::Stage;
 
@@ -35,12 +35,11 @@ pub fn build_projection(
     items: &[u32],
     scope: Scope,
     area: &mut [u32],
-    nodes: &mut [u32],
+    nodes: &mut Nodes,
     at: Step,
 ) -> Result<Stage, Refusal>
     requires { ProjectionReady exprs.now.texts.catalog.now exprs.now.texts.statement.now exprs.now.table.now parts.now
-        items.now scope at.cell at.node at.used area.old
-        nodes.old }
+        items.now scope at.cell at.node area.old nodes.old }
     ensures { (froms : List ℕ) → StageBuilt exprs.now.texts.catalog.now exprs.now.texts.statement.now exprs.now.table.now
         (λ d. build_projection
         (stage_of d (scope_of (tree_in exprs.now)
@@ -48,42 +47,32 @@ pub fn build_projection(
         (map (item_of exprs.now.texts.catalog.now exprs.now.texts.statement.now exprs.now.table.now parts.now)
         items.now)
         (later_of (select_at exprs.now.texts.catalog.now exprs.now.texts.statement.now exprs.now.table.now froms
-        parts.now))) at.cell at.node at.used area.old nodes.old area.new nodes.new result }
+        parts.now))) at.cell at.node area.old nodes.old area.new nodes.new result }
 {
     if is_lone(exprs.table, parts, items) {
-        return Ok(Stage {
-            scope,
-            cell: at.cell,
-            node: at.node,
-            used: at.used,
-        });
+        return Ok(Stage { scope, at });
     }
-    let j = begin(nodes, at.used, Kind::Project, at.node - 1);
+    let start = nodes.used;
+    begin(nodes, Kind::Project, at.node - 1);
     let mut labels = [0u32; COLUMNS];
-    let part = put_items(
+    let cell = put_items(
         exprs,
         parts,
         items,
         &scope.view(),
         area,
         nodes,
-        Part {
-            cell: at.cell,
-            used: j,
-        },
+        at.cell,
         &mut labels,
     )?;
-    end_projection(
-        exprs,
-        parts,
-        items,
-        &labels[..items.len()],
-        scope,
-        area,
-        part.cell,
-        nodes,
-        at.node,
-        at.used,
-        part.used,
-    )
+    let labels = &labels[..items.len()];
+    let widened = put_hidden(exprs, parts, items, labels, scope, area, nodes, cell)?;
+    end(nodes, start);
+    Ok(Stage {
+        scope: widened,
+        at: Step {
+            cell: cell + widened.hidden,
+            node: at.node + 1,
+        },
+    })
 }

@@ -15,7 +15,8 @@ use Rattle.rules.specs.Items.{plain_star}
 use Rattle.ast.specs.Table.{statement_rows, table_size, tree_at}
 use Rattle.ast.specs.Row.{line_at, number_of, tree_of, row-tree}
 use Rattle.ast.specs.Operands.{kind_at}
-use Rattle.ast.specs.Names.{name_at}
+use Rattle.ast.specs.Names.{option_name}
+use Rattle.text.specs.declared.places.Place.{Place}
 use Rattle.ast.specs.declared.row.Kind.{Kind}
 use Rattle.ast.specs.declared.row.Kind.TheVariants as K
 use Rattle.sections.specs.Layout.{start_of, section_at}
@@ -23,7 +24,7 @@ use Rattle.sections.specs.Access.{item_kind, group_kind, numbers_at, after-drop,
 use Rattle.sections.specs.Expressions.{first_row}
 use Rattle.sections.specs.declared.entry.Entry.{Entry}
 use Rattle.statement.specs.Layout.{map_entries, to_item}
-use Rattle.statement.specs.EntryAccess.{item-at, map-length, name-none, name-some}
+use Rattle.statement.specs.EntryAccess.{item-at, map-length}
 use Rattle.numbers.specs.Options.{option_of}
 use Rattle.build_projection.specs.Stars.{starred_at}
 
@@ -36,7 +37,7 @@ unfoldable pub entry_item : Bytes → Bytes → List ℕ → List ℕ → ℕ �
 entry_item c q cells parts k = record {
   line = (numbers_at parts item_kind k).line;
   expr = tree_at c q cells (first_row (numbers_at parts item_kind k));
-  alias = name_at c q (numbers_at parts item_kind k).address (numbers_at parts item_kind k).length;
+  alias = option_name c q (numbers_at parts item_kind k).name;
 }
 
 -- the item of a number: an entry, or a starred column by its row
@@ -130,17 +131,17 @@ plain-alone i e = rw (plain_star, e) (go (as_star i.expr))
 
 -- entry k by its numbers e
 module _ (cells parts : List ℕ) (k : ℕ) (e : Entry) (h : e ≡ numbers_at parts item_kind k) where
-  pub plain-aliased : (e.length ≡ 0 → ⊥) → (c q : Bytes)
+  pub plain-aliased : {p : Place} → e.name ≡ std.Some p → (c q : Bytes)
       → option_of std.None ≡ plain_star (entry_item c q cells parts k ∷ [])
-  unfolding plain_star entry_item
-  plain-aliased g c q = rw (plain_star, ← h, name-some c q e.address e.length g)
+  unfolding plain_star entry_item option_name
+  plain-aliased g c q = rw (plain_star, ← h, g)
 
   module _ (x : std.Option ℕ) (r : ℕ) (f : r ≡ first_row e) (t : (c q : Bytes) → option_of x ≡ as_star (tree_at c q cells r)) where
-    pub plain-free : e.length ≡ 0 → (c q : Bytes) → option_of x ≡ plain_star (entry_item c q cells parts k ∷ [])
-    unfolding entry_item
+    pub plain-free : e.name ≡ std.None → (c q : Bytes) → option_of x ≡ plain_star (entry_item c q cells parts k ∷ [])
+    unfolding entry_item option_name
     plain-free g c q =
         t c q ∙ ap (λ i. as_star (tree_at c q cells i)) (f ∙ ap first_row h)
-        ∙ sym (plain-alone (entry_item c q cells parts k) (rw (← h) (name-none c q e.address e.length g)))
+        ∙ sym (plain-alone (entry_item c q cells parts k) (rw (← h, g)))
 
     pub sought-is : (b : Bool) → b ≡ true → (c q : Bytes) → option_of x ≡ sought b (entry_item c q cells parts k)
     unfolding sought entry_item
@@ -192,9 +193,6 @@ first_some i r l h = by-alias i.alias refl
 pub record Seeking (cells parts : List ℕ) (k : ℕ) : Type 0 where
   pub rest : (c q : Bytes) → plain_star (drop k (items_at c q cells parts)) ≡ plain_star (items_at c q cells parts)
 
-pub seek-begin : (cells parts : List ℕ) → Seeking cells parts 0
-seek-begin cells parts = record { rest = λ c q. refl }
-
 module _ {cells parts : List ℕ} {k n : ℕ} (s : Seeking cells parts k) (g : length cells ≡ table_size)
     (m : (c q : Bytes) (x : List ℕ) → n ≡ length (section_at c q x parts item_kind)) where
   here : k < n → (c q : Bytes)
@@ -227,7 +225,7 @@ module _ (parts : List ℕ) (n : ℕ) (m : (c q : Bytes) (x : List ℕ) → n �
   items-number : n ≡ get_or parts (start_of item_kind) 0
   items-number = m [] [] [] ∙ section-count [] [] [] parts item_kind
 
-  pub single-not : (n ≡ 1 → ⊥) → false ≡ single parts
+  pub single-not : (n ≡ 1 → ⊥) → eqb n 1 ≡ single parts
   unfolding single
   single-not h = rw (← items-number, ne_eqb n 1 h)
 

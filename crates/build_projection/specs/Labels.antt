@@ -1,7 +1,7 @@
 -- The labels of a projection's items: by their aliases, or by what their expressions pass on. Where nothing is matched, what
 -- a column name passes on is the label at the position that stands in its cell.
-use Rattle.std.specs.Prelude.{ℕ, ◌+◌, ◌≤◌, true, false, eqb, length, take, Ok}
-use Rattle.std.proofs.Common.{arith, ◌∙◌, get_or-take, get_or-append-add, length-take-le}
+use Rattle.std.specs.Prelude.{ℕ, ◌+◌, ◌≤◌, true, false, ◌⊎◌, eqb, length, take, Ok}
+use Rattle.std.proofs.Common.{arith, inl, inr, ◌∙◌, get_or-take, get_or-append-add, length-take-le}
 use Rattle.std.proofs.Math.Path.{◌≡◌, refl, sym, ap}
 use mathlib.Core.List.{List, [], ◌∷◌, ◌++◌}
 use Rattle.std.proofs.Math.Option.{none, some}
@@ -23,6 +23,7 @@ use Rattle.ast.specs.Table.{tree_at}
 use Rattle.ast.specs.Operands.{kind_at}
 use Rattle.ast.specs.Row.{number_of, tree_of, row-tree}
 use Rattle.ast.specs.declared.row.Kind.{Kind}
+use Rattle.ast.specs.declared.row.Kind.TheVariants as K
 use Rattle.scope.specs.Labels.{packed}
 use Rattle.scope.specs.Scopes.{matches_of, scope_from}
 use Rattle.scope.specs.Matches.{matched-from}
@@ -32,7 +33,7 @@ use Rattle.plan.specs.Layout.{cells_end}
 use Rattle.build_expression.specs.Rows.{column_step, column-is}
 use Rattle.build_expression.specs.Builds.{scope_at}
 use Rattle.build_projection.specs.Aliases.{row_of, alias_address, alias_length, item-tree}
-use Rattle.plan.specs.declared.steps.Part.{Part}
+use Rattle.plan.specs.declared.nodes.Nodes.{Nodes}
 use Rattle.build_projection.specs.Pushes.{ItemPut}
 
 -- the label of item x over the labels xs, to whose columns ms are matched, and the tables ts
@@ -75,16 +76,15 @@ pub record ItemStands (c q : Bytes) (t parts xs ms ts : List ℕ) (x n : ℕ) (a
   pub is : emit (scope_at c q t xs ms ts 0) n (tree_at c q t (row_of parts x)) ≡ ok (cells, next)
   pub stand : take (cells_end next) area ≡ take (cells_end n) before ++ cells_numbers cells
 
-pub stands-put : {c q : Bytes} {t parts xs ms ts : List ℕ} {x n : ℕ} {area area' : List ℕ} {k : ℕ} {nodes nodes' : List ℕ}
-    {y : Part} → cells_end n ≤ length area
-    → ItemPut c q t parts xs ms ts x n area area' k nodes nodes' (Ok y)
+pub stands-put : {c q : Bytes} {t parts xs ms ts : List ℕ} {x n : ℕ} {area area' : List ℕ} {u v : Nodes}
+    {y : ℕ} → cells_end n ≤ length area → ItemPut c q t parts xs ms ts x n area area' u v (Ok y)
     → ItemStands c q t parts xs ms ts x n area'
 stands-put {c} {q} {t} {parts} {x = x} {area = area} {y = y} l p =
     let o = p.is 0 in
     record {
       before = area;
       cells = o.cells;
-      next = y.cell;
+      next = y;
       room = l;
       is = rw (← item-tree c q t parts x) o.is;
       stand = o.stand;
@@ -147,21 +147,35 @@ none-used [] ms e h = sym e
 none-used (u ∷ us) ms e h = absurd (omega (arith, h))
 
 -- BY THE KIND OF A ROW
-module _ (xs area : List ℕ) (n : ℕ) (t : List ℕ) (r : ℕ) (k : Kind) (h : number_of k ≡ kind_at t r) (v : Kind) (e : k ≡ v)
-  where
-    row_label : (c q : Bytes) → cell_label xs area n (tree_at c q t r) ≡ cell_label xs area n (tree_of (tree_at c q t) v c q t r)
-    row_label c q = ap (cell_label xs area n)
-        (row-tree c q t r k h ∙ ap (λ (i : Kind). tree_of (tree_at c q t) i c q t r) e)
+named-tree : (c q : Bytes) (t : List ℕ) (r : ℕ) {k : Kind} → (k ≡ K.Column) ⊎ (k ≡ K.Qualified)
+    → (w : ColumnName) × (as_column (tree_of (tree_at c q t) k c q t r) ≡ some w)
+unfolding as_column tree_of
+named-tree c q t r (inl e) = rw e (_, refl)
+named-tree c q t r (inr e) = rw e (_, refl)
 
-    -- a column name
-    pub cell-named : {p l : ℕ} → p ≡ get_or area (cells_end n + 1) 0 → l ≡ get_or xs p 0
-        → ((c q : Bytes) → (w : ColumnName) × (as_column (tree_of (tree_at c q t) v c q t r) ≡ some w))
-        → (c q : Bytes) → l ≡ cell_label xs area n (tree_at c q t r)
-    unfolding cell_label
-    cell-named f g o c q = (rw f at g) ∙ sym (row_label c q ∙ rw (cell_label, (o c q).1))
+unnamed-tree : (c q : Bytes) (t : List ℕ) (r : ℕ) (k : Kind) → (k ≡ K.Column → ⊥) → (k ≡ K.Qualified → ⊥)
+    → as_column (tree_of (tree_at c q t) k c q t r) ≡ none
+unfolding as_column tree_of
+unnamed-tree c q t r K.Star f g = refl
+unnamed-tree c q t r K.Column f g = absurd (f refl)
+unnamed-tree c q t r K.Qualified f g = absurd (g refl)
+unnamed-tree c q t r K.Call f g = refl
+unnamed-tree c q t r K.Unary f g = refl
+unnamed-tree c q t r K.Binary f g = refl
+unnamed-tree c q t r K.Is f g = refl
+unnamed-tree c q t r K.Literal f g = refl
 
-    -- anything else
-    pub cell-none : ((c q : Bytes) → as_column (tree_of (tree_at c q t) v c q t r) ≡ none)
-        → (c q : Bytes) → 0 ≡ cell_label xs area n (tree_at c q t r)
-    unfolding cell_label
-    cell-none o c q = sym (row_label c q ∙ rw (cell_label, o c q))
+module _ (xs area : List ℕ) (n : ℕ) (t : List ℕ) (r : ℕ) (k : Kind) (h : number_of k ≡ kind_at t r) where
+  row_label : (c q : Bytes) → cell_label xs area n (tree_at c q t r) ≡ cell_label xs area n (tree_of (tree_at c q t) k c q t r)
+  row_label c q = ap (cell_label xs area n) (row-tree c q t r k h)
+
+  -- a column name
+  pub cell-named : {p l : ℕ} → (k ≡ K.Column) ⊎ (k ≡ K.Qualified) → p ≡ get_or area (cells_end n + 1) 0 → l ≡ get_or xs p 0
+      → (c q : Bytes) → l ≡ cell_label xs area n (tree_at c q t r)
+  unfolding cell_label
+  cell-named e f g c q = (rw f at g) ∙ sym (row_label c q ∙ rw (cell_label, (named-tree c q t r e).1))
+
+  -- anything else
+  pub cell-none : (k ≡ K.Column → ⊥) → (k ≡ K.Qualified → ⊥) → (c q : Bytes) → 0 ≡ cell_label xs area n (tree_at c q t r)
+  unfolding cell_label
+  cell-none f g c q = sym (row_label c q ∙ rw (cell_label, unnamed-tree c q t r k f g))

@@ -97,18 +97,6 @@ pub record Listing (cells₀ parts ts labels : List ℕ) (b : Bool) (k n s : ℕ
       → map (item_of c q x parts) (take n items) ++ chosen b (columns_of c q ts labels) (drop k (items_at c q cells₀ parts))
       ≡ chosen b (columns_of c q ts labels) (items_at c q cells₀ parts)
 
-pub listing-begin : (cells parts ts labels items : List ℕ) (b : Bool) → length cells ≡ table_size
-    → length items ≡ most_columns → Listing cells parts ts labels b 0 0 0 cells items
-listing-begin cells parts ts labels items b g h = record {
-  begun = g;
-  room = g;
-  space = h;
-  most = omega arith;
-  starred = omega arith;
-  kept = kept-all 0 _ cells;
-  holds = λ c q r x u v. refl;
-}
-
 -- the items of one entry, by its star
 pub record Found (c q : Bytes) (cells₀ parts ts labels : List ℕ) (b : Bool) (k : ℕ) (star : std.Option ℕ) : Type 0 where
   pub left : chosen b (columns_of c q ts labels) (drop k (items_at c q cells₀ parts))
@@ -257,7 +245,7 @@ module _ {cells₀ parts ts labels : List ℕ} {b : Bool} {k n s : ℕ} {cells i
 
   -- one entry more
   pub listing-more : {line : ℕ} {cells' items' : List ℕ} {x : Listed}
-      → ItemListed cells cells' ts labels items items' k line star n s (std.Ok x)
+      → ItemListed cells cells' ts labels items items' k line star (record { count = n; starred = s }) (std.Ok x)
       → Listing cells₀ parts ts labels b (k + 1) x.count x.starred cells' items'
   listing-more a = rw (a.is.count, a.is.starred, a.is.rows, a.is.numbers, add-one k) (by-star star found a.is.within)
     where
@@ -270,7 +258,7 @@ module _ {cells₀ parts ts labels : List ℕ} {b : Bool} {k n s : ℕ} {cells i
 
   -- one too many: the item behind the most, with its line
   pub listing-limit : {line : ℕ} {cells' items' : List ℕ} {x : Refusal}
-      → ItemListed cells cells' ts labels items items' k line star n s (std.Err x)
+      → ItemListed cells cells' ts labels items items' k line star (record { count = n; starred = s }) (std.Err x)
       → line ≡ (numbers_at parts item_kind k).line
       → (c q : Bytes) → Ready c q cells₀ parts ts labels
       → Wide most_columns (limit_line star line) (chosen b (columns_of c q ts labels) (items_at c q cells₀ parts))

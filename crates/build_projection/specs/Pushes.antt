@@ -1,5 +1,5 @@
 -- The items of a projection one after the other: their cells, and their parts of its node record.
-use Rattle.std.specs.Prelude.{ℕ, suc, pred, ◌+◌, ◌-◌, ◌*◌, ◌≤◌, ◌<◌, ◌≡◌, refl, length, take, drop, get_or, set, Result, MatchResult, OnOk, Ok, Err}
+use Rattle.std.specs.Prelude.{ℕ, suc, pred, ◌+◌, ◌-◌, ◌*◌, ◌≤◌, ◌<◌, ◌≡◌, refl, length, take, drop, get_or, set, MatchResult, OnOk, Ok, Err}
 use Rattle.std.proofs.Common.{arith, add-one, sym, ◌∙◌, drop_of_length-le, drop-cons}
 use Rattle.std.proofs.Math.Numerals.{sub-one}
 use Rattle.std.proofs.Math.Path.{ap}
@@ -26,11 +26,12 @@ use Rattle.scope.specs.UsedMatches.{used_matches}
 use Rattle.plan.specs.Layout.{cells_end, item_size}
 use Rattle.plan.specs.Cells.{Room}
 use Rattle.plan.specs.Emits.{Emitting, Written, Emits, accepted}
-use Rattle.plan.specs.Appended.{Appended, appended-none}
+use Rattle.plan.specs.Pushed.{Pushed, pushed-none}
+use Rattle.plan.specs.Pushed as nodes
+use Rattle.plan.specs.declared.nodes.Nodes.{Nodes}
 use Rattle.plan.specs.Parts.{items-on}
 use Rattle.plan.specs.Room.{items-size}
 use Rattle.plan.specs.Steps.{RefusedWith, refused-on, emits-refused}
-use Rattle.plan.specs.declared.steps.Part.{Part}
 use Rattle.build_expression.specs.Rows.{emit-within}
 use Rattle.build_expression.specs.Builds.{scope_at, Builds, used-at}
 use Rattle.build_projection.specs.Items.{item_of}
@@ -38,43 +39,43 @@ use Rattle.build_projection.specs.Aliases.{row_of, item-tree}
 
 -- CONTRACTS
 -- one item: its expression's cells and its part of the record, or its refusal
-pub record One (a : Emitting) (alias : Option Word) (n : ℕ) (area area' : List ℕ) (k : ℕ) (nodes nodes' : List ℕ)
-    (m j : ℕ) : Type 0 where
+pub record One (a : Emitting) (alias : Option Word) (n : ℕ) (area area' : List ℕ) (u v : Nodes) (m : ℕ) : Type 0 where
   pub cells : List Cell
   pub is : a ≡ ok (cells, m)
   pub stand : take (cells_end m) area' ≡ take (cells_end n) area ++ cells_numbers cells
-  pub part : Appended (item_numbers ((pred m, alias) ∷ [])) k nodes j nodes'
+  pub part : Pushed (item_numbers ((pred m, alias) ∷ [])) u v
 
-pub record ItemPut (c q : Bytes) (t parts xs ms ts : List ℕ) (x n : ℕ) (area area' : List ℕ) (k : ℕ)
-    (nodes nodes' : List ℕ) (r : Result Part Refusal) : Type 0 where
-  pub is : (h : ℕ) → MatchResult r (λ y. One (emit (scope_at c q t xs ms ts h) n (item_of c q t parts x).expr)
-      (item_of c q t parts x).alias n area area' k nodes nodes' y.cell y.used)
+pub record ItemPut (c q : Bytes) (t parts xs ms ts : List ℕ) (x n : ℕ) (area area' : List ℕ) (u v : Nodes) (r : Written)
+    : Type 0 where
+  pub kept : nodes.Kept u v
+  pub is : (h : ℕ) → MatchResult r (One (emit (scope_at c q t xs ms ts h) n (item_of c q t parts x).expr)
+      (item_of c q t parts x).alias n area area' u v)
       (RefusedWith (emit (scope_at c q t xs ms ts h) n (item_of c q t parts x).expr))
 
 -- the matches us are those that ms has, or none where nothing is matched
-pub used-put : {c q : Bytes} {t parts xs us ts : List ℕ} {x n : ℕ} {area area' : List ℕ} {k : ℕ} {nodes nodes' : List ℕ}
-    {r : Result Part Refusal} (ms : List ℕ) → us ≡ used_matches ms → ItemPut c q t parts xs us ts x n area area' k nodes nodes' r
-    → ItemPut c q t parts xs ms ts x n area area' k nodes nodes' r
-used-put {c} {q} {t} {xs = xs} {us} {ts} ms e p = record { is = λ h. rw (used-at c q t xs us ts ms h e) at (p.is h) }
+pub used-put : {c q : Bytes} {t parts xs us ts : List ℕ} {x n : ℕ} {area area' : List ℕ} {u v : Nodes}
+    {r : Written} (ms : List ℕ) → us ≡ used_matches ms → ItemPut c q t parts xs us ts x n area area' u v r
+    → ItemPut c q t parts xs ms ts x n area area' u v r
+used-put {c} {q} {t} {xs = xs} {us} {ts} ms e p =
+    record { kept = p.kept; is = λ h. rw (used-at c q t xs us ts ms h e) at (p.is h) }
 
 -- all items
-pub record All (a : Answer (Entries (ℕ × Option Word))) (n : ℕ) (area area' : List ℕ) (k : ℕ) (nodes nodes' : List ℕ)
-    (m j : ℕ) : Type 0 where
+pub record All (a : Answer (Entries (ℕ × Option Word))) (n : ℕ) (area area' : List ℕ) (u v : Nodes) (m : ℕ) : Type 0 where
   pub cells : List Cell
   pub parts : List (ℕ × Option Word)
   pub is : a ≡ ok (cells, parts, m)
   pub stand : take (cells_end m) area' ≡ take (cells_end n) area ++ cells_numbers cells
-  pub appended : Appended (item_numbers parts) k nodes j nodes'
+  pub pushed : Pushed (item_numbers parts) u v
 
-pub record ItemsPut (c q : Bytes) (t parts xs ms ts items : List ℕ) (n : ℕ) (area area' : List ℕ) (k : ℕ)
-    (nodes nodes' : List ℕ) (r : Result Part Refusal) : Type 0 where
+pub record ItemsPut (c q : Bytes) (t parts xs ms ts items : List ℕ) (n : ℕ) (area area' : List ℕ) (u v : Nodes)
+    (r : Written) : Type 0 where
+  pub kept : nodes.Kept u v
   pub is : (h : ℕ) → MatchResult r
-      (λ y. All (emit_firsts (item_built (scope_at c q t xs ms ts h)) n (map (item_of c q t parts) items))
-      n area area' k nodes nodes' y.cell y.used)
+      (All (emit_firsts (item_built (scope_at c q t xs ms ts h)) n (map (item_of c q t parts) items)) n area area' u v)
       (RefusedWith (emit_firsts (item_built (scope_at c q t xs ms ts h)) n (map (item_of c q t parts) items)))
 
 -- the labels that are stored: where the items are put, the first are those that f gives each; behind them all is as it was
-pub record Labelled (f : ℕ → ℕ) (items labels labels' : List ℕ) (r : Result Part Refusal) : Type 0 where
+pub record Labelled (f : ℕ → ℕ) (items labels labels' : List ℕ) (r : Written) : Type 0 where
   pub is : OnOk r (take (length items) labels' ≡ map f items)
   pub kept : Kept (length items) most_columns labels labels'
 
@@ -86,10 +87,10 @@ kept_next {i} {b} v {s} {s'} k =
 unfoldable pub items_size : Bytes → Bytes → List ℕ → List ℕ → List ℕ → ℕ
 items_size c q t parts items = total (λ x. size (item_of c q t parts x).expr) items
 
-pub record ItemsFit (c q : Bytes) (t parts items : List ℕ) (n : ℕ) (area : List ℕ) (k : ℕ) (nodes : List ℕ) : Type 0 where
+pub record ItemsFit (c q : Bytes) (t parts items : List ℕ) (n : ℕ) (area : List ℕ) (u : Nodes) : Type 0 where
   pub few : length items ≤ most_columns
   pub room : Room n (3 * items_size c q t parts items) area
-  pub space : k + item_size * length items ≤ length nodes
+  pub space : u.used + item_size * length items ≤ length u.numbers.now
 
 -- ONE ITEM
 module _ {c q : Bytes} {t xs ms ts : List ℕ} {r n : ℕ} {area area' : List ℕ} (parts : List ℕ) (x : ℕ)
@@ -98,9 +99,9 @@ module _ {c q : Bytes} {t xs ms ts : List ℕ} {r n : ℕ} {area area' : List �
       → Emits (emit (scope_at c q t xs ms ts h) n (item_of c q t parts x).expr) n area area' w
   emits-item b h = rw (item-tree c q t parts x, ← g) (b.is h)
 
-  pub put_refused : {w : Refusal} → Builds c q t xs ms ts r n area area' (Err w) → (k : ℕ) (nodes nodes' : List ℕ)
-      → ItemPut c q t parts xs ms ts x n area area' k nodes nodes' (Err w)
-  put_refused {w} b k nodes nodes' = record { is = λ h. emits-refused w (emits-item b h) refl }
+  pub put_refused : {w : Refusal} → Builds c q t xs ms ts r n area area' (Err w) → (u : Nodes)
+      → ItemPut c q t parts xs ms ts x n area area' u u (Err w)
+  put_refused {w} b u = record { kept = nodes.kept-all u; is = λ h. emits-refused w (emits-item b h) refl }
 
   module _ {m : ℕ} (b : Builds c q t xs ms ts r n area area' (Ok m)) where
     -- the next cell is behind the n-th, and there is room up to it
@@ -109,35 +110,35 @@ module _ {c q : Bytes} {t xs ms ts : List ℕ} {r n : ℕ} {area area' : List �
         let o = accepted m (emits-item b 0) refl in
         (emit-within (scope_at c q t xs ms ts 0) n (item_of c q t parts x).expr o.cells m o.is).some'
 
-    pub put-done : {k j : ℕ} {nodes nodes' : List ℕ}
-        → Appended (item_numbers ((m - 1, (item_of c q t parts x).alias) ∷ [])) k nodes j nodes'
-        → ItemPut c q t parts xs ms ts x n area area' k nodes nodes' (Ok (record { cell = m; used = j }))
+    pub put-done : {u v : Nodes} → Pushed (item_numbers ((m - 1, (item_of c q t parts x).alias) ∷ [])) u v
+        → ItemPut c q t parts xs ms ts x n area area' u v (Ok m)
     put-done a = record {
+      kept = a.kept;
       is = λ h.
           let o = accepted m (emits-item b h) refl in
           record { cells = o.cells; is = o.is; stand = (emits-item b h).cells o.cells m o.is; part = rw (← sub-one m) a };
     }
 
 -- ALL ITEMS
--- of the items, i are put: their cells up to the m-th, their parts up to the j-th number
-pub record Sofar (c q : Bytes) (t parts xs ms ts items : List ℕ) (n : ℕ) (area₀ area : List ℕ) (k : ℕ)
-    (nodes₀ nodes : List ℕ) (i m j h : ℕ) : Type 0 where
+-- of the items, i are put: their cells up to the m-th, and their parts
+pub record Sofar (c q : Bytes) (t parts xs ms ts items : List ℕ) (n : ℕ) (area₀ area : List ℕ) (u₀ u : Nodes) (i m h : ℕ)
+    : Type 0 where
   pub cells : List Cell
   pub entries : List (ℕ × Option Word)
   pub is : emit_firsts (item_built (scope_at c q t xs ms ts h)) n (map (item_of c q t parts) items)
       ≡ after (cells, entries, m)
       (emit_firsts (item_built (scope_at c q t xs ms ts h)) m (map (item_of c q t parts) (drop i items)))
   pub stand : take (cells_end m) area ≡ take (cells_end n) area₀ ++ cells_numbers cells
-  pub appended : Appended (item_numbers entries) k nodes₀ j nodes
+  pub pushed : Pushed (item_numbers entries) u₀ u
 
-pub record Pushing (c q : Bytes) (t parts xs ms ts items : List ℕ) (n : ℕ) (area₀ area : List ℕ) (k : ℕ)
-    (nodes₀ nodes : List ℕ) (i m j : ℕ) : Type 0 where
+pub record Pushing (c q : Bytes) (t parts xs ms ts items : List ℕ) (n : ℕ) (area₀ area : List ℕ) (u₀ u : Nodes) (i m : ℕ)
+    : Type 0 where
   pub within : i ≤ length items
   pub area-kept : length area ≡ length area₀
-  pub nodes-kept : length nodes ≡ length nodes₀
+  pub nodes-kept : nodes.Kept u₀ u
   pub room : Room m (3 * items_size c q t parts (drop i items)) area
-  pub space : j + item_size * (length items - i) ≤ length nodes
-  pub sofar : (h : ℕ) → Sofar c q t parts xs ms ts items n area₀ area k nodes₀ nodes i m j h
+  pub space : u.used + item_size * (length items - i) ≤ length u.numbers.now
+  pub sofar : (h : ℕ) → Sofar c q t parts xs ms ts items n area₀ area u₀ u i m h
 
 items-none : item_numbers [] ≡ []
 unfolding item_numbers
@@ -147,15 +148,15 @@ cells-none : cells_numbers [] ≡ []
 unfolding cells_numbers concat
 cells-none = refl
 
-pub pushing-begin : {c q : Bytes} {t parts items : List ℕ} {n : ℕ} {area : List ℕ} {k : ℕ} {nodes : List ℕ}
-    (xs ms ts : List ℕ) → ItemsFit c q t parts items n area k nodes
-    → Pushing c q t parts xs ms ts items n area area k nodes nodes 0 n k
-pushing-begin {n = n} {area} {k} {nodes} xs ms ts f =
-    let l : k ≤ length nodes = omega (arith, f.space) in
+pub pushing-begin : {c q : Bytes} {t parts items : List ℕ} {n : ℕ} {area : List ℕ} {u : Nodes}
+    (xs ms ts : List ℕ) → ItemsFit c q t parts items n area u
+    → Pushing c q t parts xs ms ts items n area area u u 0 n
+pushing-begin {n = n} {u = u} xs ms ts f =
+    let l : u.used ≤ length u.numbers.now = omega (arith, f.space) in
     record {
       within = omega arith;
       area-kept = refl;
-      nodes-kept = refl;
+      nodes-kept = nodes.kept-all u;
       room = f.room;
       space = omega (arith, f.space);
       sofar = λ h. record {
@@ -163,12 +164,12 @@ pushing-begin {n = n} {area} {k} {nodes} xs ms ts f =
         entries = [];
         is = sym (after_none n _);
         stand = rw (cells-none, append-nil);
-        appended = rw items-none (appended-none k nodes l);
+        pushed = rw items-none (pushed-none u l);
       };
     }
 
-module _ {c q : Bytes} {t parts xs ms ts items : List ℕ} {n : ℕ} {area₀ area : List ℕ} {k : ℕ}
-    {nodes₀ nodes : List ℕ} {i m j : ℕ} (p : Pushing c q t parts xs ms ts items n area₀ area k nodes₀ nodes i m j) where
+module _ {c q : Bytes} {t parts xs ms ts items : List ℕ} {n : ℕ} {area₀ area : List ℕ} {u₀ u : Nodes} {i m : ℕ}
+    (p : Pushing c q t parts xs ms ts items n area₀ area u₀ u i m) where
   abbrev here : ℕ
   here = get_or items i 0
 
@@ -187,49 +188,49 @@ module _ {c q : Bytes} {t parts xs ms ts items : List ℕ} {n : ℕ} {area₀ ar
       held = omega (arith, size-here, p.room.held);
     }
 
-    pub space-here : j + item_size ≤ length nodes
+    pub space-here : u.used + item_size ≤ length u.numbers.now
     space-here = omega (arith, p.space)
 
     item-here : map (item_of c q t parts) (drop i items)
         ≡ item_of c q t parts here ∷ map (item_of c q t parts) (drop (suc i) items)
     item-here = ap (map (item_of c q t parts)) (drop-cons items i 0 l)
 
-    module _ {area' nodes' : List ℕ} where
-      pub pushing-refused : {w : Refusal} → ItemPut c q t parts xs ms ts here m area area' j nodes nodes' (Err w)
-          → ItemsPut c q t parts xs ms ts items n area₀ area' k nodes₀ nodes' (Err w)
+    module _ {area' : List ℕ} {v : Nodes} where
+      pub pushing-refused : {w : Refusal} → ItemPut c q t parts xs ms ts here m area area' u v (Err w)
+          → ItemsPut c q t parts xs ms ts items n area₀ area' u₀ v (Err w)
       pushing-refused a = record {
+        kept = nodes.kept-on p.nodes-kept a.kept;
         is = λ h.
             let s = p.sofar h in
-            refused-on (a.is h) λ v e. s.is ∙ rw item-here
-            (firsts-stop (item_built (scope_at c q t xs ms ts h)) (s.cells, s.entries, m) _ _ v (item_refused _ m _ v e));
+            refused-on (a.is h) λ w e. s.is ∙ rw item-here
+            (firsts-stop (item_built (scope_at c q t xs ms ts h)) (s.cells, s.entries, m) _ _ w (item_refused _ m _ w e));
       }
 
-      pub pushing-more : {y : Part} → ItemPut c q t parts xs ms ts here m area area' j nodes nodes' (Ok y)
-          → length area' ≡ length area
-          → Pushing c q t parts xs ms ts items n area₀ area' k nodes₀ nodes' (i + 1) y.cell y.used
+      pub pushing-more : {y : ℕ} → ItemPut c q t parts xs ms ts here m area area' u v (Ok y) → length area' ≡ length area
+          → Pushing c q t parts xs ms ts items n area₀ area' u₀ v (i + 1) y
       pushing-more {y} a f =
           let o = a.is 0 in
-          let w = emit-within (scope_at c q t xs ms ts 0) m (item_of c q t parts here).expr o.cells y.cell o.is in
+          let w = emit-within (scope_at c q t xs ms ts 0) m (item_of c q t parts here).expr o.cells y o.is in
           rw (add-one i) (record {
             within = omega arith;
             area-kept = f ∙ p.area-kept;
-            nodes-kept = o.part.all ∙ p.nodes-kept;
+            nodes-kept = nodes.kept-on p.nodes-kept a.kept;
             room = record {
               counted = omega (arith, size-here, w.most, p.room.counted);
               held = omega (arith, size-here, w.most, p.room.held, f);
             };
-            space = omega (arith, p.space, o.part.next, item-three (pred y.cell) (item_of c q t parts here).alias, o.part.all);
+            space = omega (arith, p.space, o.part.appended.next, item-three (pred y) (item_of c q t parts here).alias, a.kept.all);
             sofar = λ h.
                 let s = p.sofar h in
                 let b = a.is h in
                 record {
                   cells = s.cells ++ b.cells;
-                  entries = s.entries ++ ((pred y.cell, (item_of c q t parts here).alias) ∷ []);
+                  entries = s.entries ++ ((pred y, (item_of c q t parts here).alias) ∷ []);
                   is = s.is ∙ rw item-here (firsts-step (item_built (scope_at c q t xs ms ts h)) (s.cells, s.entries, m)
-                      _ _ b.cells _ y.cell (item-step _ m _ b.cells y.cell b.is));
+                      _ _ b.cells _ y (item-step _ m _ b.cells y b.is));
                   stand = b.stand ∙ rw (s.stand, cells-numbers-append s.cells b.cells)
                       (append_assoc (take (cells_end n) area₀) (cells_numbers s.cells) (cells_numbers b.cells));
-                  appended = items-on s.entries _ s.appended b.part;
+                  pushed = items-on s.entries _ s.pushed b.part;
                 };
           })
         where
@@ -237,8 +238,9 @@ module _ {c q : Bytes} {t parts xs ms ts items : List ℕ} {n : ℕ} {area₀ ar
           item-three x v = items-size ((x, v) ∷ [])
 
   pub pushing-end : length items ≤ i
-      → ItemsPut c q t parts xs ms ts items n area₀ area k nodes₀ nodes (Ok (record { cell = m; used = j }))
+      → ItemsPut c q t parts xs ms ts items n area₀ area u₀ u (Ok m)
   pushing-end l = record {
+    kept = p.nodes-kept;
     is = λ h.
         let s = p.sofar h in
         let d : map (item_of c q t parts) (drop i items) ≡ [] =
@@ -248,6 +250,6 @@ module _ {c q : Bytes} {t parts xs ms ts items : List ℕ} {n : ℕ} {area₀ ar
           parts = s.entries;
           is = s.is ∙ rw d (firsts-done (item_built (scope_at c q t xs ms ts h)) (s.cells, s.entries, m));
           stand = s.stand;
-          appended = s.appended;
+          pushed = s.pushed;
         };
   }

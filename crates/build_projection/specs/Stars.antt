@@ -1,6 +1,6 @@
 -- The columns that a star stands for, by the names of FROM's labels: what their rows hold, and what is read back.
 use Rattle.std.specs.Prelude.{ℕ, zero, suc, ◌+◌, ◌-◌, ◌*◌, ◌≤◌, ◌<◌, ◌≡◌, Bool, true, false, List, [], ◌∷◌, map, eqb, length, get_or, drop}
-use Rattle.std.proofs.Common.{arith, add-one, sub-one, add-zero, sym, ap, ◌∙◌, drop_of_length-le, drop-cons, eqb-true}
+use Rattle.std.proofs.Common.{arith, add-one, sub-one, sym, ap, ◌∙◌, drop_of_length-le, drop-cons, eqb-true}
 use Rattle.std.proofs.Math.Path.{refl}
 use Rattle.std.proofs.Math.Option.{none, some}
 use Rattle.std.proofs.Math.Seq.{length-sets}
@@ -62,9 +62,6 @@ columns-more cells ts k l x xs = refl
 -- one label after the other, i of them so far
 pub record Putting (cells₀ ts xs : List ℕ) (k l i : ℕ) (cells : List ℕ) : Type 0 where
   pub rest : with_columns cells ts (k + i) l (drop i xs) ≡ with_columns cells₀ ts k l xs
-
-pub putting-begin : (cells ts xs : List ℕ) (k l : ℕ) → Putting cells ts xs k l 0 cells
-putting-begin cells ts xs k l = record { rest = rw (add-zero k) }
 
 module _ {cells₀ ts xs : List ℕ} {k l i : ℕ} {cells : List ℕ} (h : Putting cells₀ ts xs k l i cells) where
   pub putting-more : {cells' : List ℕ} → i < length xs → cells' ≡ with_column cells ts (k + i) l (get_or xs i 0)

@@ -40,48 +40,48 @@ unfoldable pub cells_with : std.Option ℕ → (cells ts : List ℕ) → ℕ →
 cells_with std.None cells ts s labels = cells
 cells_with (std.Some l) cells ts s labels = with_columns cells ts s l labels
 
--- listed behind n items and s starred columns: there is room for it
-pub record Listable (cells cells' ts labels items items' : List ℕ) (k : ℕ) (star : std.Option ℕ) (n s : ℕ) (x : Listed)
+-- listed behind those before: there is room for it
+pub record Listable (cells cells' ts labels items items' : List ℕ) (k : ℕ) (star : std.Option ℕ) (before x : Listed)
     : Type 0 where
-  pub within : n + width_of star (length labels) ≤ most_columns
-  pub count : x.count ≡ n + width_of star (length labels)
-  pub starred : x.starred ≡ s + starred_of star (length labels)
-  pub rows : cells' ≡ cells_with star cells ts s labels
-  pub numbers : items' ≡ sets items n (numbers_for star k s (length labels))
+  pub within : before.count + width_of star (length labels) ≤ most_columns
+  pub count : x.count ≡ before.count + width_of star (length labels)
+  pub starred : x.starred ≡ before.starred + starred_of star (length labels)
+  pub rows : cells' ≡ cells_with star cells ts before.starred labels
+  pub numbers : items' ≡ sets items before.count (numbers_for star k before.starred (length labels))
 
 -- one too many
 pub record TooMany (w line : ℕ) (star : std.Option ℕ) (n : ℕ) (x : Refusal) : Type 0 where
   pub beyond : most_columns < n + width_of star w
   pub is : x ≡ record { reason = named limit_passed; line = limit_line star line }
 
-pub record ItemListed (cells cells' ts labels items items' : List ℕ) (k line : ℕ) (star : std.Option ℕ) (n s : ℕ)
+pub record ItemListed (cells cells' ts labels items items' : List ℕ) (k line : ℕ) (star : std.Option ℕ) (before : Listed)
     (r : std.Result Listed Refusal) : Type 0 where
-  pub is : std.MatchResult r (Listable cells cells' ts labels items items' k star n s)
-      (TooMany (length labels) line star n)
+  pub is : std.MatchResult r (Listable cells cells' ts labels items items' k star before)
+      (TooMany (length labels) line star before.count)
 
-module _ (cells ts labels items : List ℕ) (k line n s : ℕ) where
-  pub entry-limit : most_columns ≤ n → ItemListed cells cells ts labels items items k line std.None n s
+module _ (cells ts labels items : List ℕ) (k line : ℕ) (before : Listed) where
+  pub entry-limit : most_columns ≤ before.count → ItemListed cells cells ts labels items items k line std.None before
       (std.Err (record { reason = LimitPassed; line = line }))
   unfolding width_of limit_line named
   entry-limit h = record { is = record { beyond = omega arith; is = refl } }
 
-  pub entry_listed : n < most_columns → ItemListed cells cells ts labels items (set items n k) k line std.None n s
-      (std.Ok (record { count = n + 1; starred = s }))
+  pub entry_listed : before.count < most_columns → ItemListed cells cells ts labels items (set items before.count k) k line std.None before
+      (std.Ok (record { count = before.count + 1; starred = before.starred }))
   unfolding width_of starred_of cells_with numbers_for
   entry_listed h = record {
     is = record { within = omega arith; count = refl; starred = omega arith; rows = refl; numbers = refl };
   }
 
-  pub star-limit : (l : ℕ) → most_columns < n + length labels
-      → ItemListed cells cells ts labels items items k line (std.Some l) n s
+  pub star-limit : (l : ℕ) → most_columns < before.count + length labels
+      → ItemListed cells cells ts labels items items k line (std.Some l) before
       (std.Err (record { reason = LimitPassed; line = l }))
   unfolding width_of limit_line named
   star-limit l h = record { is = record { beyond = h; is = refl } }
 
-  pub star-listed : (l : ℕ) (cells' items' : List ℕ) → n + length labels ≤ most_columns
-      → cells' ≡ with_columns cells ts s l labels → items' ≡ sets items n (up_to (starred_row s) (length labels))
-      → ItemListed cells cells' ts labels items items' k line (std.Some l) n s
-      (std.Ok (record { count = n + length labels; starred = s + length labels }))
+  pub star-listed : (l : ℕ) (cells' items' : List ℕ) → before.count + length labels ≤ most_columns
+      → cells' ≡ with_columns cells ts before.starred l labels → items' ≡ sets items before.count (up_to (starred_row before.starred) (length labels))
+      → ItemListed cells cells' ts labels items items' k line (std.Some l) before
+      (std.Ok (record { count = before.count + length labels; starred = before.starred + length labels }))
   unfolding width_of starred_of cells_with numbers_for
   star-listed l cells' items' h e f = record {
     is = record { within = h; count = refl; starred = refl; rows = e; numbers = f };
@@ -92,13 +92,6 @@ module _ (cells ts labels items : List ℕ) (k line n s : ℕ) where
 pub record Filling (items₀ : List ℕ) (n first w j : ℕ) (items : List ℕ) : Type 0 where
   pub space : length items ≡ length items₀
   pub rest : sets items (n + j) (up_to (first + j) (w - j)) ≡ sets items₀ n (up_to first w)
-
-pub filling-begin : (items : List ℕ) (n first w : ℕ) → Filling items n first w 0 items
-filling-begin items n first w =
-    let a : n + 0 ≡ n = omega arith in
-    let b : first + 0 ≡ first = omega arith in
-    let c : w - 0 ≡ w = omega arith in
-    record { space = refl; rest = rw (a, b, c) }
 
 module _ {items₀ : List ℕ} {n first w j : ℕ} {items : List ℕ} (h : Filling items₀ n first w j items) where
   pub filling-more : {v i : ℕ} → v ≡ first + j → i ≡ n + j → j < w → Filling items₀ n first w (j + 1) (set items i v)

@@ -1,6 +1,6 @@
 -- The contract of the items: what is asked of the rows, the labels and the parts, and what the listed numbers stand for.
-use Rattle.std.specs.Prelude.{ℕ, ◌*◌, ◌≤◌, ◌≡◌, Bool, true, false, List, map, length, take, Result, Ok, Err}
-use Rattle.rules.specs.Refusals.{Answer, ok, refused, ◌>>=◌, at_most}
+use Rattle.std.specs.Prelude.{ℕ, ◌*◌, ◌≤◌, ◌≡◌, Bool, true, false, List, map, length, take, Result}
+use Rattle.rules.specs.Refusals.{Answer, ok, ◌>>=◌, at_most}
 use Rattle.rules.specs.Limits.{most_columns, most_entries}
 use Rattle.rules.specs.Lists.{Bytes}
 use Rattle.rules.specs.Ast.{Item, Select}

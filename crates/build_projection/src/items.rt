@@ -12,7 +12,6 @@ ghost use Rattle.scope.specs.Scopes.{up_to};
 ghost use Rattle.build_projection.specs.Items.{entry_item, item_of, items_at, sought, single};
 ghost use Rattle.build_projection.specs.Steps.{ItemListed};
 ghost use Rattle.build_projection.specs.Terms.{ItemsExpanded, ItemsBuilt};
-ghost use Rattle.sections.specs.Access.{item_kind, numbers_at};
 
 use super::stars::put_columns;
 use ast::row::{Kind, kind_of, line};
@@ -23,7 +22,7 @@ use scope::COLUMNS;
 use sections::entry::{count, entry_at, first_row};
 
 // How many items are listed so far, and how many starred columns.
-#[derive(Clone, Copy)]
+#[derive(Clone, Copy, Debug, PartialEq, Eq)]
 struct Listed {
     count: u32,
     starred: u32,
@@ -33,8 +32,7 @@ struct Listed {
 fn star_at(cells: &[u32], r: usize) -> Option<u32>
     ensures { (c q : Bytes) → option_of result ≡ as_star (tree_at c q cells.now r) }
 {
-    let k = kind_of(cells, r);
-    match k {
+    match kind_of(cells, r) {
         Kind::Star => Some(line(cells, r)),
         _ => None,
     }
@@ -45,10 +43,10 @@ fn plain_entry(cells: &[u32], parts: &[u32], k: u32) -> Option<u32>
     ensures { (c q : Bytes) → option_of result ≡ plain_star (entry_item c q cells.now parts.now k ∷ []) }
 {
     let e = entry_at(parts, Section::Item, k);
-    if e.length != 0 {
-        return None;
+    match e.name {
+        Some(_) => None,
+        None => star_at(cells, first_row(e)),
     }
-    star_at(cells, first_row(e))
 }
 
 // The star that item x is, where it has no alias.
@@ -68,9 +66,8 @@ fn plain_star(cells: &[u32], parts: &[u32]) -> Option<u32>
 {
     let n = count(parts, Section::Item);
     for k in 0..n {
-        let star = plain_entry(cells, parts, k);
-        if let Some(l) = star {
-            return Some(l);
+        if let Some(line) = plain_entry(cells, parts, k) {
+            return Some(line);
         }
     }
     None
@@ -86,8 +83,8 @@ fn put_rows(items: &mut [u32], n: usize, first: u32, w: usize)
     }
 }
 
-// Behind n items, s of the columns starred: entry k, of a line, or the columns that its star stands for. Refused at the
-// star or the item past the most.
+// Behind the items listed so far: entry k, of a line, or the columns that its star stands for. Refused at the star or the
+// item past the most.
 fn list_item(
     cells: &mut [u32],
     tables: &[u32],
@@ -96,41 +93,33 @@ fn list_item(
     k: u32,
     line: u32,
     star: Option<u32>,
-    n: u32,
-    s: u32,
+    listed: Listed,
 ) -> Result<Listed, Refusal>
-    requires { (length items.old ≡ most_columns) × (s ≤ n) × (n ≤ most_columns) }
-    ensures { ItemListed cells.old cells.new tables.now labels.now
-        items.old items.new k line star n s result }
+    requires { (length items.old ≡ most_columns) × (listed.starred ≤ listed.count) × (listed.count ≤ most_columns) }
+    ensures { ItemListed cells.old cells.new tables.now labels.now items.old items.new k line star listed result }
 {
+    let n = listed.count as usize;
     match star {
         None => {
-            if COLUMNS <= n as usize {
-                return Err(Refusal {
-                    reason: Reason::LimitPassed,
-                    line,
-                });
+            if COLUMNS <= n {
+                return Err(Reason::LimitPassed.at(line));
             }
-            items[n as usize] = k;
+            items[n] = k;
             Ok(Listed {
-                count: n + 1,
-                starred: s,
+                count: listed.count + 1,
+                starred: listed.starred,
             })
         }
-        Some(l) => {
-            let left = COLUMNS - n as usize;
-            if left < labels.len() {
-                return Err(Refusal {
-                    reason: Reason::LimitPassed,
-                    line: l,
-                });
-            }
+        Some(line) => {
             let w = labels.len();
-            put_columns(cells, tables, labels, s, l);
-            put_rows(items, n as usize, STATEMENT_ROWS + s, w);
+            if COLUMNS - n < w {
+                return Err(Reason::LimitPassed.at(line));
+            }
+            put_columns(cells, tables, labels, listed.starred, line);
+            put_rows(items, n, STATEMENT_ROWS + listed.starred, w);
             Ok(Listed {
-                count: n + w as u32,
-                starred: s + w as u32,
+                count: listed.count + w as u32,
+                starred: listed.starred + w as u32,
             })
         }
     }
@@ -147,14 +136,6 @@ fn item_star(cells: &[u32], parts: &[u32], expand: bool, k: u32) -> Option<u32>
     star_at(cells, first_row(e))
 }
 
-// The line of entry k.
-fn item_line(parts: &[u32], k: u32) -> u32
-    ensures { result ≡ (numbers_at parts.now item_kind k).line }
-{
-    let e = entry_at(parts, Section::Item, k);
-    e.line
-}
-
 // How many items there are, stars expanded or not.
 fn expand_items(
     cells: &mut [u32],
@@ -169,26 +150,23 @@ fn expand_items(
         labels.now items.new expand result }
 {
     let total = count(parts, Section::Item);
-    let mut n: u32 = 0;
-    let mut s: u32 = 0;
+    let mut listed = Listed {
+        count: 0,
+        starred: 0,
+    };
     for k in 0..total {
         let star = item_star(cells, parts, expand, k);
-        let line = item_line(parts, k);
-        let listed = list_item(cells, tables, labels, items, k, line, star, n, s)?;
-        n = listed.count;
-        s = listed.starred;
+        let line = entry_at(parts, Section::Item, k).line;
+        listed = list_item(cells, tables, labels, items, k, line, star, listed)?;
     }
-    Ok(n)
+    Ok(listed.count)
 }
 
 // Whether there is one item and no group.
 fn is_single(parts: &[u32]) -> bool
     ensures { result ≡ single parts.now }
 {
-    if count(parts, Section::Item) != 1 {
-        return false;
-    }
-    count(parts, Section::Group) == 0
+    count(parts, Section::Item) == 1 && count(parts, Section::Group) == 0
 }
 
 // How many items there are over FROM's columns by their labels and tables. Refused too at a star that has no columns.
@@ -203,15 +181,11 @@ pub fn build_items(
     ensures { ItemsBuilt cells.old cells.new parts.now tables.now
         labels.now items.new result }
 {
-    let star = plain_star(cells, parts);
-    match star {
+    match plain_star(cells, parts) {
         None => expand_items(cells, parts, tables, labels, items, false),
-        Some(l) => {
-            if labels.len() == 0 {
-                return Err(Refusal {
-                    reason: Reason::StarWithoutFrom,
-                    line: l,
-                });
+        Some(line) => {
+            if labels.is_empty() {
+                return Err(Reason::StarWithoutFrom.at(line));
             }
             let single = is_single(parts);
             expand_items(cells, parts, tables, labels, items, !single)

@@ -26,16 +26,9 @@ fn position(area: &[u32], n: u32) -> usize
 fn cell_label(table: &[u32], r: usize, labels: &[u32], area: &[u32], n: u32) -> u32
     ensures { (c q : Bytes) → result ≡ cell_label labels.now area.now n (tree_at c q table.now r) }
 {
-    let kind = kind_of(table, r);
-    match kind {
-        Kind::Column => number(labels, position(area, n)),
-        Kind::Qualified => number(labels, position(area, n)),
-        Kind::Star => 0,
-        Kind::Call => 0,
-        Kind::Unary => 0,
-        Kind::Binary => 0,
-        Kind::Is => 0,
-        Kind::Literal => 0,
+    match kind_of(table, r) {
+        Kind::Column | Kind::Qualified => number(labels, position(area, n)),
+        _ => 0,
     }
 }
 

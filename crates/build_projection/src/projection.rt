@@ -15,11 +15,11 @@ use ast::rows::STATEMENT_ROWS;
 use build_expression::build_item;
 use entries::Section;
 use numbers::refusals::Refusal;
+use plan::nodes::Nodes;
 use plan::parts::item;
-use plan::steps::Part;
 use scope::view::View;
 use sections::entry::{entry_at, first_row};
-use statement::access::name_start;
+use statement::access::name_or;
 use text::places::{Place, Texts};
 
 // The row of item x.
@@ -43,12 +43,7 @@ pub(crate) fn alias_at(texts: &Texts, parts: &[u32], x: u32) -> Place
 {
     if x < STATEMENT_ROWS {
         let e = entry_at(parts, Section::Item, x);
-        let address = name_start(e);
-        let length = texts.length_at(Place {
-            address,
-            length: e.length,
-        });
-        return Place { address, length };
+        return texts.clipped(name_or(e.name));
     }
     Place {
         address: 0,
@@ -56,68 +51,58 @@ pub(crate) fn alias_at(texts: &Texts, parts: &[u32], x: u32) -> Place
     }
 }
 
-// Item x: its cells, and its part of the record.
+// Item x: its cells, and its part of the record. Gives the next cell.
 fn put_item(
     exprs: &Expressions,
     parts: &[u32],
     x: u32,
     scope: &View,
     area: &mut [u32],
-    nodes: &mut [u32],
-    at: Part,
-) -> Result<Part, Refusal>
-    requires room { Room at.cell (3 * size (item_of exprs.now.texts.catalog.now exprs.now.texts.statement.now
+    nodes: &mut Nodes,
+    cell: u32,
+) -> Result<u32, Refusal>
+    requires room { Room cell (3 * size (item_of exprs.now.texts.catalog.now exprs.now.texts.statement.now
         exprs.now.table.now parts.now x).expr) area.old }
-    requires item_size_in_bounds { at.used + item_size ≤ length nodes.old }
+    requires item_size_in_bounds { nodes.old.used + item_size ≤ length nodes.old.numbers.now }
     ensures { ItemPut exprs.now.texts.catalog.now exprs.now.texts.statement.now exprs.now.table.now parts.now
         scope.now.labels.now scope.now.matches.now scope.now.tables.now
-        x at.cell area.old area.new at.used nodes.old nodes.new result }
+        x cell area.old area.new nodes.old nodes.new result }
 {
     let row = item_row(parts, x);
-    let built = build_item(exprs, row, scope, area, at.cell)?;
+    let next = build_item(exprs, row, scope, area, cell)?;
     let alias = alias_at(&exprs.texts, parts, x);
-    let used = item(nodes, at.used, built - 1, Some(alias));
-    Ok(Part { cell: built, used })
+    item(nodes, next - 1, Some(alias));
+    Ok(next)
 }
 
-// All items, one after the other, and the label of each.
+// All items, one after the other, and the label of each. Gives the next cell.
 pub fn put_items(
     exprs: &Expressions,
     parts: &[u32],
     items: &[u32],
     scope: &View,
     area: &mut [u32],
-    nodes: &mut [u32],
-    at: Part,
+    nodes: &mut Nodes,
+    cell: u32,
     projected: &mut [u32],
-) -> Result<Part, Refusal>
+) -> Result<u32, Refusal>
     requires projected_len { length projected.old ≡ most_columns }
     requires items_fit { ItemsFit exprs.now.texts.catalog.now exprs.now.texts.statement.now exprs.now.table.now parts.now
-        items.now at.cell area.old at.used nodes.old }
+        items.now cell area.old nodes.old }
     ensures items_put { ItemsPut exprs.now.texts.catalog.now exprs.now.texts.statement.now exprs.now.table.now parts.now
         scope.now.labels.now scope.now.matches.now scope.now.tables.now
-        items.now at.cell area.old area.new at.used nodes.old nodes.new result }
+        items.now cell area.old area.new nodes.old nodes.new result }
     ensures labelled { Labelled (label_number exprs.now.texts.catalog.now exprs.now.texts.statement.now exprs.now.table.now
         parts.now
         scope.now.labels.now scope.now.matches.now scope.now.tables.now)
         items.now projected.old projected.new result }
 {
     let used = scope.used();
-    let mut m = at.cell;
-    let mut j = at.used;
+    let mut m = cell;
     for (i, &x) in items.iter().enumerate() {
-        let part = put_item(
-            exprs,
-            parts,
-            x,
-            &used,
-            area,
-            nodes,
-            Part { cell: m, used: j },
-        )?;
+        let next = put_item(exprs, parts, x, &used, area, nodes, m)?;
         projected[i] = item_label(exprs, parts, x, scope, &used, area, m);
-        m = part.cell;
-        j = part.used;
+        m = next;
     }
-    Ok(Part { cell: m, used: j })
+    Ok(m)
 }

@@ -20,12 +20,13 @@ use Rattle.appends.specs.Select.Stages.{select_remap, select_limit, select_offse
 use Rattle.ast.specs.Table.{tree_at}
 use Rattle.scope.specs.Scopes.{scope_of}
 use Rattle.plan.specs.Layout.{most_plan_cells, nodes_size, plan_size, rows_size, source_head, select_code}
-use Rattle.plan.specs.Appended.{appended-start}
+use Rattle.plan.specs.Pushed.{pushed-none}
 use Rattle.plan.specs.Finished.{finished}
 use Rattle.plan.specs.Exit.{pieces, select-exit}
 use Rattle.numbers.specs.declared.refusals.Refusal.{Refusal}
 use Rattle.plan.specs.Emits.{Written}
 use Rattle.plan.specs.Steps.{refused-on, Steps}
+use Rattle.plan.specs.declared.nodes.Nodes.{Nodes}
 use Rattle.plan.specs.declared.steps.Step.{Step}
 use Rattle.sections.specs.Access.{offset_kind, limit_kind}
 use Rattle.statement.specs.EntryAccess.{clause_at, clause_of}
@@ -40,12 +41,13 @@ use Rattle.build_select.specs.Held.{plans-after}
 use Rattle.build_select.specs.States.{clause-read, OrderState, OffsetState, LimitState}
 
 -- THE END: all of a plan stands
-module _ {q : Select} {d : Node Built} {n m k : ℕ} {area nodes : List ℕ} (h : Held q d n m k area nodes) where
-  pub end-room : n ≤ most_plan_cells
-      → (plan_size ≤ length area) × (n ≤ most_plan_cells) × (k ≤ k) × (k ≤ nodes_size) × (k ≤ length nodes)
+module _ {q : Select} {d : Node Built} {i : Step} {area : List ℕ} {nodes : Nodes} (h : Held q d i area nodes) where
+  pub end-room : i.cell ≤ most_plan_cells
+      → (plan_size ≤ length area) × (i.cell ≤ most_plan_cells) × (nodes.used ≤ nodes.used) × (nodes.used ≤ nodes_size)
+      × (nodes.used ≤ length nodes.numbers.now)
   end-room l =
-      let a = h.standing.stands.records in
-      let e = h.standing.kept-nodes in (
+      let a = h.standing.stands.records.appended in
+      let e = h.standing.stands.records.kept.all in (
         omega (arith, h.free.area_room),
         l,
         omega arith,
@@ -53,16 +55,18 @@ module _ {q : Select} {d : Node Built} {n m k : ℕ} {area nodes : List ℕ} (h 
         omega (arith, a.fits, e),
       )
 
-  pub select-ends : {a : Answer (Plan Built)} {area' : List ℕ} → n ≤ most_plan_cells → a ≡ ok (P.select d)
-      → length area' ≡ length area → area' ≡ finished select_code n m k k nodes area → Plans a area area' (Ok n)
+  pub select-ends : {a : Answer (Plan Built)} {area' : List ℕ} → i.cell ≤ most_plan_cells → a ≡ ok (P.select d)
+      → length area' ≡ length area → area' ≡ finished select_code i.cell i.node nodes.used nodes.used nodes.numbers.now area
+      → Plans a area area' (Ok i.cell)
   select-ends {a} {area'} l e f z =
       let s = h.standing in
-      let ps = pieces {cs = s.cells} {n = n} {t = area} s.records [] h.area₀ s.kept
-      (omega (arith, l, h.free.area_room)) s.stands.cells s.stands.records
-      (appended-start s.stands.records) in
-      planned (P.select d) e (select-count d s.cells s.records n m s.lays) f
-      (z ∙ select-exit s.cells s.records n m k k nodes area area refl d
-      (select-area d s.cells s.records n m s.lays) ps)
+      let a = s.stands.records in
+      let ps = pieces {cs = s.cells} {n = i.cell} {t = area} s.records [] h.area₀ s.kept
+      (omega (arith, l, h.free.area_room)) s.stands.cells s.none a
+      (pushed-none nodes (omega (arith, a.appended.fits, a.kept.all))) in
+      planned (P.select d) e (select-count d s.cells s.records i.cell i.node s.lays) f
+      (z ∙ select-exit s.cells s.records i.cell i.node nodes.used nodes.used nodes.numbers.now area area refl d
+      (select-area d s.cells s.records i.cell i.node s.lays) ps)
 
 -- THE LAST REMAP
 -- it appends no cell
@@ -74,11 +78,11 @@ remap-cells d s = go (remap_hidden s)
     go none = refl
     go (some ts) = unfold cell_count expressions in refl
 
-module _ {w g n m k : ℕ} {area nodes : List ℕ} (h : LimitState w g n m k area nodes) where
-  pub end-cells : n ≤ most_plan_cells
+module _ {w g : ℕ} {i : Step} {area : List ℕ} {nodes : Nodes} (h : LimitState w g i area nodes) where
+  pub end-cells : i.cell ≤ most_plan_cells
   end-cells = omega (arith, held-cells h.held, rooms.limit-cells h.past h.offset h.is)
 
-  pub remap-follows : Follows (source_head + w) m k nodes
+  pub remap-follows : Follows (source_head + w) i.node nodes
   remap-follows = held-follows h.held (omega (
     arith,
     held-numbers h.held,
@@ -99,10 +103,10 @@ module _ {w g n m k : ℕ} {area nodes : List ℕ} (h : LimitState w g n m k are
   abbrev q : Bytes
   q = h.texts.1
 
-  module _ {nodes' : List ℕ} {p : Step} (s : Steps (λ d. d)
-      (λ d. ok (build_remap d (scope_of (tree_at c q h.cells) c q h.scope))) n m k area nodes area nodes' (Ok p)) where
-    on : HeldOn h.select (λ d. d) (ok (build_remap h.node (scope_of (tree_at c q h.cells) c q h.scope))) p.cell p.node
-        p.used area nodes'
+  module _ {nodes' : Nodes} {p : Step} (s : Steps (λ d. d)
+      (λ d. ok (build_remap d (scope_of (tree_at c q h.cells) c q h.scope))) i.cell i.node area nodes area nodes'
+      (Ok p)) where
+    on : HeldOn h.select (λ d. d) (ok (build_remap h.node (scope_of (tree_at c q h.cells) c q h.scope))) p area nodes'
     on = step-on h.held s p refl
 
     node-is : build_remap h.node h.stage.scope ≡ on.node
@@ -118,39 +122,40 @@ module _ {w g n m k : ℕ} {area nodes : List ℕ} (h : LimitState w g n m k are
       ap cell_count node-is,
     )
 
-    pub remapped-room : (plan_size ≤ length area) × (p.cell ≤ most_plan_cells) × (p.used ≤ p.used) × (p.used ≤ nodes_size)
-        × (p.used ≤ length nodes')
+    pub remapped-room : (plan_size ≤ length area) × (p.cell ≤ most_plan_cells) × (nodes'.used ≤ nodes'.used)
+        × (nodes'.used ≤ nodes_size) × (nodes'.used ≤ length nodes'.numbers.now)
     remapped-room = end-room on.held remapped-cells
 
     pub remapped-plans : {area' : List ℕ} → length area' ≡ length area
-        → area' ≡ finished select_code p.cell p.node p.used p.used nodes' area
+        → area' ≡ finished select_code p.cell p.node nodes'.used nodes'.used nodes'.numbers.now area
         → Plans (select_remap h.select h.stage h.node) area area' (Ok p.cell)
     unfolding select_remap
     remapped-plans f z = select-ends on.held remapped-cells (ap (λ (d : Node Built). ok (P.select d)) node-is) f z
 
 -- LIMIT
-module _ {c q : Bytes} {cells parts : List ℕ} {w g n m k : ℕ} {area nodes : List ℕ}
-    (h : OffsetState c q cells parts w g n m k area nodes) where
-  pub limit-follows : Follows rows_size m k nodes
+module _ {c q : Bytes} {cells parts : List ℕ} {w g : ℕ} {i : Step} {area : List ℕ} {nodes : Nodes}
+    (h : OffsetState c q cells parts w g i area nodes) where
+  pub limit-follows : Follows rows_size i.node nodes
   limit-follows = held-follows h.held
       (omega (arith, held-numbers h.held, rooms.limit-numbers h.past h.is h.held.free.fits, h.held.free.later))
 
   limit-clause : {z : std.Option Clause} → z ≡ clause_at parts limit_kind → h.select.limit ≡ clause_of c q cells z
   limit-clause hz = h.read.limit ∙ clause-read c q cells parts limit_kind h.read.table hz
 
-  abbrev LimitSteps : std.Option Clause → List ℕ → Result Step Refusal → Type 0
-  LimitSteps z nodes' r = Steps (λ d. d) (λ d. build_rows invalid_limit (λ i t. P.limit t i) d (clause_of c q cells z)) n m k area nodes area nodes' r
+  abbrev LimitSteps : std.Option Clause → Nodes → Result Step Refusal → Type 0
+  LimitSteps z nodes' r = Steps (λ d. d) (λ d. build_rows invalid_limit (λ i t. P.limit t i) d (clause_of c q cells z)) i.cell i.node area nodes area nodes' r
 
-  limit-step : {z : std.Option Clause} → z ≡ clause_at parts limit_kind → {nodes' : List ℕ} (r : Result Step Refusal) → LimitSteps z nodes' r
-      → Steps (λ d. d) (λ d. build_rows invalid_limit (λ i t. P.limit t i) d h.select.limit) n m k area nodes area nodes' r
+  limit-step : {z : std.Option Clause} → z ≡ clause_at parts limit_kind → {nodes' : Nodes} (r : Result Step Refusal) → LimitSteps z nodes' r
+      → Steps (λ d. d) (λ d. build_rows invalid_limit (λ i t. P.limit t i) d h.select.limit) i.cell i.node area nodes area nodes' r
   limit-step hz r t = rw (limit-clause hz) t
 
-  module _ {z : std.Option Clause} (hz : z ≡ clause_at parts limit_kind) {nodes' : List ℕ} where
+  module _ {z : std.Option Clause} (hz : z ≡ clause_at parts limit_kind) {nodes' : Nodes} where
     pub limit-stop : {x : Refusal} → LimitSteps z nodes' (Err x) → Plans (select_limit h.select h.stage h.node) area area (Err x)
     limit-stop {x} t = plans-refused
-        (refused-on (step-stop h.held (limit-step hz (Err x) t) x refl) (stages.limit-refused h.select h.stage h.node)) refl
+        (refused-on (step-stop h.held (limit-step hz (Err x) t) x refl)
+        (stages.limit-refused h.select h.stage h.node)) refl
 
-    pub limit-on : {p : Step} → LimitSteps z nodes' (Ok p) → LimitState w g p.cell p.node p.used area nodes'
+    pub limit-on : {p : Step} → LimitSteps z nodes' (Ok p) → LimitState w g p area nodes'
     limit-on {p} t =
         let o = step-on h.held (limit-step hz (Ok p) t) p refl in
         record {
@@ -180,28 +185,29 @@ module _ {c q : Bytes} {cells parts : List ℕ} {w g n m k : ℕ} {area nodes : 
         (stages.limit-step h.select h.stage h.node (limit-on t).node (limit-on t).is) p
 
 -- OFFSET
-module _ {c q : Bytes} {cells parts : List ℕ} {w g n m k : ℕ} {area nodes : List ℕ}
-    (h : OrderState c q cells parts w g n m k area nodes) where
-  pub offset-follows : Follows rows_size m k nodes
+module _ {c q : Bytes} {cells parts : List ℕ} {w g : ℕ} {i : Step} {area : List ℕ} {nodes : Nodes}
+    (h : OrderState c q cells parts w g i area nodes) where
+  pub offset-follows : Follows rows_size i.node nodes
   offset-follows = held-follows h.held
       (omega (arith, held-numbers h.held, rooms.offset-numbers h.past h.held.free.fits, h.held.free.later))
 
   offset-clause : {z : std.Option Clause} → z ≡ clause_at parts offset_kind → h.select.offset ≡ clause_of c q cells z
   offset-clause hz = h.read.offset ∙ clause-read c q cells parts offset_kind h.read.table hz
 
-  abbrev OffsetSteps : std.Option Clause → List ℕ → Result Step Refusal → Type 0
-  OffsetSteps z nodes' r = Steps (λ d. d) (λ d. build_rows invalid_offset (λ i t. P.offset t i) d (clause_of c q cells z)) n m k area nodes area nodes' r
+  abbrev OffsetSteps : std.Option Clause → Nodes → Result Step Refusal → Type 0
+  OffsetSteps z nodes' r = Steps (λ d. d) (λ d. build_rows invalid_offset (λ i t. P.offset t i) d (clause_of c q cells z)) i.cell i.node area nodes area nodes' r
 
-  offset_step : {z : std.Option Clause} → z ≡ clause_at parts offset_kind → {nodes' : List ℕ} (r : Result Step Refusal) → OffsetSteps z nodes' r
-      → Steps (λ d. d) (λ d. build_rows invalid_offset (λ i t. P.offset t i) d h.select.offset) n m k area nodes area nodes' r
+  offset_step : {z : std.Option Clause} → z ≡ clause_at parts offset_kind → {nodes' : Nodes} (r : Result Step Refusal) → OffsetSteps z nodes' r
+      → Steps (λ d. d) (λ d. build_rows invalid_offset (λ i t. P.offset t i) d h.select.offset) i.cell i.node area nodes area nodes' r
   offset_step hz r t = rw (offset-clause hz) t
 
-  module _ {z : std.Option Clause} (hz : z ≡ clause_at parts offset_kind) {nodes' : List ℕ} where
+  module _ {z : std.Option Clause} (hz : z ≡ clause_at parts offset_kind) {nodes' : Nodes} where
     pub offset-stop : {x : Refusal} → OffsetSteps z nodes' (Err x) → Plans (select_offset h.select h.stage h.node) area area (Err x)
     offset-stop {x} t = plans-refused
-        (refused-on (step-stop h.held (offset_step hz (Err x) t) x refl) (stages.offset-refused h.select h.stage h.node)) refl
+        (refused-on (step-stop h.held (offset_step hz (Err x) t) x refl)
+        (stages.offset-refused h.select h.stage h.node)) refl
 
-    pub offset-on : {p : Step} → OffsetSteps z nodes' (Ok p) → OffsetState c q cells parts w g p.cell p.node p.used area nodes'
+    pub offset-on : {p : Step} → OffsetSteps z nodes' (Ok p) → OffsetState c q cells parts w g p area nodes'
     offset-on {p} t =
         let o = step-on h.held (offset_step hz (Ok p) t) p refl in
         record {

@@ -32,6 +32,7 @@ use Rattle.plan.specs.Cells.{Room}
 use Rattle.numbers.specs.declared.refusals.Refusal.{Refusal}
 use Rattle.plan.specs.Emits.{Written}
 use Rattle.plan.specs.Steps.{refused-on, Steps, step-done, step-refused}
+use Rattle.plan.specs.declared.nodes.Nodes.{Nodes}
 use Rattle.plan.specs.declared.steps.Step.{Step}
 use Rattle.stage.specs.Stages.{StageBuilt}
 use Rattle.stage.specs.declared.Stage as code
@@ -50,16 +51,14 @@ use Rattle.build_select.specs.Held.{plans-refused, plans-after}
 use Rattle.build_select.specs.States.{Read, WhereState, ProjectionState}
 
 -- WHAT A STAGE GAVE, as a step
-abbrev step_of : code.Stage → Step
-step_of x = record { cell = x.cell; node = x.node; used = x.used }
-
-module _ {c q : Bytes} {cells : List ℕ} {a : Node Built → Answer Stage} {n m k : ℕ} {area nodes area' nodes' : List ℕ} where
-  pub stage-done : {x : code.Stage} → StageBuilt c q cells a n m k area nodes area' nodes' (Ok x)
-      → Steps (λ d. stage_of d (scope_of (tree_at c q cells) c q x.scope)) a n m k area nodes area' nodes' (Ok (step_of x))
+module _ {c q : Bytes} {cells : List ℕ} {a : Node Built → Answer Stage} {i : Step} {area : List ℕ} {nodes : Nodes}
+    {area' : List ℕ} {nodes' : Nodes} where
+  pub stage-done : {x : code.Stage} → StageBuilt c q cells a i.cell i.node area nodes area' nodes' (Ok x)
+      → Steps (λ d. stage_of d (scope_of (tree_at c q cells) c q x.scope)) a i.cell i.node area nodes area' nodes' (Ok x.at)
   stage-done h = step-done h.kept h.kept-nodes h.is.taken
 
-  pub stage-refused : {w : Refusal} → StageBuilt c q cells a n m k area nodes area' nodes' (Err w) → (t : rules.Scope)
-      → Steps (λ d. stage_of d t) a n m k area nodes area' nodes' (Err w)
+  pub stage-refused : {w : Refusal} → StageBuilt c q cells a i.cell i.node area nodes area' nodes' (Err w) → (t : rules.Scope)
+      → Steps (λ d. stage_of d t) a i.cell i.node area nodes area' nodes' (Err w)
   stage-refused h t = step-refused h.kept h.kept-nodes h.is
 
 -- THE SELECT BY ITS ROWS
@@ -154,8 +153,8 @@ groups-matched w gs fs h = rw (build_groups, h)
     go (g ∷ gs) fs z = retain-matched w.scope fs _ (retain-first w.scope g gs (spawn w.scope) refl)
 
 -- GROUPS
-module _ {c q : Bytes} {cells parts items : List ℕ} {scope : Scope} {n m k : ℕ} {area nodes : List ℕ}
-    (h : WhereState c q cells parts items scope n m k area nodes) (froms : List ℕ) where
+module _ {c q : Bytes} {cells parts items : List ℕ} {scope : Scope} {i : Step} {area : List ℕ} {nodes : Nodes}
+    (h : WhereState c q cells parts items scope i area nodes) (froms : List ℕ) where
   abbrev groups_here : List Expr
   groups_here = (select_at c q cells froms parts).group
 
@@ -174,11 +173,11 @@ module _ {c q : Bytes} {cells parts items : List ℕ} {scope : Scope} {n m k : �
   functions-few : length functions_here ≤ most_cells
   functions-few = omega (arith, ap length (read-functions h.read froms), rooms.functions-few h.past)
 
-  groups-room : Room n (3 * (total size groups_here + total size functions_here)) area
+  groups-room : Room i.cell (3 * (total size groups_here + total size functions_here)) area
   groups-room = rw (read-functions h.read froms, read-group h.read froms, ← held-cells h.held)
       (rooms.groups-room h.past {area = area} h.held.free.area_room)
 
-  groups-numbers : k + aggregate_head + length groups_here + function_size * length functions_here ≤ length nodes
+  groups-numbers : nodes.used + aggregate_head + length groups_here + function_size * length functions_here ≤ length nodes.numbers.now
   groups-numbers = omega (
     arith,
     ap length (read-group h.read froms),
@@ -188,7 +187,7 @@ module _ {c q : Bytes} {cells parts items : List ℕ} {scope : Scope} {n m k : �
     h.held.free.later,
   )
 
-  pub groups-ready : GroupsReady c q cells parts scope n m k area nodes
+  pub groups-ready : GroupsReady c q cells parts scope i.cell i.node area nodes
   groups-ready = record {
     valid = h.scoped.valid;
     hidden = h.scoped.hidden;
@@ -202,36 +201,37 @@ module _ {c q : Bytes} {cells parts items : List ℕ} {scope : Scope} {n m k : �
     in_use = held-few h.held;
   }
 
-  abbrev Grouped : List ℕ → List ℕ → Result code.Stage Refusal → Type 0
-  Grouped area₁ nodes₁ r = GroupsBuilt c q cells scope (groups_at c q cells parts) (functions_at c q cells parts) n m k
+  abbrev Grouped : List ℕ → Nodes → Result code.Stage Refusal → Type 0
+  Grouped area₁ nodes₁ r = GroupsBuilt c q cells scope (groups_at c q cells parts) (functions_at c q cells parts) i.cell i.node
       area nodes area₁ nodes₁ r
 
-  built : {area₁ nodes₁ : List ℕ} (r : Result code.Stage Refusal) → Grouped area₁ nodes₁ r
-      → StageBuilt c q cells (groups_stage c q cells scope groups_here functions_here) n m k area nodes area₁ nodes₁ r
+  built : {area₁ : List ℕ} {nodes₁ : Nodes} (r : Result code.Stage Refusal) → Grouped area₁ nodes₁ r
+      → StageBuilt c q cells (groups_stage c q cells scope groups_here functions_here) i.cell i.node area nodes area₁ nodes₁ r
   built r b = rw (select-functions c q cells froms parts, select-groups c q cells froms parts) b.stage
 
-  grouped : {area₁ nodes₁ : List ℕ} (r : Result code.Stage Refusal) → Grouped area₁ nodes₁ r → StageBuilt c q cells
-      (λ d. build_groups (stage_of d h.stage.scope) h.select.group (functions_of items_here (later_of h.select))) n m k
+  grouped : {area₁ : List ℕ} {nodes₁ : Nodes} (r : Result code.Stage Refusal) → Grouped area₁ nodes₁ r → StageBuilt c q cells
+      (λ d. build_groups (stage_of d h.stage.scope) h.select.group (functions_of items_here
+      (later_of h.select))) i.cell i.node
       area nodes area₁ nodes₁ r
   grouped r b = rw (h.scoped.is, ← functions-are, ← read-group h.read froms) (built r b)
 
-  pub groups-stop : {area₁ nodes₁ : List ℕ} {w : Refusal} → Grouped area₁ nodes₁ (Err w)
+  pub groups-stop : {area₁ : List ℕ} {nodes₁ : Nodes} {w : Refusal} → Grouped area₁ nodes₁ (Err w)
       → Plans (select_groups h.select items_here h.stage) area area₁ (Err w)
   groups-stop {w = w} b = plans-refused
       (refused-on (step-stop h.held (stage-refused (grouped (Err w) b) h.stage.scope) w refl)
       (stages.groups-refused h.select items_here h.stage)) b.stage.kept
 
-  module _ {area₁ nodes₁ : List ℕ} {x : code.Stage} (b : Grouped area₁ nodes₁ (Ok x)) where
-    s : StageBuilt c q cells (groups_stage c q cells scope groups_here functions_here) n m k area nodes area₁ nodes₁ (Ok x)
+  module _ {area₁ : List ℕ} {nodes₁ : Nodes} {x : code.Stage} (b : Grouped area₁ nodes₁ (Ok x)) where
+    s : StageBuilt c q cells (groups_stage c q cells scope groups_here functions_here) i.cell i.node area nodes area₁ nodes₁ (Ok x)
     s = built (Ok x) b
 
     same : aggregated groups_here functions_here ≡ false → x.scope ≡ scope
     same = rw (select-functions c q cells froms parts, select-groups c q cells froms parts) b.same
 
     on : HeldOn h.select (λ d. stage_of d (scope_of (tree_at c q cells) c q x.scope))
-        (build_groups h.stage h.select.group (functions_of items_here (later_of h.select))) x.cell x.node x.used
+        (build_groups h.stage h.select.group (functions_of items_here (later_of h.select))) x.at
         area₁ nodes₁
-    on = step-on h.held (stage-done (grouped (Ok x) b)) (step_of x) refl
+    on = step-on h.held (stage-done (grouped (Ok x) b)) x.at refl
 
     abbrev a : Stage
     a = stage_of on.node (scope_of (tree_at c q cells) c q x.scope)
@@ -252,17 +252,18 @@ module _ {c q : Bytes} {cells parts items : List ℕ} {scope : Scope} {n m k : �
             → Plain x.scope ⊎ (is_empty (scope_of (tree_at c q cells) c q x.scope).aggregates ≡ false)
         go false y = inl (rw (same y) h.plain)
         go true y = inr (ensured _ _ (groups-matched h.stage h.select.group (functions_of items_here (later_of h.select))
-            (sym (ap (λ (us : List Expr). aggregated us (functions_of items_here (later_of h.select))) (read-group h.read froms))
+            (sym (ap (λ (us : List Expr). aggregated us (functions_of items_here (later_of h.select)))
+            (read-group h.read froms))
             ∙ sym (ap (aggregated groups_here) functions-are) ∙ y)) a on.answer)
 
     projection-few : length items ≤ most_columns
     projection-few = omega (arith, rooms.items-few after, length-map items (item_of c q cells parts))
 
-    projection-room : Room x.cell (3 * items_size items_here + most_columns) area₁
+    projection-room : Room x.at.cell (3 * items_size items_here + most_columns) area₁
     projection-room = rw (held-cells on.held)
         at (rooms.items-room after {area = area₁} on.held.free.area_room)
 
-    projection-numbers : x.used + source_head + item_size * most_columns ≤ length nodes₁
+    projection-numbers : nodes₁.used + source_head + item_size * most_columns ≤ length nodes₁.numbers.now
     projection-numbers = omega (
       arith,
       rooms.items-numbers after on.held.free.fits,
@@ -270,7 +271,7 @@ module _ {c q : Bytes} {cells parts items : List ℕ} {scope : Scope} {n m k : �
       on.held.free.later,
     )
 
-    pub projection-ready : ProjectionReady c q cells parts items x.scope x.cell x.node x.used area₁ nodes₁
+    pub projection-ready : ProjectionReady c q cells parts items x.scope x.at.cell x.at.node area₁ nodes₁
     unfolding pushes.items_size items_size
     projection-ready = record {
       items-ready = record {
@@ -291,31 +292,31 @@ module _ {c q : Bytes} {cells parts items : List ℕ} {scope : Scope} {n m k : �
     }
 
     -- THE PROJECTION
-    abbrev Projected : List ℕ → List ℕ → Result code.Stage Refusal → Type 0
+    abbrev Projected : List ℕ → Nodes → Result code.Stage Refusal → Type 0
     Projected area₂ nodes₂ r = StageBuilt c q cells
         (λ d. build_projection (stage_of d (scope_of (tree_at c q cells) c q x.scope)) items_here
-        (later_of (select_at c q cells froms parts))) x.cell x.node x.used area₁ nodes₁ area₂ nodes₂ r
+        (later_of (select_at c q cells froms parts))) x.at.cell x.at.node area₁ nodes₁ area₂ nodes₂ r
 
-    projected : {area₂ nodes₂ : List ℕ} (r : Result code.Stage Refusal) → Projected area₂ nodes₂ r → StageBuilt c q cells
+    projected : {area₂ : List ℕ} {nodes₂ : Nodes} (r : Result code.Stage Refusal) → Projected area₂ nodes₂ r → StageBuilt c q cells
         (λ d. build_projection (stage_of d (scope_of (tree_at c q cells) c q x.scope)) items_here (later_of h.select))
-        x.cell x.node x.used area₁ nodes₁ area₂ nodes₂ r
+        x.at.cell x.at.node area₁ nodes₁ area₂ nodes₂ r
     projected r t = rw (← read-later h.read froms) t
 
     groups-on : select_groups h.select items_here h.stage ≡ select_projection h.select items_here a
     groups-on = stages.groups-step h.select items_here h.stage a on.answer
 
-    pub projection-stop : {area₂ nodes₂ : List ℕ} {w : Refusal} → Projected area₂ nodes₂ (Err w)
+    pub projection-stop : {area₂ : List ℕ} {nodes₂ : Nodes} {w : Refusal} → Projected area₂ nodes₂ (Err w)
         → Plans (select_groups h.select items_here h.stage) area area₂ (Err w)
     projection-stop {w = w} t = plans-after {area' = area₁} s.kept groups-on (plans-refused
         (refused-on (step-stop on.held (stage-refused (projected (Err w) t) h.stage.scope) w refl)
         (stages.projection-refused h.select items_here a)) t.kept)
 
-    module _ {area₂ nodes₂ : List ℕ} {y : code.Stage} (t : Projected area₂ nodes₂ (Ok y)) where
+    module _ {area₂ : List ℕ} {nodes₂ : Nodes} {y : code.Stage} (t : Projected area₂ nodes₂ (Ok y)) where
       on₂ : HeldOn h.select (λ d. stage_of d (scope_of (tree_at c q cells) c q y.scope))
-          (build_projection a items_here (later_of h.select)) y.cell y.node y.used area₂ nodes₂
-      on₂ = step-on on.held (stage-done (projected (Ok y) t)) (step_of y) refl
+          (build_projection a items_here (later_of h.select)) y.at area₂ nodes₂
+      on₂ = step-on on.held (stage-done (projected (Ok y) t)) y.at refl
 
-      pub projection-state : ProjectionState c q cells parts y.scope y.cell y.node y.used area₂ nodes₂
+      pub projection-state : ProjectionState c q cells parts y.scope y.at area₂ nodes₂
       projection-state = record {
         catalog = h.catalog;
         select = h.select;

@@ -12,7 +12,9 @@ use Rattle.rules.specs.Entry.{outcome}
 use Rattle.claims.specs.Room.Nodes.{most_later_numbers, node_room}
 use Rattle.claims.specs.Room.From.{FromFits}
 use Rattle.plan.specs.Layout.{nodes_size}
+use Rattle.plan.specs.Pushed.{Kept}
 use Rattle.plan.specs.Room.{laid-in-use}
+use Rattle.plan.specs.declared.nodes.Nodes.{Nodes}
 use Rattle.numbers.specs.declared.refusals.Refusal.{Refusal}
 use Rattle.plan.specs.Emits.{Written}
 use Rattle.plan.specs.Steps.{RefusedWith, Stepped, Steps, Standing, standing_on, standing-refused}
@@ -49,50 +51,50 @@ nodes-few (P.remap n ts) = omega (arith, nodes-few n)
 
 -- there is room for the plan of the SELECT q: `from` numbers are enough for the nodes of its FROM, and as many as the
 -- others may take are left behind them
-pub record SelectRoom (q : Select) (area nodes : List ℕ) : Type 0 where
+pub record SelectRoom (q : Select) (area : List ℕ) (nodes : Nodes) : Type 0 where
   pub area_room : least_area ≤ length area
   pub from : ℕ
   pub fits : FromFits q.from from
-  pub later : from + most_later_numbers ≤ length nodes
-  pub most : length nodes ≤ nodes_size
+  pub later : from + most_later_numbers ≤ length nodes.numbers.now
+  pub most : length nodes.numbers.now ≤ nodes_size
 
 -- and there still is where the lengths are kept
-pub room-kept : {q : Select} {area area' nodes nodes' : List ℕ} → SelectRoom q area nodes → length area' ≡ length area
-    → length nodes' ≡ length nodes → SelectRoom q area' nodes'
+pub room-kept : {q : Select} {area area' : List ℕ} {nodes nodes' : Nodes} → SelectRoom q area nodes → length area' ≡ length area
+    → Kept nodes nodes' → SelectRoom q area' nodes'
 room-kept h e g = record {
   area_room = omega (arith, h.area_room, e);
   from = h.from;
   fits = h.fits;
-  later = omega (arith, h.later, g);
-  most = omega (arith, h.most, g);
+  later = omega (arith, h.later, g.all);
+  most = omega (arith, h.most, g.all);
 }
 
--- the node d stands in n cells, m nodes and k numbers of the nodes, and there is room for the plan of the SELECT q
-pub record Held (q : Select) (d : Node Built) (n m k : ℕ) (area nodes : List ℕ) : Type 0 where
+-- the node d stands before step i and in the numbers of the nodes, and there is room for the plan of the SELECT q
+pub record Held (q : Select) (d : Node Built) (i : Step) (area : List ℕ) (nodes : Nodes) : Type 0 where
   pub area₀ : List ℕ
-  pub nodes₀ : List ℕ
-  pub standing : Standing d n m k area₀ nodes₀ area nodes
+  pub nodes₀ : Nodes
+  pub standing : Standing d i.cell i.node area₀ nodes₀ area nodes
   pub free : SelectRoom q area nodes
 
-module _ {q : Select} {d : Node Built} {n m k : ℕ} {area nodes : List ℕ} (h : Held q d n m k area nodes) where
-  pub held-cells : cell_count d ≡ n
+module _ {q : Select} {d : Node Built} {i : Step} {area : List ℕ} {nodes : Nodes} (h : Held q d i area nodes) where
+  pub held-cells : cell_count d ≡ i.cell
   held-cells = omega (arith, h.standing.lays.next)
 
-  pub held-numbers : node_room d ≡ k
+  pub held-numbers : node_room d ≡ nodes.used
   held-numbers = omega (
     arith,
-    laid-in-use 0 0 d h.standing.cells h.standing.records n m h.standing.lays h.standing.stands.records,
+    laid-in-use 0 0 d h.standing.cells h.standing.records i.cell i.node h.standing.lays h.standing.stands.records,
   )
 
-  pub held-some : 0 < m
+  pub held-some : 0 < i.node
   held-some = omega (arith, h.standing.lays.node, nodes-some d)
 
-  pub held-few : m ≤ k
+  pub held-few : i.node ≤ nodes.used
   held-few = omega (arith, h.standing.lays.node, nodes-few d, held-numbers)
 
 -- a record may follow
-pub held-follows : {q : Select} {d : Node Built} {n m k : ℕ} {area nodes : List ℕ} {size : ℕ}
-    → Held q d n m k area nodes → k + size ≤ length nodes → Follows size m k nodes
+pub held-follows : {q : Select} {d : Node Built} {i : Step} {area : List ℕ} {nodes : Nodes} {size : ℕ}
+    → Held q d i area nodes → nodes.used + size ≤ length nodes.numbers.now → Follows size i.node nodes
 held-follows h l = record {
   source = held-some h;
   counted = held-few h;
@@ -101,16 +103,17 @@ held-follows h l = record {
 }
 
 -- a step on
-pub record HeldOn {B : Type 0} (q : Select) (view : Node Built → B) (a : Answer B) (n m k : ℕ) (area nodes : List ℕ)
+pub record HeldOn {B : Type 0} (q : Select) (view : Node Built → B) (a : Answer B) (i : Step) (area : List ℕ)
+    (nodes : Nodes)
     : Type 0 where
   pub node : Node Built
   pub answer : a ≡ ok (view node)
-  pub held : Held q node n m k area nodes
+  pub held : Held q node i area nodes
 
-module _ {B : Type 0} {view : Node Built → B} {a : Node Built → Answer B} {q : Select} {d : Node Built} {n m k : ℕ}
-    {area nodes area' nodes' : List ℕ} {r : Stepped} (h : Held q d n m k area nodes)
-    (s : Steps view a n m k area nodes area' nodes' r) where
-  pub step-on : (p : Step) → r ≡ Ok p → HeldOn q view (a d) p.cell p.node p.used area' nodes'
+module _ {B : Type 0} {view : Node Built → B} {a : Node Built → Answer B} {q : Select} {d : Node Built} {i : Step}
+    {area : List ℕ} {nodes : Nodes} {area' : List ℕ} {nodes' : Nodes} {r : Stepped} (h : Held q d i area nodes)
+    (s : Steps view a i.cell i.node area nodes area' nodes' r) where
+  pub step-on : (p : Step) → r ≡ Ok p → HeldOn q view (a d) p area' nodes'
   step-on p e =
       let w = standing_on p h.standing s e in
       record {

@@ -26,6 +26,7 @@ use Rattle.plan.specs.Cells.{Room}
 use Rattle.numbers.specs.declared.refusals.Refusal.{Refusal}
 use Rattle.plan.specs.Emits.{Written}
 use Rattle.plan.specs.Steps.{RefusedWith, refused-on, Steps}
+use Rattle.plan.specs.declared.nodes.Nodes.{Nodes}
 use Rattle.plan.specs.declared.steps.Step.{Step}
 use Rattle.build_expression.specs.Builds.{scope_at}
 use Rattle.build_clauses.specs.Follows.{Follows}
@@ -54,8 +55,8 @@ unfolding outcome_of
 not_listed (ok xs) x e = absurd (let z : ◌≡◌ {A = ℕ} 0 1 = cc in omega arith)
 not_listed (refused w) x e = record { why = w; is = refl; refusal = cc }
 
-module _ {c q : Bytes} {cells parts : List ℕ} {scope : Scope} {n m k : ℕ} {area nodes : List ℕ}
-    (h : FromState c q cells parts scope n m k area nodes) where
+module _ {c q : Bytes} {cells parts : List ℕ} {scope : Scope} {i : Step} {area : List ℕ} {nodes : Nodes}
+    (h : FromState c q cells parts scope i area nodes) where
   abbrev d : Select
   d = select_at c q cells h.froms parts
 
@@ -95,7 +96,7 @@ module _ {c q : Bytes} {cells parts : List ℕ} {scope : Scope} {n m k : ℕ} {a
     listed-is : build_items d h.stage.node ≡ ok items_here
     listed-is = those.is ∙ ap ok (sym items-are)
 
-    pub items-state : length cells' ≡ table_size → ItemsState c q cells' parts (take w items') scope n m k area nodes
+    pub items-state : length cells' ≡ table_size → ItemsState c q cells' parts (take w items') scope i area nodes
     items-state l = record {
       catalog = h.catalog;
       select = d;
@@ -120,9 +121,21 @@ module _ {c q : Bytes} {cells parts : List ℕ} {scope : Scope} {n m k : ℕ} {a
     unfolding items-state
     items-plans l p = plans-after {area' = area} refl (stages.items-step d h.stage items_here listed-is) p
 
+    -- by other numbers that are the same
+    pub items-on : {xs : List ℕ} → xs ≡ take w items' → length cells' ≡ table_size
+        → ItemsState c q cells' parts xs scope i area nodes
+    items-on z l = rw z (items-state l)
+
+    pub items-goes : {xs area' : List ℕ} {x : Written} → xs ≡ take w items' → length cells' ≡ table_size
+        → ((s : ItemsState c q cells' parts xs scope i area nodes)
+        → Plans (select_where s.select s.stage (map (item_of c q cells' parts) xs)) area area' x)
+        → Plans (select_items d h.stage) area area' x
+    items-goes z l f = items-plans l ((rw z at f) (items-state l))
+
 -- WHERE
-module _ {c q : Bytes} {cells parts items : List ℕ} {scope : Scope} {n m k : ℕ} {area nodes : List ℕ}
-    (h : ItemsState c q cells parts items scope n m k area nodes) {w : Option Clause} (hw : w ≡ clause_at parts where_kind) where
+module _ {c q : Bytes} {cells parts items : List ℕ} {scope : Scope} {i : Step} {area : List ℕ} {nodes : Nodes}
+    (h : ItemsState c q cells parts items scope i area nodes) {w : Option Clause}
+    (hw : w ≡ clause_at parts where_kind) where
   filter-is : h.select.filter ≡ clause_of c q cells w
   filter-is = h.read.filter ∙ clause-read c q cells parts where_kind h.read.table hw
 
@@ -133,35 +146,35 @@ module _ {c q : Bytes} {cells parts items : List ℕ} {scope : Scope} {n m k : �
   unfolding scope_of
   scope-is = h.scoped.is
 
-  pub where-room : Room n (3 * clause_size (clause_of c q cells w)) area
+  pub where-room : Room i.cell (3 * clause_size (clause_of c q cells w)) area
   where-room = rw (held-cells h.held, filter-is) at (rooms.where-room h.past {area = area} h.held.free.area_room)
 
-  pub where-follows : Follows filter_size m k nodes
+  pub where-follows : Follows filter_size i.node nodes
   where-follows = held-follows h.held
       (omega (arith, held-numbers h.held, rooms.where-numbers h.past h.held.free.fits, h.held.free.later))
 
-  abbrev WhereSteps : List ℕ → List ℕ → Result Step Refusal → Type 0
-  WhereSteps area₁ nodes₁ r = Steps (λ d. stage_of d lent) (λ d. build_where (stage_of d lent) (clause_of c q cells w)) n m k
+  abbrev WhereSteps : List ℕ → Nodes → Result Step Refusal → Type 0
+  WhereSteps area₁ nodes₁ r = Steps (λ d. stage_of d lent) (λ d. build_where (stage_of d lent) (clause_of c q cells w)) i.cell i.node
       area nodes area₁ nodes₁ r
 
-  step : {area₁ nodes₁ : List ℕ} (r : Result Step Refusal) → WhereSteps area₁ nodes₁ r
-      → Steps (λ d. stage_of d h.stage.scope) (λ d. build_where (stage_of d h.stage.scope) h.select.filter) n m k
+  step : {area₁ : List ℕ} {nodes₁ : Nodes} (r : Result Step Refusal) → WhereSteps area₁ nodes₁ r
+      → Steps (λ d. stage_of d h.stage.scope) (λ d. build_where (stage_of d h.stage.scope) h.select.filter) i.cell i.node
       area nodes area₁ nodes₁ r
   step r s = rw (filter-is, scope-is) s
 
   abbrev listed_items : List Item
   listed_items = map (item_of c q cells parts) items
 
-  pub where-stop : {area₁ nodes₁ : List ℕ} {x : Refusal} → WhereSteps area₁ nodes₁ (Err x)
+  pub where-stop : {area₁ : List ℕ} {nodes₁ : Nodes} {x : Refusal} → WhereSteps area₁ nodes₁ (Err x)
       → Plans (select_where h.select h.stage listed_items) area area₁ (Err x)
   where-stop {x = x} s = plans-refused (refused-on (step-stop h.held (step (Err x) s) x refl)
       (stages.where-refused h.select h.stage listed_items)) s.kept
 
-  module _ {area₁ nodes₁ : List ℕ} {p : Step} (s : WhereSteps area₁ nodes₁ (Ok p)) where
-    on : HeldOn h.select (λ d. stage_of d h.stage.scope) (build_where h.stage h.select.filter) p.cell p.node p.used area₁ nodes₁
+  module _ {area₁ : List ℕ} {nodes₁ : Nodes} {p : Step} (s : WhereSteps area₁ nodes₁ (Ok p)) where
+    on : HeldOn h.select (λ d. stage_of d h.stage.scope) (build_where h.stage h.select.filter) p area₁ nodes₁
     on = step-on h.held (step (Ok p) s) p refl
 
-    pub where-state : WhereState c q cells parts items scope p.cell p.node p.used area₁ nodes₁
+    pub where-state : WhereState c q cells parts items scope p area₁ nodes₁
     where-state = record {
       catalog = h.catalog;
       select = h.select;
@@ -180,13 +193,3 @@ module _ {c q : Bytes} {cells parts items : List ℕ} {scope : Scope} {n m k : �
     unfolding where-state
     where-plans i = plans-after {area' = area₁} s.kept
         (stages.where-step h.select h.stage listed_items (stage_of on.node h.stage.scope) on.answer) i
-
-    -- by other numbers that are the same
-    pub where-on : {items' : List ℕ} → items' ≡ items → WhereState c q cells parts items' scope p.cell p.node p.used area₁ nodes₁
-    where-on z = rw z where-state
-
-    pub where-goes : {items' area₂ : List ℕ} {x : Written} → items' ≡ items
-        → ((i : WhereState c q cells parts items' scope p.cell p.node p.used area₁ nodes₁)
-        → Plans (select_groups i.select (map (item_of c q cells parts) items') i.stage) area₁ area₂ x)
-        → Plans (select_where h.select h.stage listed_items) area area₂ x
-    where-goes z f = where-plans ((rw z at f) where-state)

@@ -270,7 +270,8 @@ module _ {c : Catalog} {q : Select} where
     module _ {n : Node Built} (i : build_rows invalid_offset (λ k t. P.offset t k) o q.offset ≡ ok n) where
       pub offset-cells : cell_count n ≡ cell_count o
       offset-cells = ensured (build_rows invalid_offset (λ k t. P.offset t k) o q.offset) _
-          (rows-cells invalid_offset (λ k t. P.offset t k) (λ k t. unfold cell_count expressions in refl) o q.offset) n i
+          (rows-cells invalid_offset (λ k t. P.offset t k)
+          (λ k t. unfold cell_count expressions in refl) o q.offset) n i
 
       pub limit-numbers : {most : ℕ} → FromFits q.from most → node_room n + rows_size ≤ most + most_later_numbers
       limit-numbers fits = numbers-limit c q at.past.past.past.few at.past.past.past.limited fits at.past.past.from
@@ -284,7 +285,8 @@ module _ {c : Catalog} {q : Select} where
           whole_cells,
           offset-cells,
           ensured (build_rows invalid_limit (λ k t. P.limit t k) n q.limit) _
-              (rows-cells invalid_limit (λ k t. P.limit t k) (λ k t. unfold cell_count expressions in refl) n q.limit) m j,
+              (rows-cells invalid_limit (λ k t. P.limit t k)
+              (λ k t. unfold cell_count expressions in refl) n q.limit) m j,
         )
 
         pub remap-numbers : {most : ℕ} → FromFits q.from most

@@ -19,6 +19,7 @@ use Rattle.statement.specs.Access.{from_rows, select_at}
 use Rattle.statement.specs.Stays.{SectionsStay}
 use Rattle.numbers.specs.declared.refusals.Refusal.{Refusal}
 use Rattle.plan.specs.Emits.{Written}
+use Rattle.plan.specs.declared.nodes.Nodes.{Nodes}
 use Rattle.plan.specs.Steps.{refused-on}
 use Rattle.build_from.specs.Clause.{ClauseRoom, clause-room, ClauseBuilds}
 use Rattle.build_from.specs.declared.Source.{Source}
@@ -28,13 +29,14 @@ use Rattle.build_select.specs.States.{FromState}
 
 -- the numbers stand for a catalog and a SELECT that were read from the texts c and q, whose sections stay as they are when
 -- rows behind the statement's are written, and there is room for a plan
-pub record SelectReady (c q : Bytes) (tables cells froms parts area nodes : List ℕ) : Type 0 where
+pub record SelectReady (c q : Bytes) (tables cells froms parts area : List ℕ) (nodes : Nodes) : Type 0 where
   pub within : TextsWithin c q (catalog_at c q tables) (Ast.select (select_at c q cells froms parts))
   pub table : length cells ≡ table_size
   pub stay : SectionsStay q cells parts
   pub free : SelectRoom (select_at c q cells froms parts) area nodes
+  pub none : nodes.used ≡ 0
 
-module _ {c q : Bytes} {tables cells froms parts area nodes : List ℕ}
+module _ {c q : Bytes} {tables cells froms parts area : List ℕ} {nodes : Nodes}
     (h : SelectReady c q tables cells froms parts area nodes) {rows : ℕ} (hr : rows ≡ from_rows parts) where
   abbrev d : Select
   d = select_at c q cells froms parts
@@ -43,20 +45,20 @@ module _ {c q : Bytes} {tables cells froms parts area nodes : List ℕ}
   unfolding select_at select_of
   from_is = rw hr
 
-  from-fits : FromFits d.from (length nodes)
+  from-fits : FromFits d.from (length nodes.numbers.now)
   from-fits = record { row = omega (arith, h.free.fits.row, h.free.later); tables = omega (arith, h.free.fits.tables, h.free.later) }
 
   pub source-room : ClauseRoom c q tables (froms_at c q cells froms rows) area nodes
-  source-room = clause-room d h.within from_is h.free.area_room from-fits h.free.most
+  source-room = clause-room d h.within from_is h.free.area_room from-fits h.free.most h.none
 
-  pub source-stop : {area₁ nodes₁ : List ℕ} {w : Refusal}
+  pub source-stop : {area₁ : List ℕ} {nodes₁ : Nodes} {w : Refusal}
       → ClauseBuilds c q tables cells (froms_at c q cells froms rows) area nodes area₁ nodes₁ (Err w)
       → Plans (build_select (catalog_at c q tables) d) area area₁ (Err w)
   source-stop b = plans-refused (refused-on (rw from_is b.is) (stages.from-refused (catalog_at c q tables) d)) b.kept
 
-  module _ {area₁ nodes₁ : List ℕ} {x : Source}
+  module _ {area₁ : List ℕ} {nodes₁ : Nodes} {x : Source}
       (b : ClauseBuilds c q tables cells (froms_at c q cells froms rows) area nodes area₁ nodes₁ (Ok x)) where
-    pub source-state : FromState c q cells parts x.scope x.cell x.node x.used area₁ nodes₁
+    pub source-state : FromState c q cells parts x.scope x.at area₁ nodes₁
     source-state =
         let a = b.is in
         record {

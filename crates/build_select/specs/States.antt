@@ -30,6 +30,8 @@ use Rattle.statement.specs.Access.{select_at}
 use Rattle.statement.specs.Stays.{SectionsStay}
 use Rattle.statement.specs.EntryAccess.{clause_at, clause_of, clause-is}
 use Rattle.statement.specs.declared.access.Clause.{Clause}
+use Rattle.plan.specs.declared.nodes.Nodes.{Nodes}
+use Rattle.plan.specs.declared.steps.Step.{Step}
 use Rattle.build_projection.specs.Items.{item_of}
 use Rattle.build_select.specs.History.{AfterFrom, AfterWhere, AfterProjection, AfterOrder}
 use Rattle.build_select.specs.Held.{Held}
@@ -78,7 +80,8 @@ pub record Scoped (c q : Bytes) (cells : List ℕ) (s : rules.Scope) (x : Scope)
 
 -- BEHIND EACH CLAUSE
 -- FROM, in whose scope nothing is matched and every column has a table; the SELECT is as it was read
-pub record FromState (c q : Bytes) (cells parts : List ℕ) (scope : Scope) (n m k : ℕ) (area nodes : List ℕ) : Type 0 where
+pub record FromState (c q : Bytes) (cells parts : List ℕ) (scope : Scope) (i : Step) (area : List ℕ)
+    (nodes : Nodes) : Type 0 where
   pub catalog : Catalog
   pub froms : List ℕ
   pub stage : Stage
@@ -90,10 +93,11 @@ pub record FromState (c q : Bytes) (cells parts : List ℕ) (scope : Scope) (n m
   pub within : SelectWithin c q (select_at c q cells froms parts)
   pub table : length cells ≡ table_size
   pub stay : SectionsStay q cells parts
-  pub held : Held (select_at c q cells froms parts) stage.node n m k area nodes
+  pub held : Held (select_at c q cells froms parts) stage.node i area nodes
 
 -- the items, by the numbers items
-pub record ItemsState (c q : Bytes) (cells parts items : List ℕ) (scope : Scope) (n m k : ℕ) (area nodes : List ℕ)
+pub record ItemsState (c q : Bytes) (cells parts items : List ℕ) (scope : Scope) (i : Step) (area : List ℕ)
+    (nodes : Nodes)
     : Type 0 where
   pub catalog : Catalog
   pub select : Select
@@ -104,10 +108,11 @@ pub record ItemsState (c q : Bytes) (cells parts items : List ℕ) (scope : Scop
   pub scoped : Scoped c q cells stage.scope scope
   pub plain : Plain scope
   pub within : SelectWithin c q select
-  pub held : Held select stage.node n m k area nodes
+  pub held : Held select stage.node i area nodes
 
 -- WHERE: the numbers items stand for the SELECT's items
-pub record WhereState (c q : Bytes) (cells parts items : List ℕ) (scope : Scope) (n m k : ℕ) (area nodes : List ℕ)
+pub record WhereState (c q : Bytes) (cells parts items : List ℕ) (scope : Scope) (i : Step) (area : List ℕ)
+    (nodes : Nodes)
     : Type 0 where
   pub catalog : Catalog
   pub select : Select
@@ -117,10 +122,11 @@ pub record WhereState (c q : Bytes) (cells parts items : List ℕ) (scope : Scop
   pub scoped : Scoped c q cells stage.scope scope
   pub plain : Plain scope
   pub within : SelectWithin c q select
-  pub held : Held select stage.node n m k area nodes
+  pub held : Held select stage.node i area nodes
 
 -- the projection
-pub record ProjectionState (c q : Bytes) (cells parts : List ℕ) (scope : Scope) (n m k : ℕ) (area nodes : List ℕ)
+pub record ProjectionState (c q : Bytes) (cells parts : List ℕ) (scope : Scope) (i : Step) (area : List ℕ)
+    (nodes : Nodes)
     : Type 0 where
   pub catalog : Catalog
   pub select : Select
@@ -128,10 +134,11 @@ pub record ProjectionState (c q : Bytes) (cells parts : List ℕ) (scope : Scope
   pub past : AfterProjection catalog select stage
   pub read : Read c q cells parts select
   pub scoped : Scoped c q cells stage.scope scope
-  pub held : Held select stage.node n m k area nodes
+  pub held : Held select stage.node i area nodes
 
 -- ORDER, over w columns of which the last h are hidden
-pub record OrderState (c q : Bytes) (cells parts : List ℕ) (w h n m k : ℕ) (area nodes : List ℕ) : Type 0 where
+pub record OrderState (c q : Bytes) (cells parts : List ℕ) (w h : ℕ) (i : Step) (area : List ℕ)
+    (nodes : Nodes) : Type 0 where
   pub catalog : Catalog
   pub select : Select
   pub stage : Stage
@@ -142,10 +149,11 @@ pub record OrderState (c q : Bytes) (cells parts : List ℕ) (w h n m k : ℕ) (
   pub scoped : Scoped c q cells stage.scope scope
   pub width : scope.width ≡ w
   pub hidden : scope.hidden ≡ h
-  pub held : Held select node n m k area nodes
+  pub held : Held select node i area nodes
 
 -- OFFSET
-pub record OffsetState (c q : Bytes) (cells parts : List ℕ) (w h n m k : ℕ) (area nodes : List ℕ) : Type 0 where
+pub record OffsetState (c q : Bytes) (cells parts : List ℕ) (w h : ℕ) (i : Step) (area : List ℕ)
+    (nodes : Nodes) : Type 0 where
   pub catalog : Catalog
   pub select : Select
   pub stage : Stage
@@ -158,10 +166,10 @@ pub record OffsetState (c q : Bytes) (cells parts : List ℕ) (w h n m k : ℕ) 
   pub scoped : Scoped c q cells stage.scope scope
   pub width : scope.width ≡ w
   pub hidden : scope.hidden ≡ h
-  pub held : Held select node n m k area nodes
+  pub held : Held select node i area nodes
 
 -- LIMIT
-pub record LimitState (w h n m k : ℕ) (area nodes : List ℕ) : Type 0 where
+pub record LimitState (w h : ℕ) (i : Step) (area : List ℕ) (nodes : Nodes) : Type 0 where
   pub texts : Bytes × Bytes
   pub cells : List ℕ
   pub catalog : Catalog
@@ -177,4 +185,4 @@ pub record LimitState (w h n m k : ℕ) (area nodes : List ℕ) : Type 0 where
   pub scoped : Scoped texts.0 texts.1 cells stage.scope scope
   pub width : scope.width ≡ w
   pub hidden : scope.hidden ≡ h
-  pub held : Held select node n m k area nodes
+  pub held : Held select node i area nodes

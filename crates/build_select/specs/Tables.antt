@@ -15,11 +15,12 @@ use Rattle.from.specs.Layout.{roots_in, roots_before, roots_at, table_by, table_
 use Rattle.statement.specs.Layout.{select_of}
 use Rattle.statement.specs.Access.{from_rows, select_at}
 use Rattle.plan.specs.Layout.{scan_size, nodes_size}
+use Rattle.plan.specs.declared.nodes.Nodes.{Nodes}
 use Rattle.build_select.specs.Held.{SelectRoom}
 
 -- as many numbers as any statement's nodes may take
-pub any-tables : {c q : Bytes} {cat : Catalog} {d : Select} {area nodes : List ℕ} → TextsWithin c q cat (Ast.select d)
-    → least_area ≤ length area → length nodes ≡ nodes_size → SelectRoom d area nodes
+pub any-tables : {c q : Bytes} {cat : Catalog} {d : Select} {area : List ℕ} {nodes : Nodes} → TextsWithin c q cat (Ast.select d)
+    → least_area ≤ length area → length nodes.numbers.now ≡ nodes_size → SelectRoom d area nodes
 any-tables {d = d} h a n = record {
   area_room = a;
   from = most_from_numbers;
@@ -39,8 +40,8 @@ few-tables c q cells froms zero h = omega arith
 few-tables c q cells froms (suc zero) h = omega arith
 few-tables c q cells froms (suc (suc n)) h = absurd (omega (arith, h))
 
-pub one_table : (c q : Bytes) (cells froms parts : List ℕ) {area nodes : List ℕ} → from_rows parts ≤ 1
-    → least_area ≤ length area → length nodes ≡ one_table_size → SelectRoom (select_at c q cells froms parts) area nodes
+pub one_table : (c q : Bytes) (cells froms parts : List ℕ) {area : List ℕ} {nodes : Nodes} → from_rows parts ≤ 1
+    → least_area ≤ length area → length nodes.numbers.now ≡ one_table_size → SelectRoom (select_at c q cells froms parts) area nodes
 unfolding select_at select_of
 one_table c q cells froms parts h a n =
     let t = few-tables c q cells froms (from_rows parts) h in

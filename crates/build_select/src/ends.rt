@@ -10,17 +10,19 @@ use build_clauses::rows::{build_limit, build_offset};
 use entries::Section;
 use numbers::refusals::Refusal;
 use plan::finish::{Kind, finish};
+use plan::nodes::Nodes;
 use plan::steps::Step;
 use statement::access::clause_at;
 
 // The remap that drops hidden columns, and the end.
-fn select_remap(width: u32, hidden: u32, area: &mut [u32], nodes: &mut [u32], at: Step) -> u32
-    requires { LimitState width hidden at.cell at.node at.used area.old nodes.old }
-    ensures { (h : LimitState width hidden at.cell at.node at.used area.old nodes.old)
+fn select_remap(width: u32, hidden: u32, area: &mut [u32], nodes: &mut Nodes, at: Step) -> u32
+    requires { LimitState width hidden at area.old nodes.old }
+    ensures { (h : LimitState width hidden at area.old nodes.old)
         → Plans (select_remap h.select h.stage h.node) area.old area.new (Ok result) }
 {
     let remapped = build_remap(width, hidden, nodes, at);
-    finish(area, nodes, Kind::Select, remapped, remapped.used);
+    let own = nodes.used;
+    finish(area, nodes, Kind::Select, remapped, own);
     remapped.cell
 }
 
@@ -31,13 +33,13 @@ fn select_limit(
     width: u32,
     hidden: u32,
     area: &mut [u32],
-    nodes: &mut [u32],
+    nodes: &mut Nodes,
     at: Step,
 ) -> Result<u32, Refusal>
     requires { OffsetState exprs.now.texts.catalog.now exprs.now.texts.statement.now exprs.now.table.now parts.now width
-        hidden at.cell at.node at.used area.old nodes.old }
+        hidden at area.old nodes.old }
     ensures { (h : OffsetState exprs.now.texts.catalog.now exprs.now.texts.statement.now exprs.now.table.now parts.now
-        width hidden at.cell at.node at.used area.old nodes.old)
+        width hidden at area.old nodes.old)
         → Plans (select_limit h.select h.stage h.node) area.old area.new result }
 {
     let clause = clause_at(parts, Section::Limit);
@@ -52,13 +54,13 @@ pub fn select_offset(
     width: u32,
     hidden: u32,
     area: &mut [u32],
-    nodes: &mut [u32],
+    nodes: &mut Nodes,
     at: Step,
 ) -> Result<u32, Refusal>
     requires { OrderState exprs.now.texts.catalog.now exprs.now.texts.statement.now exprs.now.table.now parts.now width
-        hidden at.cell at.node at.used area.old nodes.old }
+        hidden at area.old nodes.old }
     ensures { (h : OrderState exprs.now.texts.catalog.now exprs.now.texts.statement.now exprs.now.table.now parts.now
-        width hidden at.cell at.node at.used area.old nodes.old)
+        width hidden at area.old nodes.old)
         → Plans (select_offset h.select h.stage h.node) area.old area.new result }
 {
     let clause = clause_at(parts, Section::Offset);

@@ -10,6 +10,7 @@ use ast::Expressions;
 use build_groups::build_groups;
 use build_project::build_projection;
 use numbers::refusals::Refusal;
+use plan::nodes::Nodes;
 use plan::steps::Step;
 use scope::Scope;
 
@@ -20,41 +21,18 @@ pub fn select_groups(
     items: &[u32],
     scope: Scope,
     area: &mut [u32],
-    nodes: &mut [u32],
+    nodes: &mut Nodes,
     at: Step,
 ) -> Result<u32, Refusal>
     requires { WhereState exprs.now.texts.catalog.now exprs.now.texts.statement.now exprs.now.table.now parts.now items.now
-        scope at.cell at.node at.used area.old nodes.old }
+        scope at area.old nodes.old }
     ensures { (h : WhereState exprs.now.texts.catalog.now exprs.now.texts.statement.now exprs.now.table.now parts.now
-        items.now scope at.cell at.node at.used area.old nodes.old)
+        items.now scope at area.old nodes.old)
         → Plans (select_groups h.select
         (map (item_of exprs.now.texts.catalog.now exprs.now.texts.statement.now exprs.now.table.now parts.now) items.now)
         h.stage) area.old area.new result }
 {
     let grouped = build_groups(exprs, parts, scope, area, nodes, at)?;
-    let projected = build_projection(
-        exprs,
-        parts,
-        items,
-        grouped.scope,
-        area,
-        nodes,
-        Step {
-            cell: grouped.cell,
-            node: grouped.node,
-            used: grouped.used,
-        },
-    )?;
-    select_later(
-        exprs,
-        parts,
-        projected.scope,
-        area,
-        nodes,
-        Step {
-            cell: projected.cell,
-            node: projected.node,
-            used: projected.used,
-        },
-    )
+    let projected = build_projection(exprs, parts, items, grouped.scope, area, nodes, grouped.at)?;
+    select_later(exprs, parts, projected.scope, area, nodes, projected.at)
 }

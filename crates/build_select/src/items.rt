@@ -1,5 +1,5 @@
 // The items of a SELECT over FROM's scope, and WHERE.
-ghost use Rattle.std.specs.Prelude.{◌≡◌, map, take};
+ghost use Rattle.std.specs.Prelude.{map};
 ghost use Rattle.appends.specs.Select.Stages.{select_items, select_where};
 ghost use Rattle.statement.specs.Access.{select_at};
 ghost use Rattle.build_statement.specs.Plans.{Plans};
@@ -12,36 +12,34 @@ use build_clauses::filters::build_where;
 use build_projection::items::build_items;
 use entries::Section;
 use numbers::refusals::Refusal;
+use plan::nodes::Nodes;
 use plan::steps::Step;
 use scope::view::first;
 use scope::{COLUMNS, Scope};
 use statement::access::clause_at;
 use text::places::Texts;
 
-// WHERE behind FROM and the items, which are the first w of those listed, and all that follows.
+// WHERE behind FROM and the items, and all that follows.
 fn select_where(
     exprs: &Expressions,
     parts: &[u32],
-    listed: &[u32],
-    w: u32,
+    items: &[u32],
     scope: Scope,
     area: &mut [u32],
-    nodes: &mut [u32],
+    nodes: &mut Nodes,
     at: Step,
 ) -> Result<u32, Refusal>
     requires { ItemsState exprs.now.texts.catalog.now exprs.now.texts.statement.now exprs.now.table.now parts.now
-        (take w listed.now) scope at.cell at.node at.used area.old
-        nodes.old }
+        items.now scope at area.old nodes.old }
     ensures { (h : ItemsState exprs.now.texts.catalog.now exprs.now.texts.statement.now exprs.now.table.now parts.now
-        (take w listed.now) scope at.cell at.node at.used area.old nodes.old)
+        items.now scope at area.old nodes.old)
         → Plans (select_where h.select h.stage
         (map (item_of exprs.now.texts.catalog.now exprs.now.texts.statement.now exprs.now.table.now parts.now)
-        (take w listed.now)))
+        items.now))
         area.old area.new result }
 {
     let clause = clause_at(parts, Section::Where);
     let filtered = build_where(exprs, clause, &scope.view(), area, nodes, at)?;
-    let items = first(listed, w as usize);
     select_groups(exprs, parts, items, scope, area, nodes, filtered)
 }
 
@@ -52,27 +50,27 @@ pub fn select_items(
     parts: &[u32],
     scope: Scope,
     area: &mut [u32],
-    nodes: &mut [u32],
+    nodes: &mut Nodes,
     at: Step,
 ) -> Result<u32, Refusal>
-    requires { FromState texts.now.catalog.now texts.now.statement.now cells.old parts.now scope at.cell at.node at.used
+    requires { FromState texts.now.catalog.now texts.now.statement.now cells.old parts.now scope at
         area.old nodes.old }
     ensures { (h : FromState texts.now.catalog.now texts.now.statement.now cells.old parts.now
-        scope at.cell at.node at.used area.old nodes.old)
+        scope at area.old nodes.old)
         → Plans (select_items
         (select_at texts.now.catalog.now texts.now.statement.now cells.old h.froms parts.now)
         h.stage) area.old area.new result }
 {
     let mut items = [0u32; COLUMNS];
     let view = scope.view();
-    let listed = build_items(cells, parts, view.tables, view.labels, &mut items)?;
+    let count = build_items(cells, parts, view.tables, view.labels, &mut items)?;
+    let listed = first(&items, count as usize);
     select_where(
         &Expressions {
             texts: *texts,
             table: cells,
         },
         parts,
-        &items,
         listed,
         scope,
         area,

@@ -9,6 +9,7 @@ use build_clauses::filters::build_having;
 use build_clauses::orders::build_order;
 use entries::Section;
 use numbers::refusals::Refusal;
+use plan::nodes::Nodes;
 use plan::steps::Step;
 use scope::Scope;
 use statement::access::clause_at;
@@ -19,13 +20,13 @@ pub fn select_later(
     parts: &[u32],
     scope: Scope,
     area: &mut [u32],
-    nodes: &mut [u32],
+    nodes: &mut Nodes,
     at: Step,
 ) -> Result<u32, Refusal>
     requires { ProjectionState exprs.now.texts.catalog.now exprs.now.texts.statement.now exprs.now.table.now parts.now scope
-        at.cell at.node at.used area.old nodes.old }
+        at area.old nodes.old }
     ensures { (h : ProjectionState exprs.now.texts.catalog.now exprs.now.texts.statement.now exprs.now.table.now
-        parts.now scope at.cell at.node at.used area.old nodes.old)
+        parts.now scope at area.old nodes.old)
         → Plans (select_having h.select h.stage) area.old area.new result }
 {
     let clause = clause_at(parts, Section::Having);

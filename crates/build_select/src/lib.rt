@@ -17,7 +17,7 @@ use ast::Expressions;
 use build_from::clause::build_from_clause;
 use items::select_items;
 use numbers::refusals::Refusal;
-use plan::steps::Step;
+use plan::nodes::Nodes;
 use statement::access::from_rows;
 use text::places::Texts;
 
@@ -32,7 +32,7 @@ pub fn build_select(
     froms: &[u32],
     parts: &[u32],
     area: &mut [u32],
-    nodes: &mut [u32],
+    nodes: &mut Nodes,
 ) -> Result<u32, Refusal>
     requires { SelectReady texts.now.catalog.now texts.now.statement.now tables.now cells.old froms.now parts.now area.old
         nodes.old }
@@ -53,17 +53,5 @@ pub fn build_select(
         area,
         nodes,
     )?;
-    select_items(
-        texts,
-        cells,
-        parts,
-        source.scope,
-        area,
-        nodes,
-        Step {
-            cell: source.cell,
-            node: source.node,
-            used: source.used,
-        },
-    )
+    select_items(texts, cells, parts, source.scope, area, nodes, source.at)
 }

@@ -1,5 +1,5 @@
--- CREATE's columns appended one after the other, and the whole table.
-use Rattle.std.specs.Prelude.{ℕ, suc, ◌+◌, ◌*◌, ◌≤◌, ◌<◌, ◌≡◌, Bool, drop, Result, Ok, Err, Some, None}
+-- CREATE's columns pushed one after the other, and the whole table.
+use Rattle.std.specs.Prelude.{ℕ, suc, ◌+◌, ◌*◌, ◌≤◌, ◌<◌, ◌≡◌, Bool, drop, ⊤, Result, Ok, Err, Some, None}
 use Rattle.std.specs.Prelude as std
 use Rattle.std.proofs.Common.{arith, add-one, ◌∙◌}
 use Rattle.std.proofs.Math.Path.{refl, sym, ap}
@@ -36,8 +36,9 @@ use Rattle.statement.specs.Layout.{to_column, create_of, statement_at}
 use Rattle.statement.specs.Access.{kind_number, kind_of, statement_of, statement-kind, line_at, name_word}
 use Rattle.statement.specs.declared.access.Kind.TheVariants as K
 use Rattle.statement.specs.EntryAccess.{given_of, map-length}
-use Rattle.plan.specs.Layout.{cell_size, column_size, own_head, create_code}
-use Rattle.plan.specs.Appended.{Appended, appended-none}
+use Rattle.plan.specs.Layout.{cell_size, column_size, own_head, create_code, plan_size, most_plan_cells, nodes_size}
+use Rattle.plan.specs.Pushed.{Kept, Pushed, kept-all, kept-on, pushed-none}
+use Rattle.plan.specs.declared.nodes.Nodes.{Nodes}
 use Rattle.plan.specs.Own as O
 use Rattle.plan.specs.Own.{creating, column_numbers, column-whole, column-one, columns-on, create-whole}
 use Rattle.plan.specs.Room.{columns-size}
@@ -46,9 +47,9 @@ use Rattle.plan.specs.Exit.{pieces, create-exit}
 use Rattle.plan.specs.Emits.{Written}
 use Rattle.plan.specs.Steps.{RefusedWith, refused-on}
 use Rattle.build_statement.specs.Plans.{Ready, Plans, planned_of}
-use Rattle.build_statement.specs.Ends.{plan-count, planned}
+use Rattle.build_statement.specs.Ends.{finish-room, first-own, plan-count, planned}
 use Rattle.build_statement.specs.Kinds.{Free, ready-free}
-use Rattle.build_statement.specs.Pushes.{Pushed, Pushes, pushes-done, pushes-refused, was-done, was-refused}
+use Rattle.build_statement.specs.Pushes.{Pushing, Pushes, pushes-done, pushes-refused, was-done, was-refused}
 use Rattle.build_statement.specs.Create.{nullable_of, made_of, column_of, made-column, columns_at, column-here, column-end}
 use Rattle.build_statement.specs.Create.{create_at, keys_of, Keys, default_of, columns_numbers, table_numbers, CreateReady, with_key}
 
@@ -62,11 +63,11 @@ column-eight m = go m.reference
     go (some w) = refl
 
 -- behind its first numbers there is room for its default
-pub default-room : (c q : Bytes) (e : Entry) (n : Bool) {k j : ℕ} {s t : List ℕ}
-    → ((d : Option Value) → Appended (column_numbers (made_of c q e n d)) k s j t)
-    → k + column_size + cell_size ≤ length s → j + cell_size ≤ length t
+pub default-room : (c q : Bytes) (e : Entry) (n : Bool) {s t : Nodes}
+    → ((d : Option Value) → Pushed (column_numbers (made_of c q e n d)) s t)
+    → s.used + column_size + cell_size ≤ length s.numbers.now → t.used + cell_size ≤ length t.numbers.now
 default-room c q e n h l =
-    let a = h none in
+    let a = (h none).appended in
     omega (arith, a.next, a.all, column-eight (made_of c q e n none))
 
 -- a default that is given
@@ -87,12 +88,12 @@ failed (refused v) w h =
     let z : told statement w ≡ v = cc in
     record { why = v; is = refl; refusal = sym (ap noted (sym z) ∙ rw (named-reason w.reason)) }
 
-module _ (c q : Bytes) (cells : List ℕ) (e : Entry) (n : Bool) (z : n ≡ nullable_of e) (r : Result (std.Option Literal) Refusal)
+module _ (c q : Bytes) (cells : List ℕ) (e : Entry) (n : Bool) (z : n ≡ nullable_of e.column) (r : Result (std.Option Literal) Refusal)
     (h : default_of r ≡ map_answer default_numbers (default_value n (given_of c q cells e))) where
-  pub column-done : {k j i : ℕ} {s t u : List ℕ} (x : std.Option Literal) → r ≡ Ok x
-      → ((d : Option Value) → Appended (column_numbers (made_of c q e n d)) k s j t)
-      → ((d : Option Value) → default_numbers d ≡ given_numbers x → Appended (default_numbers d) j t i u)
-      → Pushes made_numbers (made_column (column_of c q cells e)) k s u (Ok i)
+  pub column-done : {s t u : Nodes} {y : ⊤} (x : std.Option Literal) → r ≡ Ok x
+      → ((d : Option Value) → Pushed (column_numbers (made_of c q e n d)) s t)
+      → ((d : Option Value) → default_numbers d ≡ given_numbers x → Pushed (default_numbers d) t u)
+      → Pushes made_numbers (made_column (column_of c q cells e)) s u (Ok y)
   unfolding map_answer made_of
   column-done x g a b =
       let y = known (default_value n (given_of c q cells e)) x (sym (ap default_of g) ∙ h) in
@@ -105,8 +106,8 @@ module _ (c q : Bytes) (cells : List ℕ) (e : Entry) (n : Bool) (z : n ≡ null
           → made_column (column_of c q cells e) ≡ ok (made_of c q e n d)
       made x d f y = made-column c q cells e ∙ rw (← z, y, f)
 
-  pub column-refused : {k : ℕ} {s u : List ℕ} (w : Refusal) → r ≡ Err w → length u ≡ length s
-      → Pushes made_numbers (made_column (column_of c q cells e)) k s u (Err w)
+  pub column-refused : {s u : Nodes} (w : Refusal) → r ≡ Err w → Kept s u
+      → Pushes made_numbers (made_column (column_of c q cells e)) s u (Err w)
   unfolding map_answer
   column-refused w g kept =
       let y = failed (default_value n (given_of c q cells e)) w (sym (ap default_of g) ∙ h) in
@@ -117,39 +118,39 @@ module _ (c q : Bytes) (cells parts : List ℕ) where
   abbrev made : Answer (List Made)
   made = each made_column (columns_at c q cells parts)
 
-  -- the first i columns are appended behind k numbers, j in use then
-  pub record SoFar (k : ℕ) (s : List ℕ) (i j : ℕ) (t : List ℕ) : Type 0 where
+  -- the first i columns are pushed behind the numbers of s
+  pub record SoFar (i : ℕ) (s t : Nodes) : Type 0 where
     pub columns : List Made
     pub counted : length columns ≡ i
     pub left : made ≡ (each made_column (drop i (columns_at c q cells parts)) >>= λ ns. ok (columns ++ ns))
-    pub numbers : Appended (columns_numbers columns) k s j t
+    pub numbers : Pushed (columns_numbers columns) s t
 
-  pub so-far-none : (k : ℕ) (s : List ℕ) → k ≤ length s → SoFar k s 0 k s
+  pub so-far-none : (s : Nodes) → s.used ≤ length s.numbers.now → SoFar 0 s s
   unfolding columns_numbers concat ◌>>=◌
-  so-far-none k s h = record { columns = []; counted = refl; left = go made; numbers = appended-none k s h }
+  so-far-none s h = record { columns = []; counted = refl; left = go made; numbers = pushed-none s h }
     where
       go : (a : Answer (List Made)) → a ≡ (a >>= λ ns. ok ([] ++ ns))
       go (ok ms) = refl
       go (refused w) = refl
 
-  module _ {k i j : ℕ} {s t : List ℕ} (p : SoFar k s i j t) where
+  module _ {i : ℕ} {s t : Nodes} (p : SoFar i s t) where
     -- how many numbers are in use
-    pub in_use : j ≡ k + (column_size + cell_size) * i
+    pub in_use : t.used ≡ s.used + (column_size + cell_size) * i
     unfolding columns_numbers
-    in_use = omega (arith, p.numbers.next, columns-size p.columns, p.counted)
+    in_use = omega (arith, p.numbers.appended.next, columns-size p.columns, p.counted)
 
-    pub still : length t ≡ length s
-    still = p.numbers.all
+    pub still : Kept s t
+    still = p.numbers.kept
 
     abbrev rest : List NewColumn
     rest = drop (suc i) (columns_at c q cells parts)
 
     module _ (e : Entry) (x : e ≡ numbers_at parts column_kind i) (l : i < length (section_at c q cells parts column_kind))
-        {t' : List ℕ} {r : Pushed} (g : Pushes made_numbers (made_column (column_of c q cells e)) j t t' r) where
-      pub so-far-step : (j' : ℕ) → r ≡ Ok j' → SoFar k s (i + 1) j' t'
+        {u : Nodes} {r : Pushing} (g : Pushes made_numbers (made_column (column_of c q cells e)) t u r) where
+      pub so-far-step : {y : ⊤} → r ≡ Ok y → SoFar (i + 1) s u
       unfolding columns_numbers ◌>>=◌
-      so-far-step j' f =
-          let a = was-done made_numbers g j' f in
+      so-far-step f =
+          let a = was-done made_numbers g f in
           record {
             columns = p.columns ++ (a.value ∷ []);
             counted = length-append p.columns (a.value ∷ []) ∙ rw p.counted;
@@ -164,13 +165,13 @@ module _ (c q : Bytes) (cells parts : List ℕ) where
           go m (ok ms) = ap ok (sym (append_assoc p.columns (m ∷ []) ms))
           go m (refused w) = refl
 
-      pub so-far-stop : (w : Refusal) → r ≡ Err w → Pushes columns_numbers made k s t' (Err w)
+      pub so-far-stop : (w : Refusal) → r ≡ Err w → Pushes columns_numbers made s u (Err w)
       unfolding ◌>>=◌
       so-far-stop w f = pushes-refused columns_numbers (refused-on (was-refused made_numbers g w f)
           (λ v y. p.left ∙ rw (column-here c q cells parts i e x l)
-          (bind-refused _ _ v (columns-refused (column_of c q cells e) rest v y)))) (g.kept ∙ still)
+          (bind-refused _ _ v (columns-refused (column_of c q cells e) rest v y)))) (kept-on still g.kept)
 
-    pub so-far-all : length (section_at c q cells parts column_kind) ≤ i → Pushes columns_numbers made k s t (Ok j)
+    pub so-far-all : {y : ⊤} → length (section_at c q cells parts column_kind) ≤ i → Pushes columns_numbers made s t (Ok y)
     unfolding each ◌>>=◌
     so-far-all h = pushes-done columns_numbers p.columns
         (p.left ∙ rw (column-end c q cells parts i h) (ap ok (append-nil p.columns))) p.numbers
@@ -179,42 +180,45 @@ module _ (c q : Bytes) (cells parts : List ℕ) where
   abbrev pub word : Word
   word = name_word c q cells [] parts
 
-  module _ (key n : ℕ) (f : n ≡ length (section_at c q cells parts column_kind)) {k : ℕ} {s t : List ℕ}
-      (a : Appended (creating word key n []) 0 s k t) where
-    pub head-in-use : k ≡ own_head
+  module _ (key n : ℕ) (f : n ≡ length (section_at c q cells parts column_kind)) {s t : Nodes}
+      (a : Pushed (creating word key n []) s t) where
+    pub head-in-use : t.used ≡ s.used + own_head
     unfolding creating span concat
-    head-in-use = a.next
+    head-in-use = a.appended.next
 
-    pub table-pushes : {u : List ℕ} {r : Pushed} → Pushes columns_numbers made k t u r
-        → Pushes (table_numbers word key) made 0 s u r
+    pub table-pushes : {u : Nodes} {r : Pushing} → Pushes columns_numbers made t u r
+        → Pushes (table_numbers word key) made s u r
     unfolding columns_numbers table_numbers
     table-pushes {u} {r} p = go r refl
       where
-        go : (x : Pushed) → r ≡ x → Pushes (table_numbers word key) made 0 s u r
-        go (Ok j) e =
-            let b = was-done columns_numbers p j e in
+        go : (x : Pushing) → r ≡ x → Pushes (table_numbers word key) made s u r
+        go (Ok y) e =
+            let b = was-done columns_numbers p e in
             let l : length b.value ≡ length (columns_at c q cells parts) =
             ensured made _ (each-length made_column (columns_at c q cells parts)) b.value b.ok-is in
             let m : n ≡ length b.value =
             f ∙ sym (map-length to_column (section_at c q cells parts column_kind)) ∙ sym l in
             rw e (pushes-done (table_numbers word key) b.value b.ok-is
             (create-whole word key n b.value m (O.create-columns word key n [] b.value a b.numbers)))
-        go (Err w) e = rw e (pushes-refused (table_numbers word key) (was-refused columns_numbers p w e) (p.kept ∙ a.all))
+        go (Err w) e = rw e (pushes-refused (table_numbers word key) (was-refused columns_numbers p w e) (kept-on a.kept p.kept))
 
-  module _ (key : ℕ) {nodes nodes' : List ℕ} {r : Pushed} (p : Pushes (table_numbers word key) made 0 nodes nodes' r) where
-    pub table-end : (e : ℕ) → r ≡ Ok e → e ≤ length nodes
-    table-end e g = (was-done (table_numbers word key) p e g).numbers.fits
+  module _ (key : ℕ) {s t : Nodes} {r : Pushing} (p : Pushes (table_numbers word key) made s t r) where
+    pub create-room : {area : List ℕ} {y : ⊤} → r ≡ Ok y → Free area s
+        → (plan_size ≤ length area) × (0 ≤ most_plan_cells) × (s.used ≤ t.used) × (t.used ≤ nodes_size)
+        × (t.used ≤ length t.numbers.now)
+    create-room g f = finish-room f (kept-all s) (was-done (table_numbers word key) p g).numbers (omega arith)
 
-    pub created : {area area' : List ℕ} (e : ℕ) → r ≡ Ok e → Free area nodes → length area' ≡ length area
-        → area' ≡ finished create_code 0 0 0 e nodes' area → Plans (with_key c q cells parts key) area area' (Ok 0)
+    pub created : {area area' : List ℕ} {y : ⊤} → r ≡ Ok y → Free area s → length area' ≡ length area
+        → area' ≡ finished create_code 0 0 s.used t.used t.numbers.now area
+        → Plans (with_key c q cells parts key) area area' (Ok 0)
     unfolding table_numbers with_key records_numbers cells_numbers concat
-    created {area} {area'} e g free l h =
-        let b = was-done (table_numbers word key) p e g in
+    created {area} {area'} g free l h =
+        let b = was-done (table_numbers word key) p g in
         let y = pieces {cs = []} {n = 0} {t = area} [] (own_numbers (P.create word key b.value)) area refl
-        (omega (arith, free.area_room)) (sym (append-nil _)) (appended-none 0 nodes (omega arith)) b.numbers in
+        (omega (arith, free.area_room)) (sym (append-nil _)) free.none (pushed-none s (omega (arith, free.none))) b.numbers in
         planned (P.create word key b.value) (bind_ok _ _ b.value b.ok-is)
         (plan-count (P.create word key b.value) create_code [] [] _ 0 0 (create-area word key b.value)) l
-        (h ∙ create-exit e nodes' area area refl word key b.value y)
+        ((rw free.none at h) ∙ create-exit t.used t.numbers.now area area refl word key b.value (first-own free.none y))
 
     pub not-created : {area area' : List ℕ} (w : Refusal) → r ≡ Err w → length area' ≡ length area
         → Plans (with_key c q cells parts key) area area' (Err w)
@@ -265,7 +269,7 @@ module _ (c q : Bytes) (cells froms parts : List ℕ) (e : K.Create ≡ kind_of 
   unfolding statement_of
   create-is = statement-kind c q cells froms parts K.Create e
 
-  pub create-ready : {tables area nodes : List ℕ} → Ready c q tables cells froms parts area nodes
+  pub create-ready : {tables area : List ℕ} {nodes : Nodes} → Ready c q tables cells froms parts area nodes
       → CreateReady c q cells parts area nodes
   unfolding create_of
   create-ready {tables} {area} {nodes} h =

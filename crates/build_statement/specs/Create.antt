@@ -2,12 +2,10 @@
 -- and flags.
 use Rattle.std.specs.Prelude.{ℕ, suc, ◌≤◌, ◌<◌, ◌≡◌, Bool, ◌&&◌, ◌||◌, List, [], ◌∷◌, map, length, drop, Result, Ok, Err, Some, None}
 use Rattle.std.specs.Prelude as std
-use Rattle.std.proofs.Common.{arith, sym, drop_of_length-le}
+use Rattle.std.proofs.Common.{arith, drop_of_length-le}
 use Rattle.std.proofs.Math.Path.{refl, ap}
 use Rattle.std.proofs.Math.Bool.{true, false, not}
 use Rattle.std.proofs.Math.Option.{Option, some}
-use Rattle.std.proofs.Math.Dec.{eqb}
-use borrow.Author.Tests.{eqb-true, eqb-false, eq-eqb, ne_eqb}
 use Rattle.rules.specs.Refusals.{statement, Answer, ok, refused, ◌>>=◌, refuse}
 use Rattle.rules.specs.Limits.{most_table_columns}
 use Rattle.rules.specs.Lists.{Bytes, concat, is_some, or_else}
@@ -23,10 +21,11 @@ use Rattle.rules.specs.Area.{span, option_span, value_numbers, default_numbers, 
 use Rattle.numbers.specs.Reasons.{told}
 use Rattle.numbers.specs.declared.refusals.Refusal.{Refusal}
 use Rattle.ast.specs.Table.{tree_at}
-use Rattle.numbers.specs.Values.{is_one}
 use Rattle.text.specs.declared.places.Place.{Place}
-use Rattle.plan.specs.Places.{option_place}
-use Rattle.ast.specs.Names.{name_at}
+use Rattle.ast.specs.Names.{option_name}
+use Rattle.numbers.specs.Options.{option_of}
+use Rattle.numbers.specs.Datatypes.{type_of}
+use Rattle.entries.specs.declared.NewColumn as given
 use Rattle.sections.specs.Layout.{section_at}
 use Rattle.sections.specs.Access.{column_kind, numbers_at, after-drop}
 use Rattle.sections.specs.Expressions.{first_row}
@@ -38,47 +37,54 @@ use Rattle.expression.specs.declared.Constant.{Constant}
 use Rattle.expression.specs.declared.Constant.TheVariants as Co
 use Rattle.numbers.specs.Literals.{literal_value, literal_numbers, given_numbers}
 use Rattle.numbers.specs.declared.literals.Literal.{Literal}
-use Rattle.statement.specs.Layout.{to_null, to_column, map_entries, create_of}
-use Rattle.numbers.specs.Values.{type_at}
-use Rattle.statement.specs.Access.{line_at, name_address, name_length, name_word}
-use Rattle.statement.specs.EntryAccess.{name-none, name-some, name_start, word_of, null-rest, given_of, given-none, given-some, map-length, column-at}
+use Rattle.statement.specs.Layout.{to_column, map_entries, create_of}
+use Rattle.statement.specs.Access.{line_at, name_address, name_length, name_word, name_or}
+use Rattle.statement.specs.EntryAccess.{word_of, given_of, given-none, given-some, map-length, column-at}
 use Rattle.build_statement.specs.Kinds.{Free}
+use Rattle.plan.specs.Places.{place_numbers}
+use Rattle.text.specs.Places.{option_numbers}
+use Rattle.plan.specs.declared.nodes.Nodes.{Nodes}
 
 -- COLUMNS
 -- whether a column may be null
-unfoldable pub nullable_of : Entry → Bool
-nullable_of e = or_else (to_null e.nullable) (not (is_one e.key))
+unfoldable pub nullable_of : given.NewColumn → Bool
+nullable_of n = or_else (option_of n.nullable) (not n.key)
 
-pub nullable-rest : (e : Entry) → (e.nullable ≡ 1 → ⊥) → (e.nullable ≡ 2 → ⊥) → not (eqb e.key 1) ≡ nullable_of e
-unfolding nullable_of or_else is_one
-nullable-rest e f g = rw (null-rest e.nullable f g)
+pub nullable-is : (n : given.NewColumn) → std.unwrap_or n.nullable (not n.key) ≡ nullable_of n
+unfolding nullable_of or_else
+nullable-is n = go n.nullable
+  where
+    go : (o : std.Option Bool) → std.unwrap_or o (not n.key) ≡ or_else (option_of o) (not n.key)
+    go std.None = refl
+    go (std.Some b) = refl
 
 -- the numbers of its name
-pub name-span : (c q : Bytes) (e : Entry) (a n : ℕ) → a ≡ name_start e → n ≡ length (bytes_at c q a e.length)
-    → span (word_of c q e) ≡ a ∷ n ∷ []
+pub name-span : (c q : Bytes) (e : Entry) {a p : Place} → a ≡ name_or e.name → p.address ≡ a.address
+    → p.length ≡ length (bytes_at c q a.address a.length) → span (word_of c q e) ≡ place_numbers p
 unfolding span word_at
-name-span c q e a n f g = rw (g, f)
+name-span c q e f g h = rw (h, g, f)
 
 -- and of the statement's
-pub word-span : (c q : Bytes) (parts : List ℕ) (a b n : ℕ) → a ≡ name_address parts → b ≡ name_length parts
-    → n ≡ length (bytes_at c q a b) → span (word_at c q (name_address parts) (name_length parts)) ≡ a ∷ n ∷ []
+pub word-span : (c q : Bytes) (parts : List ℕ) {a n : ℕ} {p : Place} → a ≡ name_address parts → n ≡ name_length parts
+    → p.address ≡ a → p.length ≡ length (bytes_at c q a n)
+    → span (word_at c q (name_address parts) (name_length parts)) ≡ place_numbers p
 unfolding span word_at
-word-span c q parts a b n f g h = rw (h, f, g)
+word-span c q parts f g h l = rw (l, h, f, g)
 
 module _ (c q : Bytes) where
-  unfoldable pub index_of : Entry → Bool
-  index_of e = (is_one e.index || is_one e.unique || is_some (name_at c q e.reference e.extent)) && not (is_one e.key)
+  unfoldable pub index_of : given.NewColumn → Bool
+  index_of n = (n.index || n.unique || is_some (option_name c q n.reference)) && not n.key
 
   -- the column that is made of an entry, with its default
   unfoldable pub made_of : Entry → Bool → Option Value → Made
   made_of e n d = record {
     name = word_of c q e;
-    type = type_at e.code;
+    type = type_of e.column.datatype;
     nullable = n;
     default = d;
-    unique = is_one e.unique || is_one e.key;
-    index = index_of e;
-    reference = name_at c q e.reference e.extent;
+    unique = e.column.unique || e.column.key;
+    index = index_of e.column;
+    reference = option_name c q e.column.reference;
   }
 
   module _ (cells : List ℕ) where
@@ -86,22 +92,22 @@ module _ (c q : Bytes) where
     column_of e = record {
       line = e.line;
       name = word_of c q e;
-      type = type_at e.code;
-      key = is_one e.key;
-      nullable = to_null e.nullable;
-      unique = is_one e.unique;
-      index = is_one e.index;
+      type = type_of e.column.datatype;
+      key = e.column.key;
+      nullable = option_of e.column.nullable;
+      unique = e.column.unique;
+      index = e.column.index;
       default = given_of c q cells e;
-      reference = name_at c q e.reference e.extent;
+      reference = option_name c q e.column.reference;
     }
 
     -- a column is made where its default is
     pub made-column : (e : Entry)
-        → made_column (column_of e) ≡ map_answer (made_of e (nullable_of e)) (default_value (nullable_of e) (given_of c q cells e))
+        → made_column (column_of e) ≡ map_answer (made_of e (nullable_of e.column)) (default_value (nullable_of e.column) (given_of c q cells e))
     unfolding made_column column_of made_of nullable_of index_of map_answer ◌>>=◌
-    made-column e = go (default_value (nullable_of e) (given_of c q cells e))
+    made-column e = go (default_value (nullable_of e.column) (given_of c q cells e))
       where
-        go : (a : Answer (Option Value)) → (a >>= λ d. ok (made_of e (nullable_of e) d)) ≡ map_answer (made_of e (nullable_of e)) a
+        go : (a : Answer (Option Value)) → (a >>= λ d. ok (made_of e (nullable_of e.column) d)) ≡ map_answer (made_of e (nullable_of e.column)) a
         go (ok d) = refl
         go (refused w) = refl
 
@@ -133,18 +139,18 @@ module _ (c q : Bytes) where
         pub inside : (i : ℕ) → r ≡ Some i → i < length (section_at c q cells parts column_kind)
 
       pub key-hit : (i : ℕ) (e : Entry) → e ≡ numbers_at parts column_kind i
-          → i < length (section_at c q cells parts column_kind) → e.key ≡ 1
+          → i < length (section_at c q cells parts column_kind) → e.column.key ≡ true
           → key_columns i (drop i columns_at) ≡ keys_of (Some i)
-      unfolding key_columns keys_of column_of is_one
+      unfolding key_columns keys_of column_of
       key-hit i e h l k =
           let z : e.line ≡ (numbers_at parts column_kind i).line = ap (λ (x : Entry). x.line) h in
-          rw (column-here i e h l, key_columns, eq-eqb e.key 1 k, z)
+          rw (column-here i e h l, key_columns, k, z)
 
       pub key-miss : (i : ℕ) (e : Entry) → e ≡ numbers_at parts column_kind i
-          → i < length (section_at c q cells parts column_kind) → (e.key ≡ 1 → ⊥)
+          → i < length (section_at c q cells parts column_kind) → e.column.key ≡ false
           → key_columns i (drop i columns_at) ≡ key_columns (suc i) (drop (suc i) columns_at)
-      unfolding key_columns column_of is_one
-      key-miss i e h l k = rw (column-here i e h l, key_columns, ne_eqb e.key 1 k)
+      unfolding key_columns column_of
+      key-miss i e h l k = rw (column-here i e h l, key_columns, k)
 
       pub key-none : (i : ℕ) → length (section_at c q cells parts column_kind) ≤ i
           → key_columns i (drop i columns_at) ≡ keys_of None
@@ -158,67 +164,46 @@ pub missing_at : {i : ℕ} {A : Type 0} → None ≡ Some i → A
 missing_at e = absurd (let z : ◌≡◌ {A = ℕ} 0 1 = cc in omega arith)
 
 -- REFERENCES
--- the address of the table that a column refers to, 0 where it refers to none
-unfoldable pub reference_of : Bytes → Bytes → Entry → std.Option Place
-reference_of c q e = elim (eqb e.extent 0) [
-  | true ↦ std.None
-  | false ↦ std.Some (record { address = e.reference; length = length (bytes_at c q e.reference e.extent) })
-]
+-- the place of the name of the table that a column refers to
+unfoldable pub place_of : Bytes → Bytes → std.Option Place → std.Option Place
+place_of c q std.None = std.None
+place_of c q (std.Some p) = std.Some (record { address = p.address; length = length (bytes_at c q p.address p.length) })
 
-module _ (c q : Bytes) (e : Entry) where
-  pub reference-none : e.extent ≡ 0 → std.None ≡ reference_of c q e
-  unfolding reference_of
-  reference-none h = rw (reference_of, eq-eqb e.extent 0 h)
+abbrev pub reference_of : Bytes → Bytes → given.NewColumn → std.Option Place
+reference_of c q n = place_of c q n.reference
 
-  pub reference-some : {n : ℕ} → (e.extent ≡ 0 → ⊥) → n ≡ length (bytes_at c q e.reference e.extent)
-      → std.Some (record { address = e.reference; length = n }) ≡ reference_of c q e
-  unfolding reference_of
-  reference-some h l = rw (reference_of, ne_eqb e.extent 0 h, l)
-
-  pub reference-span : {p : std.Option Place} → p ≡ reference_of c q e
-      → option_span (name_at c q e.reference e.extent) ≡ option_place p
-  unfolding option_span span word_at
-  reference-span f = rw f (go (eqb e.extent 0) refl)
-    where
-      go : (t : Bool) → eqb e.extent 0 ≡ t
-          → option_span (name_at c q e.reference e.extent) ≡ option_place (reference_of c q e)
-      go true h = let z = eqb-true e.extent 0 h in rw (name-none c q e.reference e.extent z, ← reference-none z)
-      go false h =
-          let z = eqb-false e.extent 0 h in
-          rw (name-some c q e.reference e.extent z, ← reference-some z refl)
+module _ (c q : Bytes) where
+  pub reference-span : (o : std.Option Place) {p : std.Option Place} → p ≡ place_of c q o → option_span (option_name c q o) ≡ option_numbers p
+  unfolding option_span span word_at option_name place_of
+  reference-span std.None f = rw f
+  reference-span (std.Some x) f = rw f
 
 -- INDEX
-module _ (c q : Bytes) (e : Entry) where
-  pub index_key : e.key ≡ 1 → false ≡ index_of c q e
-  unfolding index_of is_one
-  index_key h = rw (eq-eqb e.key 1 h)
-      (sym (and-false (eqb e.index 1 || eqb e.unique 1 || is_some (name_at c q e.reference e.extent))))
+module _ (c q : Bytes) (n : given.NewColumn) where
+  pub index_key : n.key ≡ true → false ≡ index_of c q n
+  unfolding index_of
+  index_key k = rw k (go (n.index || n.unique || is_some (option_name c q n.reference)))
     where
-      and-false : (b : Bool) → (b && false) ≡ false
-      and-false true = refl
-      and-false false = refl
+      go : (b : Bool) → false ≡ (b && false)
+      go true = refl
+      go false = refl
 
-  module _ (k : e.key ≡ 1 → ⊥) where
-    pub index-given : e.index ≡ 1 → true ≡ index_of c q e
-    unfolding index_of is_one
-    index-given h = rw (ne_eqb e.key 1 k, eq-eqb e.index 1 h)
+  module _ (k : n.key ≡ false) where
+    pub index-given : n.index ≡ true → true ≡ index_of c q n
+    unfolding index_of
+    index-given h = rw (k, h)
 
-    pub index-unique : e.unique ≡ 1 → true ≡ index_of c q e
-    unfolding index_of is_one
-    index-unique h = rw (ne_eqb e.key 1 k, eq-eqb e.unique 1 h) (go (eqb e.index 1))
+    pub index-unique : n.index ≡ false → n.unique ≡ true → true ≡ index_of c q n
+    unfolding index_of
+    index-unique g h = rw (k, g, h)
+
+    pub index-reference : n.index ≡ false → n.unique ≡ false → std.is_some n.reference ≡ index_of c q n
+    unfolding index_of option_name is_some
+    index-reference g h = rw (k, g, h) (go n.reference)
       where
-        go : (b : Bool) → true ≡ ((b || true || is_some (name_at c q e.reference e.extent)) && true)
-        go true = refl
-        go false = refl
-
-    pub index-reference : (e.index ≡ 1 → ⊥) → (e.unique ≡ 1 → ⊥) → not (eqb e.extent 0) ≡ index_of c q e
-    unfolding index_of is_one is_some
-    index-reference h g = rw (ne_eqb e.key 1 k, ne_eqb e.index 1 h, ne_eqb e.unique 1 g) (go (eqb e.extent 0) refl)
-      where
-        go : (t : Bool) → eqb e.extent 0 ≡ t
-            → not (eqb e.extent 0) ≡ (is_some (name_at c q e.reference e.extent) && true)
-        go true y = rw (y, name-none c q e.reference e.extent (eqb-true e.extent 0 y))
-        go false y = rw (y, name-some c q e.reference e.extent (eqb-false e.extent 0 y))
+        go : (o : std.Option Place) → std.is_some o ≡ ((false || false || is_some (option_name c q o)) && true)
+        go std.None = refl
+        go (std.Some p) = refl
 
 -- DEFAULTS
 unfoldable pub default_of : Result (std.Option Literal) Refusal → Answer (List ℕ)
@@ -267,7 +252,7 @@ unfoldable pub table_numbers : Word → ℕ → List Made → List ℕ
 table_numbers w key ms = own_numbers (P.create w key ms)
 
 -- ROOM AND THE WHOLE
-pub record CreateReady (c q : Bytes) (cells parts area nodes : List ℕ) : Type 0 where
+pub record CreateReady (c q : Bytes) (cells parts area : List ℕ) (nodes : Nodes) : Type 0 where
   pub few_columns : length (section_at c q cells parts column_kind) ≤ most_table_columns
   pub free : Free area nodes
 

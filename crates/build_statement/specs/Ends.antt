@@ -1,5 +1,5 @@
 -- A whole statement's answer from its plan, or from its refusal; its name, and the room at its end.
-use Rattle.std.specs.Prelude.{ℕ, ◌≤◌, ◌≡◌, List, [], ◌∷◌, length, get_or, Ok, Err}
+use Rattle.std.specs.Prelude.{ℕ, ◌≤◌, ◌≡◌, List, [], length, get_or, Ok, Err}
 use Rattle.std.proofs.Common.{arith, sym, ap, ◌∙◌}
 use Rattle.rules.specs.Refusals.{Reason, Refusal, Answer, ok, refused, refuse}
 use Rattle.rules.specs.Lists.{Bytes}
@@ -11,29 +11,41 @@ use Rattle.rules.specs.Area.{span, header, plan_numbers}
 use Rattle.rules.specs.Entry.{outcome}
 use Rattle.appends.specs.Answers.{ok-not-refused}
 use Rattle.appends.specs.Area.{header_of, area_of}
+use Rattle.text.specs.declared.places.Place.{Place}
 use Rattle.plan.specs.Layout.{plan_size, most_plan_cells, nodes_size}
+use Rattle.plan.specs.Pushed.{Kept, Pushed}
+use Rattle.plan.specs.Places.{place_numbers}
+use Rattle.plan.specs.declared.nodes.Nodes.{Nodes}
 use Rattle.plan.specs.Emits.{Written}
+use Rattle.plan.specs.Exit.{Pieces}
 use Rattle.numbers.specs.Reasons.{named, noted}
 use Rattle.numbers.specs.declared.refusals.Reason as code
 use Rattle.build_statement.specs.Plans.{planned_of, Plans}
 use Rattle.build_statement.specs.Kinds.{Free}
 
--- the numbers of a name at an address
-pub span-at : (c q : Bytes) (a n l : ℕ) → l ≡ length (bytes_at c q a n) → span (word_at c q a n) ≡ a ∷ l ∷ []
+-- the numbers of a name at a place that is cut to its text
+pub span-at : (c q : Bytes) (a n : ℕ) {p : Place} → p.address ≡ a → p.length ≡ length (bytes_at c q a n)
+    → span (word_at c q a n) ≡ place_numbers p
 unfolding span word_at
-span-at c q a n l h = rw h
+span-at c q a n g h = rw (g, h)
 
--- there is room for n cells, and for e numbers of the nodes
-pub finish-room : {area nodes : List ℕ} {n k e : ℕ} (nodes' : List ℕ) → Free area nodes → length nodes' ≡ length nodes
-    → n ≤ most_plan_cells → k ≤ e → e ≤ length nodes
-    → (plan_size ≤ length area) × (n ≤ most_plan_cells) × (k ≤ e) × (e ≤ nodes_size) × (e ≤ length nodes')
-finish-room nodes' f l m k e = (
-  omega (arith, f.area_room),
-  m,
-  k,
-  omega (arith, e, f.nodes_room),
-  omega (arith, e, l),
-)
+-- there is room for n cells, and for the own numbers that are pushed behind the nodes' numbers of t
+pub finish-room : {area : List ℕ} {s t u : Nodes} {n : ℕ} {ws : List ℕ} → Free area s → Kept s t → Pushed ws t u
+    → n ≤ most_plan_cells
+    → (plan_size ≤ length area) × (n ≤ most_plan_cells) × (t.used ≤ u.used) × (u.used ≤ nodes_size)
+    × (u.used ≤ length u.numbers.now)
+finish-room f k p m =
+    let a = p.appended in (
+      omega (arith, f.area_room),
+      m,
+      omega (arith, a.next),
+      omega (arith, a.fits, k.all, f.nodes_room),
+      omega (arith, a.fits, a.all),
+    )
+
+-- with no node, the own numbers are the first
+pub first-own : {ws : List ℕ} {k e : ℕ} {s t : List ℕ} → k ≡ 0 → Pieces [] [] ws 0 k e s t → Pieces [] [] ws 0 0 e s t
+first-own z h = rw z at h
 
 -- the header says how many cells a plan has
 pub plan-count : (p : Plan Built) (c : ℕ) (cs : List Cell) (rs : List NodeRecord) (ws : List ℕ) (n m : ℕ)

@@ -1,6 +1,6 @@
 -- Each kind of statement by the numbers it was read to, and what is known of it and of the room for its plan.
 use Rattle.std.specs.Prelude.{ℕ, ◌≤◌, ◌≡◌, List, length}
-use Rattle.std.proofs.Common.{arith, ◌∙◌}
+use Rattle.std.proofs.Common.{arith}
 use Rattle.std.proofs.Math.Path.{ap}
 use Rattle.rules.specs.Limits.{least_area}
 use Rattle.rules.specs.Lists.{Bytes}
@@ -21,20 +21,21 @@ use Rattle.statement.specs.Layout.{delete_of, insert_of, update_of, statement_at
 use Rattle.statement.specs.Access.{kind_number, line_at, name_address, name_length, drop_flag, kind_of, statement_of, statement-kind}
 use Rattle.statement.specs.declared.access.Kind.TheVariants as K
 use Rattle.plan.specs.Layout.{nodes_size}
+use Rattle.plan.specs.declared.nodes.Nodes.{Nodes}
 use Rattle.build_statement.specs.Plans.{Ready}
 
--- there is room for a plan
-pub record Free (area nodes : List ℕ) : Type 0 where
+-- there is room for a plan, and none of it is in use
+pub record Free (area : List ℕ) (nodes : Nodes) : Type 0 where
   pub area_room : least_area ≤ length area
-  pub nodes_room : length nodes ≡ nodes_size
+  pub nodes_room : length nodes.numbers.now ≡ nodes_size
+  pub none : nodes.used ≡ 0
 
--- and there still is where the lengths are kept
-pub free-kept : {area area' nodes nodes' : List ℕ} → Free area nodes → length area' ≡ length area
-    → length nodes' ≡ length nodes → Free area' nodes'
-free-kept f e g = record { area_room = omega (arith, f.area_room, e); nodes_room = g ∙ f.nodes_room }
+-- and there still is where the area's length is kept
+pub free-kept : {area area' : List ℕ} {nodes : Nodes} → Free area nodes → length area' ≡ length area → Free area' nodes
+free-kept f e = record { area_room = omega (arith, f.area_room, e); nodes_room = f.nodes_room; none = f.none }
 
 -- and the catalog's numbers and the statement s were read from the texts c and q
-pub record ReadyFor (c q : Bytes) (tables : List ℕ) (s : Statement) (area nodes : List ℕ) : Type 0 where
+pub record ReadyFor (c q : Bytes) (tables : List ℕ) (s : Statement) (area : List ℕ) (nodes : Nodes) : Type 0 where
   pub within : TextsWithin c q (catalog_at c q tables) s
   pub free : Free area nodes
 
@@ -55,11 +56,11 @@ update_at c q cells parts =
     update_of (line_at parts) (name_of c q parts) (section_at c q cells parts set_kind) (section_at c q cells parts where_kind)
 
 -- FROM WHAT WAS READ
-pub ready-free : {c q : Bytes} {tables cells froms parts area nodes : List ℕ}
+pub ready-free : {c q : Bytes} {tables cells froms parts area : List ℕ} {nodes : Nodes}
     → Ready c q tables cells froms parts area nodes → Free area nodes
-ready-free h = record { area_room = h.area_room; nodes_room = h.nodes_room }
+ready-free h = record { area_room = h.area_room; nodes_room = h.nodes_room; none = h.none }
 
-ready_for : {c q : Bytes} {tables cells froms parts area nodes : List ℕ} (s : Statement)
+ready_for : {c q : Bytes} {tables cells froms parts area : List ℕ} {nodes : Nodes} (s : Statement)
     → Ready c q tables cells froms parts area nodes → statement_at c q cells froms parts ≡ s
     → ReadyFor c q tables s area nodes
 ready_for s h e = record { within = rw e at h.within; free = ready-free h }
@@ -76,7 +77,7 @@ module _ (c q : Bytes) (cells froms parts : List ℕ) where
     unfolding statement_of
     delete-is = statement-kind c q cells froms parts K.Delete e
 
-    pub delete-ready : {tables area nodes : List ℕ} → Ready c q tables cells froms parts area nodes
+    pub delete-ready : {tables area : List ℕ} {nodes : Nodes} → Ready c q tables cells froms parts area nodes
         → ReadyFor c q tables (Ast.delete (delete_at c q cells parts)) area nodes
     delete-ready h = ready_for _ h delete-is
 
@@ -90,7 +91,7 @@ module _ (c q : Bytes) (cells froms parts : List ℕ) where
     unfolding statement_of
     insert-is = statement-kind c q cells froms parts K.Insert e
 
-    pub insert-ready : {tables area nodes : List ℕ} → Ready c q tables cells froms parts area nodes
+    pub insert-ready : {tables area : List ℕ} {nodes : Nodes} → Ready c q tables cells froms parts area nodes
         → ReadyFor c q tables (Ast.insert (insert_at c q cells parts)) area nodes
     insert-ready h = ready_for _ h insert-is
 
@@ -104,7 +105,7 @@ module _ (c q : Bytes) (cells froms parts : List ℕ) where
     unfolding statement_of
     update-is = statement-kind c q cells froms parts K.Update e
 
-    pub update-ready : {tables area nodes : List ℕ} → Ready c q tables cells froms parts area nodes
+    pub update-ready : {tables area : List ℕ} {nodes : Nodes} → Ready c q tables cells froms parts area nodes
         → ReadyFor c q tables (Ast.update (update_at c q cells parts)) area nodes
     update-ready h = ready_for _ h update-is
 

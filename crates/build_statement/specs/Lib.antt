@@ -5,7 +5,7 @@ pub mod Drops
 pub mod Tables
 pub mod Clauses
 pub mod Scans
-pub mod Filtered
+pub mod Targets
 pub mod Deletes
 pub mod Pushes
 pub mod Create

@@ -1,4 +1,4 @@
--- The contracts of building a statement: what is known of the slices, and what a whole statement's answer and area are.
+-- The contracts of building a statement: what is known of the slices and the nodes, and what a whole statement's answer and area are.
 use Rattle.std.specs.Prelude.{ℕ, ◌≤◌, ◌≡◌, List, length}
 use Rattle.rules.specs.Refusals.{Answer, ok}
 use Rattle.rules.specs.Limits.{least_area}
@@ -10,13 +10,15 @@ use Rattle.claims.specs.Within.{TextsWithin}
 use Rattle.schema.specs.Layout.{catalog_at}
 use Rattle.statement.specs.Layout.{statement_at}
 use Rattle.plan.specs.Layout.{nodes_size}
+use Rattle.plan.specs.declared.nodes.Nodes.{Nodes}
 use Rattle.plan.specs.Emits.{result_by, Written}
 
--- the numbers stand for a catalog and a statement that were read from the texts c and q, and there is room for a plan
-pub record Ready (c q : Bytes) (tables cells froms parts area nodes : List ℕ) : Type 0 where
+-- the numbers stand for a catalog and a statement that were read from the texts c and q, there is room for a plan, and none of it is in use
+pub record Ready (c q : Bytes) (tables cells froms parts area : List ℕ) (nodes : Nodes) : Type 0 where
   pub within : TextsWithin c q (catalog_at c q tables) (statement_at c q cells froms parts)
   pub area_room : least_area ≤ length area
-  pub nodes_room : length nodes ≡ nodes_size
+  pub nodes_room : length nodes.numbers.now ≡ nodes_size
+  pub none : nodes.used ≡ 0
 
 -- the number of cells, or the refusal
 unfoldable pub planned_of : Answer (Plan Built) → Written

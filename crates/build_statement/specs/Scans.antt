@@ -1,15 +1,16 @@
 -- The one scan of a DELETE or an UPDATE, its filter's cells the first of the plan.
-use Rattle.std.specs.Prelude.{ℕ, zero, suc, ◌*◌, ◌≤◌, ◌≡◌, List, [], ◌∷◌, length}
+use Rattle.std.specs.Prelude.{ℕ, ◌+◌, ◌*◌, ◌-◌, ◌≤◌, ◌≡◌, List, [], ◌∷◌, length, SomeIff, Some, None}
 use Rattle.std.specs.Prelude as std
 use Rattle.std.proofs.Common.{arith}
-use Rattle.std.proofs.Math.Path.{refl}
+use Rattle.std.proofs.Math.Path.{refl, ap}
 use Rattle.std.proofs.Math.Option.{Option, none, some}
 use Rattle.rules.specs.Lists.{Bytes}
 use Rattle.rules.specs.Lines.{Word}
 use Rattle.rules.specs.Places.{bytes_at}
 use Rattle.rules.specs.Schema.{Table, named_by}
-use Rattle.rules.specs.Limits.{most_cells}
+use Rattle.rules.specs.Limits.{most_cells, least_area}
 use Rattle.rules.specs.Nodes.{scan}
+use Rattle.numbers.specs.Options.{option_of}
 use Rattle.rules.specs.Area.{span, option_span, option_number, sized, record_numbers}
 use Rattle.rules.specs.Sizes.{clause_size}
 use Rattle.appends.specs.Area.{records_numbers}
@@ -19,43 +20,47 @@ use Rattle.sections.specs.Expressions.{outside_row}
 use Rattle.statement.specs.Layout.{to_clause}
 use Rattle.statement.specs.EntryAccess.{clause_at, clause_of, clause-is}
 use Rattle.statement.specs.declared.access.Clause.{Clause}
+use Rattle.text.specs.declared.places.Place.{Place}
 use Rattle.plan.specs.Layout.{scan_size}
-use Rattle.plan.specs.Appended.{Appended}
+use Rattle.plan.specs.Pushed.{Kept, Pushed}
+use Rattle.plan.specs.Places.{place_numbers}
+use Rattle.plan.specs.declared.nodes.Nodes.{Nodes}
 use Rattle.plan.specs.Records.{records-first}
 use Rattle.plan.specs.Cells.{Room}
-use Rattle.build_statement.specs.Kinds.{Free}
 use Rattle.build_statement.specs.Ends.{span-at}
 use Rattle.build_statement.specs.Tables.{table_named}
 
--- a root by its number
-unfoldable pub root_of : ℕ → Option ℕ
-root_of zero = none
-root_of (suc m) = some m
+-- the root of a filter whose cells end before cell m: the last of them, if there are any
+pub root-is : (m : ℕ) (r : std.Option ℕ) → SomeIff r (1 ≤ m) (m - 1) → (o : Option ℕ) → option_number o ≡ m
+    → option_of r ≡ o
+unfolding option_number
+root-is m None h none e = refl
+root-is m None h (some y) e = absurd (h (omega (arith, e)))
+root-is m (Some x) h none e = absurd (omega (arith, e, h.0))
+root-is m (Some x) h (some y) e = let z : x ≡ y = omega (arith, e, h.1) in ap some z
 
-pub root-number : (m : ℕ) → option_number (root_of m) ≡ m
-unfolding option_number root_of
-root-number zero = refl
-root-number (suc m) = omega arith
+pub root-most : (m : ℕ) (r : std.Option ℕ) → SomeIff r (1 ≤ m) (m - 1) → option_number (option_of r) ≤ m
+unfolding option_number
+root-most m None h = omega arith
+root-most m (Some x) h = omega (arith, h.0, h.1)
 
--- what is appended for a scan of a table whose name is the l bytes at a, its filter's root m
-abbrev pub Scanned : ℕ → ℕ → ℕ → List ℕ → ℕ → List ℕ → Type 0
-Scanned a l m nodes k nodes' = (t : Table) (w : Option Word) (x : Option ℕ) → span t.name ≡ a ∷ l ∷ []
-    → option_span w ≡ 0 ∷ 0 ∷ [] → option_number x ≡ m → Appended (record_numbers (scan t w x)) 0 nodes k nodes'
+-- what is pushed for a scan of a table whose name is at the place p, its filter's root x
+abbrev pub Scanned : Place → Option ℕ → Nodes → Nodes → Type 0
+Scanned p x s t = (b : Table) (w : Option Word) → span b.name ≡ place_numbers p → option_span w ≡ 0 ∷ 0 ∷ []
+    → Pushed (record_numbers (scan b w x)) s t
 
-module _ (c q : Bytes) (tables : List ℕ) (i a n l m : ℕ) {nodes nodes' : List ℕ} {k : ℕ}
-    (hl : l ≡ length (bytes_at c q a n)) (h : Scanned a l m nodes k nodes') where
-  pub scan-record : (o : Option ℕ) → option_number o ≡ m
-      → Appended (records_numbers (scan (table_named c q tables i a n) none o ∷ [])) 0 nodes k nodes'
+module _ (c q : Bytes) (tables : List ℕ) (i a n : ℕ) (x : Option ℕ) {p : Place} {s t : Nodes} (ha : p.address ≡ a)
+    (hl : p.length ≡ length (bytes_at c q a n)) (h : Scanned p x s t) where
+  pub scan-record : Pushed (records_numbers (scan (table_named c q tables i a n) none x ∷ [])) s t
   unfolding named_by option_span
-  scan-record o e = records-first _ (h (table_named c q tables i a n) none o (span-at c q a n l hl) refl e)
+  scan-record = records-first _ (h (table_named c q tables i a n) none (span-at c q a n ha hl) refl)
 
-  pub scan-in-use : k ≡ scan_size
+  pub scan-in-use : t.used ≡ s.used + scan_size
   unfolding record_numbers sized span option_span named_by
-  scan-in-use = (h (table_named c q tables i a n) none (root_of m) (span-at c q a n l hl) refl (root-number m)).next
+  scan-in-use = (h (table_named c q tables i a n) none (span-at c q a n ha hl) refl).appended.next
 
-  pub scan-all : length nodes' ≡ length nodes
-  unfolding named_by option_span
-  scan-all = (h (table_named c q tables i a n) none (root_of m) (span-at c q a n l hl) refl (root-number m)).all
+  pub scan-kept : Kept s t
+  scan-kept = scan-record.kept
 
 -- THE FILTER'S ROOM, from its clause as it was read
 module _ (c q : Bytes) (cells parts : List ℕ) {w : std.Option Clause} (hw : w ≡ clause_at parts where_kind)
@@ -63,9 +68,9 @@ module _ (c q : Bytes) (cells parts : List ℕ) {w : std.Option Clause} (hw : w 
   pub where-is : to_clause (section_at c q cells parts where_kind) ≡ clause_of c q cells w
   where-is = clause-is parts where_kind c q cells s w hw
 
-  pub where-room : {area nodes : List ℕ} → Free area nodes
+  pub where-room : {area : List ℕ} → least_area ≤ length area
       → clause_size (to_clause (section_at c q cells parts where_kind)) ≤ most_cells
       → Room 0 (3 * clause_size (clause_of c q cells w)) area
   where-room f few =
       let m : clause_size (clause_of c q cells w) ≤ most_cells = rw where-is at few in
-      record { counted = omega (arith, m); held = omega (arith, m, f.area_room) }
+      record { counted = omega (arith, m); held = omega (arith, m, f) }

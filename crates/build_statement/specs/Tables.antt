@@ -1,8 +1,8 @@
 -- The table that a statement names, by its position in the catalog's numbers, and its scope.
-use Rattle.std.specs.Prelude.{ℕ, ◌≡◌, List}
+use Rattle.std.specs.Prelude.{ℕ, ◌≡◌, List, Result, Ok, Err}
 use Rattle.std.proofs.Math.Path.{refl}
-use Rattle.std.proofs.Common.{sym, ap, ◌∙◌}
-use Rattle.rules.specs.Refusals.{ok, refuse, unknown_table}
+use Rattle.std.proofs.Common.{sym, ap, ◌∙◌, ok_or}
+use Rattle.rules.specs.Refusals.{ok, unknown_table}
 use Rattle.rules.specs.Lists.{Bytes, map_option}
 use Rattle.rules.specs.Places.{bytes_at, word_at}
 use Rattle.rules.specs.Schema.{Table, get_table, named_by, must_get_table}
@@ -19,29 +19,55 @@ use Rattle.scope.specs.Scopes.{scope_of}
 use Rattle.scope.specs.FromTable.{FromTable}
 use Rattle.scope.specs.Read.{found_scope}
 use Rattle.scope.specs.declared.Scope.{Scope}
+use Rattle.numbers.specs.Reasons.{named}
+use Rattle.numbers.specs.declared.refusals.Reason.TheVariants as Re
+use Rattle.numbers.specs.declared.refusals.Refusal.{Refusal}
+use Rattle.plan.specs.Steps.{RefusedWith, refused-at}
 
 -- the i-th table under the name that is the n bytes at a
 abbrev pub table_named : Bytes → Bytes → List ℕ → ℕ → ℕ → ℕ → Table
 table_named c q tables i a n = named_by (word_at c q a n) (table_at c q tables i)
 
-module _ (c q : Bytes) (tables : List ℕ) (a n : ℕ) (r : std.Option ℕ)
-    (f : found_table c q tables r ≡ table_from 0 (catalog_at c q tables) (bytes_at c q a n)) where
-  got : get_table (catalog_at c q tables) (bytes_at c q a n) ≡ map_option (λ (x : ℕ × Table). x.1) (found_table c q tables r)
-  got = sym (ap (map_option (λ (x : ℕ × Table). x.1)) f ∙ table-found 0 (catalog_at c q tables) (bytes_at c q a n))
+-- the position of the first table of the name that is the n bytes at a, or the refusal at line l where there is none
+unfoldable pub PositionAs : Bytes → Bytes → List ℕ → ℕ → ℕ → ℕ → Result ℕ Refusal → Type 0
+PositionAs c q tables a n l (Ok i) =
+    found_table c q tables (std.Some i) ≡ table_from 0 (catalog_at c q tables) (bytes_at c q a n)
+PositionAs c q tables a n l (Err w) = RefusedWith (must_get_table (catalog_at c q tables) l (word_at c q a n)) w
 
-  pub must-not : (l : ℕ) → r ≡ std.None → must_get_table (catalog_at c q tables) l (word_at c q a n) ≡ refuse unknown_table l
-  unfolding word_at found_table map_option
-  must-not l e = M.table-unknown (catalog_at c q tables) l (word_at c q a n) (got ∙ rw e)
+pub record TablePosition (c q : Bytes) (tables : List ℕ) (a n l : ℕ) (r : Result ℕ Refusal) : Type 0 where
+  pub is : PositionAs c q tables a n l r
 
-  module _ (i : ℕ) (e : r ≡ std.Some i) where
-    pub must-have : (l : ℕ)
-        → must_get_table (catalog_at c q tables) l (word_at c q a n) ≡ ok (table_named c q tables i a n)
-    unfolding word_at found_table map_option
-    must-have l = M.table-found (catalog_at c q tables) l (word_at c q a n) (table_at c q tables i) (got ∙ rw e)
+module _ (c q : Bytes) (tables : List ℕ) (a n l : ℕ) where
+  got : (r : std.Option ℕ) → found_table c q tables r ≡ table_from 0 (catalog_at c q tables) (bytes_at c q a n)
+      → get_table (catalog_at c q tables) (bytes_at c q a n) ≡ map_option (λ (x : ℕ × Table). x.1) (found_table c q tables r)
+  got r f = sym (ap (map_option (λ (x : ℕ × Table). x.1)) f ∙ table-found 0 (catalog_at c q tables) (bytes_at c q a n))
 
-    -- its scope
-    pub table-scope : {s : Statement} {S : Scope} → TextsWithin c q (catalog_at c q tables) s
-        → StatementName c q (word_at c q a n) → FromTable tables i a n S
-        → (x : ℕ → Expr) → scope_of x c q S ≡ table_scope (table_named c q tables i a n)
-    unfolding table_scope from_table named_by
-    table-scope h w g x = found_scope h tables refl i (bytes_at c q a n) (rw e at f) g w x
+  pub position-of : (r : std.Option ℕ) → found_table c q tables r ≡ table_from 0 (catalog_at c q tables) (bytes_at c q a n)
+      → TablePosition c q tables a n l (ok_or r (record { reason = Re.UnknownTable; line = l }))
+  unfolding PositionAs word_at found_table map_option named
+  position-of (std.Some i) f = record { is = f }
+  position-of std.None f = record {
+    is = refused-at unknown_table l Re.UnknownTable l
+        (M.table-unknown (catalog_at c q tables) l (word_at c q a n) (got std.None f)) refl refl;
+  }
+
+  module _ {r : Result ℕ Refusal} (p : TablePosition c q tables a n l r) where
+    pub table-missing : (w : Refusal) → r ≡ Err w → RefusedWith (must_get_table (catalog_at c q tables) l (word_at c q a n)) w
+    unfolding PositionAs
+    table-missing w e = rw e at p.is
+
+    module _ (i : ℕ) (e : r ≡ Ok i) where
+      found : found_table c q tables (std.Some i) ≡ table_from 0 (catalog_at c q tables) (bytes_at c q a n)
+      unfolding PositionAs
+      found = rw e at p.is
+
+      pub table-is : must_get_table (catalog_at c q tables) l (word_at c q a n) ≡ ok (table_named c q tables i a n)
+      unfolding word_at found_table map_option
+      table-is = M.table-found (catalog_at c q tables) l (word_at c q a n) (table_at c q tables i) (got (std.Some i) found)
+
+      -- its scope
+      pub table-scope : {s : Statement} {S : Scope} → TextsWithin c q (catalog_at c q tables) s
+          → StatementName c q (word_at c q a n) → FromTable tables i a n S
+          → (x : ℕ → Expr) → scope_of x c q S ≡ table_scope (table_named c q tables i a n)
+      unfolding table_scope from_table named_by
+      table-scope h w g x = found_scope h tables refl i (bytes_at c q a n) found g w x

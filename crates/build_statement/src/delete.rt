@@ -8,47 +8,40 @@ ghost use Rattle.build_statement.specs.Plans.{Plans};
 ghost use Rattle.build_statement.specs.Kinds.{Free, ReadyFor, delete_at};
 ghost use Rattle.build_statement.specs.Deletes.{DeleteEnds};
 
-use crate::clause::build_where;
+use crate::target::build_target;
 use ast::Expressions;
-use entries::Section;
-use numbers::refusals::{Reason, Refusal};
+use numbers::refusals::Refusal;
 use plan::finish::{Kind, finish};
-use plan::nodes::scan;
+use plan::nodes::{Nodes, scan};
 use plan::own;
 use plan::steps::Step;
-use schema::{get_table, key};
-use scope::Scope;
-use statement::access;
+use schema::key;
 use text::places::{Place, Texts};
 
-// The plan behind its m cells, of the i-th table, which is named by the bytes at a place.
+// The plan of the i-th table, which is named by the bytes at a place, behind the cells of its filter.
 fn end_delete(
     texts: &Texts,
     tables: &[u32],
     i: u32,
     name: Place,
     area: &mut [u32],
-    nodes: &mut [u32],
-    m: u32,
+    nodes: &mut Nodes,
+    cells: u32,
 )
     requires free { Free area.old nodes.old }
-    requires m_le_most_plan_cells { m ≤ most_plan_cells }
-    ensures { DeleteEnds texts.now.catalog.now texts.now.statement.now tables.now i name.address name.length m
+    requires cells_le_most_plan_cells { cells ≤ most_plan_cells }
+    ensures { DeleteEnds texts.now.catalog.now texts.now.statement.now tables.now i name.address name.length cells
         area.old area.new }
 {
-    let name = Place {
-        address: name.address,
-        length: texts.length_at(name),
-    };
-    let k = scan(nodes, 0, name, None, m);
-    let key = key(tables, i);
-    let e = own::delete(nodes, k, name, key);
+    let name = texts.clipped(name);
+    scan(nodes, name, None, cells.checked_sub(1));
+    let own = nodes.used;
+    own::delete(nodes, name, key(tables, i));
     let at = Step {
-        cell: m,
+        cell: cells,
         node: 1,
-        used: k,
     };
-    finish(area, nodes, Kind::Delete, at, e);
+    finish(area, nodes, Kind::Delete, at, own);
 }
 
 pub fn build_delete(
@@ -56,7 +49,7 @@ pub fn build_delete(
     tables: &[u32],
     parts: &[u32],
     area: &mut [u32],
-    nodes: &mut [u32],
+    nodes: &mut Nodes,
 ) -> Result<u32, Refusal>
     requires { ReadyFor exprs.now.texts.catalog.now exprs.now.texts.statement.now tables.now
         (ast.delete (delete_at exprs.now.texts.catalog.now exprs.now.texts.statement.now exprs.now.table.now parts.now))
@@ -66,20 +59,15 @@ pub fn build_delete(
         (delete_at exprs.now.texts.catalog.now exprs.now.texts.statement.now exprs.now.table.now parts.now))
         area.old area.new result }
 {
-    let name = Place {
-        address: access::name_address(parts),
-        length: access::name_length(parts),
-    };
-    let found = get_table(&exprs.texts, tables, name);
-    let Some(i) = found else {
-        return Err(Refusal {
-            reason: Reason::UnknownTable,
-            line: access::line(parts),
-        });
-    };
-    let scope = Scope::from_table(tables, i, name);
-    let clause = access::clause_at(parts, Section::Where);
-    let m = build_where(exprs, clause, &scope.view(), area)?;
-    end_delete(&exprs.texts, tables, i, name, area, nodes, m);
-    Ok(m)
+    let target = build_target(exprs, tables, parts, area)?;
+    end_delete(
+        &exprs.texts,
+        tables,
+        target.table,
+        target.name,
+        area,
+        nodes,
+        target.cells,
+    );
+    Ok(target.cells)
 }

@@ -8,32 +8,21 @@ ghost use Rattle.build_statement.specs.Plans.{Plans};
 ghost use Rattle.build_statement.specs.Kinds.{Free, name_of};
 
 use plan::finish::{Kind, finish};
+use plan::nodes::Nodes;
 use plan::own;
 use plan::steps::Step;
 use statement::access;
-use text::places::{Place, Texts};
+use text::places::Texts;
 
-pub fn build_drop_table(texts: &Texts, parts: &[u32], area: &mut [u32], nodes: &mut [u32])
+pub fn build_drop_table(texts: &Texts, parts: &[u32], area: &mut [u32], nodes: &mut Nodes)
     requires { Free area.old nodes.old }
     ensures { Plans
         (ok (plan.drop (name_of texts.now.catalog.now texts.now.statement.now parts.now)
         (is_one (drop_flag parts.now))))
         area.old area.new (Ok 0) }
 {
-    let name = Place {
-        address: access::name_address(parts),
-        length: access::name_length(parts),
-    };
-    let name = Place {
-        address: name.address,
-        length: texts.length_at(name),
-    };
-    let exists = access::if_exists(parts);
-    let e = own::drop(nodes, 0, name, exists);
-    let at = Step {
-        cell: 0,
-        node: 0,
-        used: 0,
-    };
-    finish(area, nodes, Kind::Drop, at, e);
+    let name = texts.clipped(access::name(parts));
+    let own = nodes.used;
+    own::drop(nodes, name, access::if_exists(parts));
+    finish(area, nodes, Kind::Drop, Step { cell: 0, node: 0 }, own);
 }

@@ -5,3 +5,4 @@ pub mod clause; // clause.rt: WHERE
 pub mod create; // create.rt: CREATE TABLE
 pub mod delete; // delete.rt: DELETE
 pub mod drop; // drop.rt: DROP TABLE
+pub mod target; // target.rt: the table of a DELETE or an UPDATE, and its filter

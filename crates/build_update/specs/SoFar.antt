@@ -1,4 +1,4 @@
--- The sets appended one after the other.
+-- The sets pushed one after the other.
 use Rattle.std.specs.Prelude.{ℕ, suc, ◌+◌, ◌*◌, ◌≤◌, ◌<◌, ◌≡◌, refl, take, Ok, Err}
 use native.Mathlib.Omega.{arith}
 use Rattle.std.proofs.Common.{add-one, ◌∙◌, drop_of_length-le}
@@ -27,13 +27,14 @@ use Rattle.sections.specs.declared.entry.Entry.{Entry}
 use Rattle.statement.specs.Layout.{to_set, map_entries}
 use Rattle.statement.specs.EntryAccess.{map-length, set_at}
 use Rattle.plan.specs.Layout.{cells_end, set_size}
-use Rattle.plan.specs.Appended.{Appended, appended-none}
+use Rattle.plan.specs.Pushed.{Pushed, kept-on, pushed-none}
+use Rattle.plan.specs.declared.nodes.Nodes.{Nodes}
+use Rattle.plan.specs.Emits.{Written}
 use Rattle.plan.specs.Cells.{Room}
 use Rattle.plan.specs.Own.{sets-on}
 use Rattle.plan.specs.Room.{sets-size}
-use Rattle.build_update.specs.Writes.{Setting, SetsWritten, Writes, writes-done, writes-refused, was-done, was-refused, set_of}
+use Rattle.build_update.specs.Writes.{Setting, Writes, writes-done, writes-refused, was-done, was-refused, set_of}
 use Rattle.numbers.specs.declared.refusals.Refusal as code
-use Rattle.plan.specs.declared.steps.Part.{Part}
 use Rattle.plan.specs.Steps.{refused-on}
 
 -- THE SETS as they were read
@@ -76,8 +77,8 @@ module _ (s : Scope) (cs : List Column) where
   more-refused n x xs w h = each-joined (λ b. b.1) (λ b r. (b.0, r)) (set_built s cs) (x ∷ []) xs n ∙ rw h
 
   module _ (xs : List Ast.Set) where
-    -- the first i sets are appended: m the next cell, j numbers in use
-    pub record SoFar (n k : ℕ) (area nodes : List ℕ) (i m j : ℕ) (area' nodes' : List ℕ) : Type 0 where
+    -- the first i sets are pushed, and m is the next cell
+    pub record SoFar (n : ℕ) (area : List ℕ) (u : Nodes) (i m : ℕ) (area' : List ℕ) (v : Nodes) : Type 0 where
       pub entries : Entries (ℕ × ℕ)
       pub next : entries.2 ≡ m
       pub counted : length entries.1 ≡ i
@@ -85,11 +86,11 @@ module _ (s : Scope) (cs : List Column) where
       pub room : m + (3 * sets_size (drop i xs) + length (drop i xs)) ≤ n + (3 * sets_size xs + length xs)
       pub kept : length area' ≡ length area
       pub cells : take (cells_end m) area' ≡ take (cells_end n) area ++ cells_numbers entries.0
-      pub numbers : Appended (set_numbers entries.1) k nodes j nodes'
+      pub numbers : Pushed (set_numbers entries.1) u v
 
-    pub so-far-none : (n k : ℕ) (area nodes : List ℕ) → k ≤ length nodes → SoFar n k area nodes 0 n k area nodes
+    pub so-far-none : (n : ℕ) (area : List ℕ) (u : Nodes) → u.used ≤ length u.numbers.now → SoFar n area u 0 n area u
     unfolding cells_numbers concat set_numbers
-    so-far-none n k area nodes h = record {
+    so-far-none n area u h = record {
       entries = ([], [], n);
       next = refl;
       counted = refl;
@@ -97,22 +98,20 @@ module _ (s : Scope) (cs : List Column) where
       room = omega arith;
       kept = refl;
       cells = sym (append-nil (take (cells_end n) area));
-      numbers = appended-none k nodes h;
+      numbers = pushed-none u h;
     }
 
-    module _ {n k i m j : ℕ} {area area' nodes nodes' : List ℕ} (p : SoFar n k area nodes i m j area' nodes') where
+    module _ {n i m : ℕ} {area area' : List ℕ} {u v : Nodes} (p : SoFar n area u i m area' v) where
       pub area-kept : length area' ≡ length area
       area-kept = p.kept
 
-      pub nodes-kept : length nodes' ≡ length nodes
-      nodes-kept = p.numbers.all
-
       -- how many numbers are in use
-      in_use : j ≡ k + set_size * i
-      in_use = omega (arith, p.numbers.next, sets-size p.entries.1, p.counted)
+      in_use : v.used ≡ u.used + set_size * i
+      in_use = omega (arith, p.numbers.appended.next, sets-size p.entries.1, p.counted)
 
-      pub number-room : k + set_size * length xs ≤ length nodes → i < length xs → j + set_size ≤ length nodes'
-      number-room r l = omega (arith, r, l, in_use, nodes-kept)
+      pub number-room : u.used + set_size * length xs ≤ length u.numbers.now → i < length xs
+          → v.used + set_size ≤ length v.numbers.now
+      number-room r l = omega (arith, r, l, in_use, p.numbers.kept.all)
 
       module _ (x : Ast.Set) (d : drop i xs ≡ x ∷ drop (suc i) xs) where
         here : 3 * sets_size (drop i xs) + length (drop i xs)
@@ -126,12 +125,12 @@ module _ (s : Scope) (cs : List Column) where
           held = omega (arith, r.held, p.room, here, p.kept);
         }
 
-        module _ {area'' nodes'' : List ℕ} {r : SetsWritten}
-            (w : Writes (emit_seconds (set_built s cs) m (x ∷ [])) m j area' area'' nodes' nodes'' r) where
-          pub so-far-step : (b : Part) → r ≡ Ok b → SoFar n k area nodes (i + 1) b.cell b.used area'' nodes''
+        module _ {area'' : List ℕ} {z : Nodes} {r : Written}
+            (w : Writes (emit_seconds (set_built s cs) m (x ∷ [])) m area' area'' v z r) where
+          pub so-far-step : (m' : ℕ) → r ≡ Ok m' → SoFar n area u (i + 1) m' area'' z
           unfolding sets_size total joined
-          so-far-step b e =
-              let a = was-done w b e in
+          so-far-step m' e =
+              let a = was-done w m' e in
               let one : length a.entries.1 ≡ 1 = sets-count m (x ∷ []) a.entries a.ok-is in
               let rest : Setting = emit_seconds (set_built s cs) a.entries.2 (drop (suc i) xs) in
               let on : after p.entries (emit_seconds (set_built s cs) m (x ∷ drop (suc i) xs))
@@ -157,13 +156,12 @@ module _ (s : Scope) (cs : List Column) where
               }
 
           pub so-far-stop : (y : code.Refusal) → r ≡ Err y
-              → Writes (emit_seconds (set_built s cs) n xs) n k area area'' nodes nodes'' (Err y)
+              → Writes (emit_seconds (set_built s cs) n xs) n area area'' u z (Err y)
           so-far-stop y e = writes-refused (refused-on (was-refused w y e) (λ v f.
               p.left ∙ rw (d, more-refused m x (drop (suc i) xs) v f) (after-refused p.entries v)))
-              (w.area_kept ∙ p.kept) (w.nodes_kept ∙ p.numbers.all)
+              (w.area_kept ∙ p.kept) (kept-on p.numbers.kept w.nodes_kept)
 
-      pub so-far-all : length xs ≤ i → Writes (emit_seconds (set_built s cs) n xs) n k area area' nodes nodes'
-          (Ok (record { cell = m; used = j }))
+      pub so-far-all : length xs ≤ i → Writes (emit_seconds (set_built s cs) n xs) n area area' u v (Ok m)
       so-far-all h = writes-done (record {
         entries = p.entries;
         ok-is = p.left ∙ rw (drop_of_length-le xs {i = i} h, ← p.next) (seconds-done (set_built s cs) p.entries);

@@ -1,5 +1,5 @@
--- Sets appended: the cells of what each column is set to, and its position and root among the numbers of the nodes.
-use Rattle.std.specs.Prelude.{ℕ, ◌+◌, ◌-◌, ◌≤◌, pred, List, [], ◌∷◌, ◌++◌, length, take, Result, Ok, Err, None}
+-- Sets pushed: the cells of what each column is set to, and its position and root among the numbers of the nodes.
+use Rattle.std.specs.Prelude.{ℕ, ◌-◌, ◌≤◌, pred, List, [], ◌∷◌, ◌++◌, length, take, Result, Ok, Err, None}
 use Rattle.std.proofs.Common.{arith, sub-one, ◌∙◌}
 use Rattle.std.proofs.Math.Path.{◌≡◌, refl, sym, ap}
 use Rattle.std.proofs.Math.Option.{none}
@@ -26,84 +26,78 @@ use Rattle.numbers.specs.Reasons.{named, noted}
 use Rattle.numbers.specs.declared.refusals.Reason.{Reason}
 use Rattle.numbers.specs.declared.refusals.Refusal.{Refusal}
 use Rattle.sections.specs.declared.entry.Entry.{Entry}
-use Rattle.statement.specs.EntryAccess.{name_start, word_of, given_of}
+use Rattle.text.specs.declared.places.Place.{Place}
+use Rattle.statement.specs.Access.{name_or}
+use Rattle.statement.specs.EntryAccess.{word_of, given_of}
 use Rattle.plan.specs.Layout.{cells_end}
-use Rattle.plan.specs.Appended.{Appended}
+use Rattle.plan.specs.Pushed.{Kept, Pushed, kept-all}
+use Rattle.plan.specs.declared.nodes.Nodes.{Nodes}
 use Rattle.plan.specs.Emits.{result_by, Written, Emits, accepted}
 use Rattle.build_expression.specs.Builds.{scope_at}
 use Rattle.build_expression.specs.Positions.{position_of}
 use Rattle.plan.specs.Steps.{RefusedWith, refused-at, refused-on, emits-refused}
-use Rattle.plan.specs.declared.steps.Part.{Part}
 use Rattle.build_update.specs.Sets.{value_step, Values, set-taken, set-not-taken, value-some}
 
 -- cells, the position and the root of each set, and the next cell
 abbrev pub Setting : Type 0
 Setting = Answer (Entries (ℕ × ℕ))
 
--- the next cell and how many numbers are in use, or the refusal
-abbrev pub SetsWritten : Type 0
-SetsWritten = Result Part Refusal
+-- the next cell, or the refusal
+unfoldable pub written_of : Setting → Written
+written_of = result_by λ p. p.2
 
--- of an answer behind the k numbers before
-unfoldable pub written_of : ℕ → Setting → SetsWritten
-written_of k = result_by λ p. record { cell = p.2; used = k + length (set_numbers p.1) }
-
--- r is the answer a, whose cells stand from the n-th on and whose numbers behind the k before where it is accepted; else they
+-- r is the answer a, whose cells stand from the n-th on and whose numbers behind those of s where it is accepted; else they
 -- are not determined
-pub record Writes (a : Setting) (n k : ℕ) (area area' nodes nodes' : List ℕ) (r : SetsWritten) : Type 0 where
-  pub answer : r ≡ written_of k a
+pub record Writes (a : Setting) (n : ℕ) (area area' : List ℕ) (s t : Nodes) (r : Written) : Type 0 where
+  pub answer : r ≡ written_of a
   pub area_kept : length area' ≡ length area
-  pub nodes_kept : length nodes' ≡ length nodes
+  pub nodes_kept : Kept s t
   pub cells : (p : Entries (ℕ × ℕ)) → a ≡ ok p → take (cells_end p.2) area' ≡ take (cells_end n) area ++ cells_numbers p.0
-  pub numbers : (p : Entries (ℕ × ℕ)) → a ≡ ok p → Appended (set_numbers p.1) k nodes (k + length (set_numbers p.1)) nodes'
+  pub numbers : (p : Entries (ℕ × ℕ)) → a ≡ ok p → Pushed (set_numbers p.1) s t
 
--- an accepted answer, m the next cell and j numbers in use then
-pub record Accepted (a : Setting) (n k : ℕ) (area area' nodes nodes' : List ℕ) (m j : ℕ) : Type 0 where
+-- an accepted answer, m the next cell
+pub record Accepted (a : Setting) (n : ℕ) (area area' : List ℕ) (s t : Nodes) (m : ℕ) : Type 0 where
   pub entries : Entries (ℕ × ℕ)
   pub ok-is : a ≡ ok entries
   pub next : entries.2 ≡ m
   pub cells : take (cells_end m) area' ≡ take (cells_end n) area ++ cells_numbers entries.0
-  pub numbers : Appended (set_numbers entries.1) k nodes j nodes'
+  pub numbers : Pushed (set_numbers entries.1) s t
 
-module _ {a : Setting} {n k : ℕ} {area area' nodes nodes' : List ℕ} where
-  pub writes-done : {m j : ℕ} → Accepted a n k area area' nodes nodes' m j → length area' ≡ length area
-      → Writes a n k area area' nodes nodes' (Ok (record { cell = m; used = j }))
+module _ {a : Setting} {n : ℕ} {area area' : List ℕ} {s t : Nodes} where
+  pub writes-done : {m : ℕ} → Accepted a n area area' s t m → length area' ≡ length area → Writes a n area area' s t (Ok m)
   unfolding written_of
-  writes-done {m} {j} h e = record {
-    answer = (λ i. Ok (record { cell = sym h.next i; used = h.numbers.next i })) ∙ sym (ap (written_of k) h.ok-is);
+  writes-done {m} h e = record {
+    answer = ap Ok (sym h.next) ∙ sym (ap written_of h.ok-is);
     area_kept = e;
-    nodes_kept = h.numbers.all;
+    nodes_kept = h.numbers.kept;
     cells = λ p g. let z : h.entries ≡ p = ok_same (sym h.ok-is ∙ g) in rw (← z, h.next) h.cells;
-    numbers = λ p g. let z : h.entries ≡ p = ok_same (sym h.ok-is ∙ g) in rw (← z, ← h.numbers.next) h.numbers;
+    numbers = λ p g. let z : h.entries ≡ p = ok_same (sym h.ok-is ∙ g) in rw (← z) h.numbers;
   }
 
-  pub writes-refused : {w : Refusal} → RefusedWith a w → length area' ≡ length area → length nodes' ≡ length nodes
-      → Writes a n k area area' nodes nodes' (Err w)
+  pub writes-refused : {w : Refusal} → RefusedWith a w → length area' ≡ length area → Kept s t
+      → Writes a n area area' s t (Err w)
   unfolding written_of
   writes-refused h e f = record {
-    answer = ap Err h.refusal ∙ sym (ap (written_of k) h.is);
+    answer = ap Err h.refusal ∙ sym (ap written_of h.is);
     area_kept = e;
     nodes_kept = f;
     cells = λ p g. ok-not-refused _ _ (sym g ∙ h.is);
     numbers = λ p g. ok-not-refused _ _ (sym g ∙ h.is);
   }
 
-  module _ {r : SetsWritten} (h : Writes a n k area area' nodes nodes' r) where
-    pub was-done : (b : Part) → r ≡ Ok b → Accepted a n k area area' nodes nodes' b.cell b.used
+  module _ {r : Written} (h : Writes a n area area' s t r) where
+    pub was-done : (m : ℕ) → r ≡ Ok m → Accepted a n area area' s t m
     unfolding written_of
-    was-done b e = go a refl
+    was-done m e = go a refl
       where
-        go : (x : Setting) → a ≡ x → Accepted a n k area area' nodes nodes' b.cell b.used
+        go : (x : Setting) → a ≡ x → Accepted a n area area' s t m
         go (ok p) g =
-            let z : ◌≡◌ {A = SetsWritten} (Ok b) (Ok (record { cell = p.2; used = k + length (set_numbers p.1) })) =
-            sym e ∙ h.answer ∙ ap (written_of k) g in
-            let y : b ≡ record { cell = p.2; used = k + length (set_numbers p.1) } = cc in
-            let c : b.cell ≡ p.2 = ap (λ (x : Part). x.cell) y in
-            let u : b.used ≡ k + length (set_numbers p.1) = ap (λ (x : Part). x.used) y in
-            record { entries = p; ok-is = g; next = sym c; cells = rw c (h.cells p g); numbers = rw u (h.numbers p g) }
-        go (refused w) g = absurd (clash (sym e ∙ h.answer ∙ ap (written_of k) g))
+            let z : ◌≡◌ {A = Written} (Ok m) (Ok p.2) = sym e ∙ h.answer ∙ ap written_of g in
+            let c : m ≡ p.2 = cc in
+            record { entries = p; ok-is = g; next = sym c; cells = rw c (h.cells p g); numbers = h.numbers p g }
+        go (refused w) g = absurd (clash (sym e ∙ h.answer ∙ ap written_of g))
           where
-            clash : {x : Part} {v : Refusal} → ◌≡◌ {A = SetsWritten} (Ok x) (Err v) → ⊥
+            clash : {x : ℕ} {v : Refusal} → ◌≡◌ {A = Written} (Ok x) (Err v) → ⊥
             clash g = let z : ◌≡◌ {A = ℕ} 0 1 = cc in omega arith
 
     pub was-refused : (w : Refusal) → r ≡ Err w → RefusedWith a w
@@ -111,12 +105,12 @@ module _ {a : Setting} {n k : ℕ} {area area' nodes nodes' : List ℕ} where
     was-refused w e = go a refl
       where
         go : (b : Setting) → a ≡ b → RefusedWith a w
-        go (ok p) g = absurd (clash (sym e ∙ h.answer ∙ ap (written_of k) g))
+        go (ok p) g = absurd (clash (sym e ∙ h.answer ∙ ap written_of g))
           where
-            clash : {x : Part} {v : Refusal} → ◌≡◌ {A = SetsWritten} (Err v) (Ok x) → ⊥
+            clash : {x : ℕ} {v : Refusal} → ◌≡◌ {A = Written} (Err v) (Ok x) → ⊥
             clash g = let z : ◌≡◌ {A = ℕ} 0 1 = cc in omega arith
         go (refused v) g =
-            let z : ◌≡◌ {A = SetsWritten} (Err w) (Err (noted v)) = sym e ∙ h.answer ∙ ap (written_of k) g in
+            let z : ◌≡◌ {A = Written} (Err w) (Err (noted v)) = sym e ∙ h.answer ∙ ap written_of g in
             record { why = v; is = g; refusal = cc }
 
 -- ONE SET
@@ -137,18 +131,18 @@ module _ (s : Scope) (cs : List Column) (n : ℕ) (x : Ast.Set) where
 
   module _ {f : Found} (hf : lookup s none x.name ≡ f) {p : Written} (h : p ≡ position_of (found x.line f)) where
     -- its column is not found
-    unfound : {k : ℕ} {area nodes : List ℕ} (v : Refusal) → p ≡ Err v
-        → Writes (emit_seconds (set_built s cs) n (x ∷ [])) n k area area nodes nodes (Err v)
+    unfound : {area : List ℕ} {u : Nodes} (v : Refusal) → p ≡ Err v
+        → Writes (emit_seconds (set_built s cs) n (x ∷ [])) n area area u u (Err v)
     unfolding position_of found refuse
-    unfound {k} {area} {nodes} v e = go f refl (sym e ∙ h)
+    unfound {area} {u} v e = go f refl (sym e ∙ h)
       where
         go : (g : Found) → f ≡ g → ◌≡◌ {A = Written} (Err v) (position_of (found x.line g))
-            → Writes (emit_seconds (set_built s cs) n (x ∷ [])) n k area area nodes nodes (Err v)
+            → Writes (emit_seconds (set_built s cs) n (x ∷ [])) n area area u u (Err v)
         go (at j) z y = absurd (let v : ◌≡◌ {A = ℕ} 0 1 = cc in omega arith)
         go (missing w) z y =
-            let u : v ≡ record { reason = named w; line = x.line } = cc in
-            rw u (writes-refused
-            (one-refused _ (refused-at w x.line (named w) x.line (set-column s cs x n w (hf ∙ z)) refl refl)) refl refl)
+            let k : v ≡ record { reason = named w; line = x.line } = cc in
+            rw k (writes-refused
+            (one-refused _ (refused-at w x.line (named w) x.line (set-column s cs x n w (hf ∙ z)) refl refl)) refl (kept-all u))
 
     column-is : (j : ℕ) → p ≡ Ok j → lookup s none x.name ≡ at j
     unfolding position_of found refuse
@@ -160,15 +154,13 @@ module _ (s : Scope) (cs : List Column) (n : ℕ) (x : Ast.Set) where
 
     module _ (j : ℕ) (e : p ≡ Ok j) {area area' : List ℕ} {r : Written}
         (v : Emits (value_step s cs x.line j n x.value) n area area' r) where
-      not-built : {k : ℕ} {nodes : List ℕ} (y : Refusal) → r ≡ Err y
-          → Writes (emit_seconds (set_built s cs) n (x ∷ [])) n k area area' nodes nodes (Err y)
-      not-built y g = writes-refused
-          (one-refused y (refused-on (emits-refused y v g) (set-not-taken s cs x n j (column-is j e)))) v.kept refl
+      not-built : {u : Nodes} (y : Refusal) → r ≡ Err y
+          → Writes (emit_seconds (set_built s cs) n (x ∷ [])) n area area' u u (Err y)
+      not-built {u} y g = writes-refused
+          (one-refused y (refused-on (emits-refused y v g) (set-not-taken s cs x n j (column-is j e)))) v.kept (kept-all u)
 
-      taken : (m : ℕ) → r ≡ Ok m → {k k' : ℕ} {nodes nodes' : List ℕ}
-          → Appended (set_numbers ((j, m - 1) ∷ [])) k nodes k' nodes'
-          → Writes (emit_seconds (set_built s cs) n (x ∷ [])) n k area area' nodes nodes'
-          (Ok (record { cell = m; used = k' }))
+      taken : (m : ℕ) → r ≡ Ok m → {u u' : Nodes} → Pushed (set_numbers ((j, m - 1) ∷ [])) u u'
+          → Writes (emit_seconds (set_built s cs) n (x ∷ [])) n area area' u u' (Ok m)
       taken m g w =
           let t = accepted m v g in
           writes-done (record {
@@ -180,23 +172,21 @@ module _ (s : Scope) (cs : List Column) (n : ℕ) (x : Ast.Set) where
           }) v.kept
 
 -- over a scope whose arrays are lent: its column is looked up, and its value is built
-module _ (c q : Bytes) (t xs ms ts : List ℕ) (cs : List Column) (e : Entry) (n : ℕ) {a : ℕ} (ha : a ≡ name_start e)
-    {f : Result ℕ Reason} (hf : Looked c q xs ms ts (qualifier_of c q None) (word_at c q a e.length) f)
+module _ (c q : Bytes) (t xs ms ts : List ℕ) (cs : List Column) (e : Entry) (n : ℕ) {a : Place} (ha : a ≡ name_or e.name)
+    {f : Result ℕ Reason} (hf : Looked c q xs ms ts (qualifier_of c q None) (word_at c q a.address a.length) f)
     {p : Written} (hp : p ≡ position_of (found e.line (found_of f))) where
   looked : (h : ℕ) → lookup (scope_at c q t xs ms ts h) none (set_of c q t e).name ≡ found_of f
   unfolding qualifier_of
   looked h = rw (← ha) (hf.is (tree_at c q t) h)
 
-  pub set-unfound : {k : ℕ} {area nodes : List ℕ} (v : Refusal) → p ≡ Err v → (h : ℕ)
-      → Writes (emit_seconds (set_built (scope_at c q t xs ms ts h) cs) n (set_of c q t e ∷ [])) n k area area nodes nodes
-      (Err v)
+  pub set-unfound : {area : List ℕ} {u : Nodes} (v : Refusal) → p ≡ Err v → (h : ℕ)
+      → Writes (emit_seconds (set_built (scope_at c q t xs ms ts h) cs) n (set_of c q t e ∷ [])) n area area u u (Err v)
   set-unfound v z h = unfound (scope_at c q t xs ms ts h) cs n (set_of c q t e) (looked h) hp v z
 
   module _ (j : ℕ) (z : p ≡ Ok j) {area area' : List ℕ} {r : Written}
       (v : Values c q t xs ms ts cs j e n area area' r) where
-    pub set-refused : {k : ℕ} {nodes : List ℕ} (y : Refusal) → r ≡ Err y → (h : ℕ)
-        → Writes (emit_seconds (set_built (scope_at c q t xs ms ts h) cs) n (set_of c q t e ∷ [])) n k area area' nodes nodes
-        (Err y)
+    pub set-refused : {u : Nodes} (y : Refusal) → r ≡ Err y → (h : ℕ)
+        → Writes (emit_seconds (set_built (scope_at c q t xs ms ts h) cs) n (set_of c q t e ∷ [])) n area area' u u (Err y)
     set-refused y g h =
         not-built (scope_at c q t xs ms ts h) cs n (set_of c q t e) (looked h) hp j z (v.is h) y g
 
@@ -209,9 +199,7 @@ module _ (c q : Bytes) (t xs ms ts : List ℕ) (cs : List Column) (e : Entry) (n
           value-some (scope_at c q t xs ms ts 0) cs e.line j n (given_of c q t e) b.cells m b.is,
         )
 
-    pub set-written : (m : ℕ) → r ≡ Ok m → {k k' : ℕ} {nodes nodes' : List ℕ}
-        → Appended (set_numbers ((j, m - 1) ∷ [])) k nodes k' nodes' → (h : ℕ)
-        → Writes (emit_seconds (set_built (scope_at c q t xs ms ts h) cs) n (set_of c q t e ∷ [])) n k area area' nodes nodes'
-        (Ok (record { cell = m; used = k' }))
+    pub set-written : (m : ℕ) → r ≡ Ok m → {u u' : Nodes} → Pushed (set_numbers ((j, m - 1) ∷ [])) u u' → (h : ℕ)
+        → Writes (emit_seconds (set_built (scope_at c q t xs ms ts h) cs) n (set_of c q t e ∷ [])) n area area' u u' (Ok m)
     set-written m g w h =
         taken (scope_at c q t xs ms ts h) cs n (set_of c q t e) (looked h) hp j z (v.is h) m g w

@@ -17,13 +17,12 @@ use ast::Expressions;
 use build_expression::position::position_of;
 use entries::Section;
 use numbers::refusals::Refusal;
+use plan::nodes::Nodes;
 use plan::own;
-use plan::steps::Part;
 use scope::view::View;
 use sections::entry;
 use sections::entry::Entry;
-use statement::access::name_start;
-use text::places::Place;
+use statement::access::name_or;
 
 // The set of the entry e in the i-th table: its column is looked up before its value is built.
 fn write_set(
@@ -33,29 +32,26 @@ fn write_set(
     e: Entry,
     scope: &View,
     area: &mut [u32],
-    nodes: &mut [u32],
-    at: Part,
-) -> Result<Part, Refusal>
-    requires room { Room at.cell (3 * option_size (given_of exprs.now.texts.catalog.now exprs.now.texts.statement.now
+    nodes: &mut Nodes,
+    cell: u32,
+) -> Result<u32, Refusal>
+    requires room { Room cell (3 * option_size (given_of exprs.now.texts.catalog.now exprs.now.texts.statement.now
         exprs.now.table.now e) + 1) area.old }
-    requires set_size_in_bounds { at.used + set_size ≤ length nodes.old }
+    requires nodes_room { nodes.old.used + set_size ≤ length nodes.old.numbers.now }
     ensures { (h : ℕ) → Writes
         (emit_seconds (set_built
         (scope_at exprs.now.texts.catalog.now exprs.now.texts.statement.now exprs.now.table.now
         scope.now.labels.now scope.now.matches.now scope.now.tables.now h)
         (table_at exprs.now.texts.catalog.now exprs.now.texts.statement.now tables.now i).columns)
-        at.cell (set_of exprs.now.texts.catalog.now exprs.now.texts.statement.now exprs.now.table.now e ∷ []))
-        at.cell at.used area.old area.new nodes.old nodes.new result }
+        cell (set_of exprs.now.texts.catalog.now exprs.now.texts.statement.now exprs.now.table.now e ∷ []))
+        cell area.old area.new nodes.old nodes.new result }
 {
-    let name = Place {
-        address: name_start(e),
-        length: e.length,
-    };
+    let name = name_or(e.name);
     let found = scope.lookup(&exprs.texts, None, name);
     let j = position_of(found, e.line)?;
-    let cell = build_set(exprs, tables, i, j, e, scope, area, at.cell)?;
-    let used = own::set(nodes, at.used, j, cell - 1);
-    Ok(Part { cell, used })
+    let next = build_set(exprs, tables, i, j, e, scope, area, cell)?;
+    own::set(nodes, j, next - 1);
+    Ok(next)
 }
 
 // All sets, one behind the other.
@@ -66,24 +62,24 @@ pub fn write_sets(
     i: u32,
     scope: &View,
     area: &mut [u32],
-    nodes: &mut [u32],
-    at: Part,
-) -> Result<Part, Refusal>
-    requires room { Room at.cell
+    nodes: &mut Nodes,
+    cell: u32,
+) -> Result<u32, Refusal>
+    requires room { Room cell
         (3 * sets_size (sets_at exprs.now.texts.catalog.now exprs.now.texts.statement.now exprs.now.table.now parts.now)
         + length (sets_at exprs.now.texts.catalog.now exprs.now.texts.statement.now exprs.now.table.now parts.now)) area.old }
-    requires parts_in_bounds { at.used + set_size * length (sets_at exprs.now.texts.catalog.now
-        exprs.now.texts.statement.now exprs.now.table.now parts.now) ≤ length nodes.old }
+    requires nodes_room { nodes.old.used + set_size * length (sets_at exprs.now.texts.catalog.now
+        exprs.now.texts.statement.now exprs.now.table.now parts.now) ≤ length nodes.old.numbers.now }
     ensures { (h : ℕ) → Writes
         (emit_seconds (set_built
         (scope_at exprs.now.texts.catalog.now exprs.now.texts.statement.now exprs.now.table.now
         scope.now.labels.now scope.now.matches.now scope.now.tables.now h)
         (table_at exprs.now.texts.catalog.now exprs.now.texts.statement.now tables.now i).columns)
-        at.cell (sets_at exprs.now.texts.catalog.now exprs.now.texts.statement.now exprs.now.table.now parts.now))
-        at.cell at.used area.old area.new nodes.old nodes.new result }
+        cell (sets_at exprs.now.texts.catalog.now exprs.now.texts.statement.now exprs.now.table.now parts.now))
+        cell area.old area.new nodes.old nodes.new result }
 {
     let sets = entry::count(parts, Section::Set);
-    let mut written = at;
+    let mut written = cell;
     for v in 0..sets {
         let e = entry::entry_at(parts, Section::Set, v);
         written = write_set(exprs, tables, i, e, scope, area, nodes, written)?;

@@ -13,21 +13,19 @@ ghost use Rattle.build_update.specs.Updates.{FewSets, UpdateEnds};
 
 use crate::sets::write_sets;
 use ast::Expressions;
-use build_statement::clause::build_where;
+use build_statement::target::build_target;
 use entries::Section;
-use numbers::refusals::{Reason, Refusal};
+use numbers::refusals::Refusal;
 use plan::finish::{Kind, finish};
-use plan::nodes::scan;
+use plan::nodes::{Nodes, scan};
 use plan::own;
-use plan::steps::{Part, Step};
-use schema::{get_table, key};
-use scope::Scope;
+use plan::steps::Step;
+use schema::key;
 use scope::view::View;
 use sections::entry;
-use statement::access;
 use text::places::Place;
 
-// The plan behind the m cells of its filter, of the i-th table, which is named by the bytes at a place: the scan, the sets and
+// The plan of the i-th table, which is named by the bytes at a place, behind the cells of its filter: the scan, the sets and
 // the end.
 fn end_update(
     exprs: &Expressions,
@@ -37,46 +35,34 @@ fn end_update(
     name: Place,
     scope: &View,
     area: &mut [u32],
-    nodes: &mut [u32],
-    m: u32,
+    nodes: &mut Nodes,
+    cells: u32,
 ) -> Result<u32, Refusal>
     requires free { Free area.old nodes.old }
-    requires few_sets { FewSets m (sets_at exprs.now.texts.catalog.now exprs.now.texts.statement.now exprs.now.table.now
+    requires few_sets { FewSets cells (sets_at exprs.now.texts.catalog.now exprs.now.texts.statement.now exprs.now.table.now
         parts.now) }
     ensures { (h : ℕ) → UpdateEnds
         (emit_seconds (set_built
         (scope_at exprs.now.texts.catalog.now exprs.now.texts.statement.now exprs.now.table.now
         scope.now.labels.now scope.now.matches.now scope.now.tables.now h)
         (table_at exprs.now.texts.catalog.now exprs.now.texts.statement.now tables.now i).columns)
-        m (sets_at exprs.now.texts.catalog.now exprs.now.texts.statement.now exprs.now.table.now parts.now))
+        cells (sets_at exprs.now.texts.catalog.now exprs.now.texts.statement.now exprs.now.table.now parts.now))
         (table_named exprs.now.texts.catalog.now exprs.now.texts.statement.now tables.now i name.address name.length)
-        m area.old area.new result }
+        cells area.old area.new result }
 {
-    let name = Place {
-        address: name.address,
-        length: exprs.texts.length_at(name),
-    };
-    let k = scan(nodes, 0, name, None, m);
-    let key = key(tables, i);
+    let texts = exprs.texts;
+    let name = texts.clipped(name);
+    scan(nodes, name, None, cells.checked_sub(1));
+    let own = nodes.used;
     let sets = entry::count(parts, Section::Set);
-    let j = own::update(nodes, k, name, key, sets);
-    let written = write_sets(
-        exprs,
-        tables,
-        parts,
-        i,
-        scope,
-        area,
-        nodes,
-        Part { cell: m, used: j },
-    )?;
+    own::update(nodes, name, key(tables, i), sets);
+    let written = write_sets(exprs, tables, parts, i, scope, area, nodes, cells)?;
     let at = Step {
-        cell: written.cell,
+        cell: written,
         node: 1,
-        used: k,
     };
-    finish(area, nodes, Kind::Update, at, written.used);
-    Ok(written.cell)
+    finish(area, nodes, Kind::Update, at, own);
+    Ok(written)
 }
 
 pub fn build_update(
@@ -84,7 +70,7 @@ pub fn build_update(
     tables: &[u32],
     parts: &[u32],
     area: &mut [u32],
-    nodes: &mut [u32],
+    nodes: &mut Nodes,
 ) -> Result<u32, Refusal>
     requires { ReadyFor exprs.now.texts.catalog.now exprs.now.texts.statement.now tables.now
         (ast.update (update_at exprs.now.texts.catalog.now exprs.now.texts.statement.now exprs.now.table.now parts.now))
@@ -94,20 +80,17 @@ pub fn build_update(
         (update_at exprs.now.texts.catalog.now exprs.now.texts.statement.now exprs.now.table.now parts.now))
         area.old area.new result }
 {
-    let name = Place {
-        address: access::name_address(parts),
-        length: access::name_length(parts),
-    };
-    let found = get_table(&exprs.texts, tables, name);
-    let Some(i) = found else {
-        return Err(Refusal {
-            reason: Reason::UnknownTable,
-            line: access::line(parts),
-        });
-    };
-    let scope = Scope::from_table(tables, i, name);
-    let clause = access::clause_at(parts, Section::Where);
-    let view = scope.view();
-    let m = build_where(exprs, clause, &view, area)?;
-    end_update(exprs, tables, parts, i, name, &view, area, nodes, m)
+    let target = build_target(exprs, tables, parts, area)?;
+    let view = target.scope.view();
+    end_update(
+        exprs,
+        tables,
+        parts,
+        target.table,
+        target.name,
+        &view,
+        area,
+        nodes,
+        target.cells,
+    )
 }

@@ -17,27 +17,13 @@ use Rattle.text.specs.Lines.{field, fields_from}
 use Rattle.text.specs.Numbers.{is_name}
 use Rattle.text.specs.Reading.{field_of, rest-whole}
 use Rattle.text.specs.declared.Line.{Line}
-use Rattle.text.specs.Fields.{Inside}
+use Rattle.text.specs.declared.places.Place as places
 use Rattle.read_expression.specs.Reading.{here}
 use Rattle.entries.specs.Entries.{EntryHead, column_head, fields_of}
-use Rattle.entries.specs.Heads.{numbers_of}
-use Rattle.entries.specs.HeadFields.{Numbers, LineAt, NameIs, HeadNumbersAre, HeadIs, HeadIsHere, no_name, name-is, field-named, field-unnamed, head-is-as}
-use Rattle.entries.specs.ColumnWords.{words_by, words_head}
+use Rattle.entries.specs.HeadFields.{LineAt, NameIs, HeadIs, HeadIsHere, no_name, name-is, field-named, field-unnamed, head-is-as}
+use Rattle.entries.specs.ColumnWords.{words_by, words_head, named, column_said}
 use Rattle.entries.specs.HeadRecords.{field_at, without}
 use Rattle.entries.specs.declared.Head.{Head}
-
--- a column's name and reference put to its words
-unfoldable named : Word → EntryHead → Option Word → EntryHead
-named n h x = record {
-  name = some n;
-  reference = x;
-  code = h.code;
-  key = h.key;
-  nullable = h.nullable;
-  unique = h.unique;
-  index = h.index;
-  expressions = h.expressions;
-}
 
 unfoldable named_by : Option Word → Option EntryHead → Option (Option Word) → Option EntryHead
 named_by n h x = do
@@ -80,20 +66,16 @@ nameless : (h : Option EntryHead) (x : Option (Option Word)) → named_by none h
 unfolding named_by ◌>>=◌
 nameless h x = refl
 
-no_words : (n : Option Word) (x : Option (Option Word)) → named_by n none x ≡ none
-unfolding named_by ◌>>=◌
-no_words none x = refl
-no_words (some n) x = refl
-
 no-reference : (n : Option Word) (h : Option EntryHead) → named_by n h none ≡ none
 unfolding named_by ◌>>=◌
 no-reference none h = refl
 no-reference (some n) none = refl
 no-reference (some n) (some h) = refl
 
-named-all : (n : Option Word) (h : Option EntryHead) (x : Option (Option Word)) (a : Word) (k : EntryHead) (o : Option Word) → n ≡ some a → h ≡ some k → x ≡ some o → named_by n h x ≡ some (named a k o)
-unfolding named_by ◌>>=◌
-named-all n h x a k o e f g = rw (e, f, g)
+named-all : (n : Word) (h : Option EntryHead) (x : Option Word) → named_by (some n) h (some x) ≡ map_option (λ (k : EntryHead). named n k x) h
+unfolding named_by map_option ◌>>=◌
+named-all n none x = refl
+named-all n (some h) x = refl
 
 column-not : (ws : List Word) → (length ws ≡ 7 → ⊥) → (length ws ≡ 8 → ⊥) → fields_of 11 none ws ≡ none
 unfolding fields_of new_column_fields map_option column_by optional_name ◌>>=◌
@@ -110,34 +92,17 @@ column-not (a ∷ (b ∷ (c ∷ (d ∷ (e ∷ (f ∷ (i ∷ (j ∷ (k ∷ ws))))
     column-by (name a) (word datatypes b) (flagged (bytes "pk") c) (word nullness d) (flagged (bytes "unique") e) (flagged (bytes "index") f) (flagged (bytes "default") i) none
     ∙ no-reference (name a) (words_by (word datatypes b) (flagged (bytes "pk") c) (word nullness d) (flagged (bytes "unique") e) (flagged (bytes "index") f) (flagged (bytes "default") i))
 
--- names put to words: what is said of both
-head-named : (t : Bytes) (a n x y : ℕ) (h : EntryHead) (o : Option Word) (v r : Head) → Inside t a n → is_name n ≡ true → HeadNumbersAre t h v → NameIs t o x y
-    → (r.expressions ≡ v.expressions) × (numbers_of r ≡ (most_bytes + a) ∷ n ∷ v.code ∷ v.key ∷ v.nullable ∷ v.unique ∷ v.index ∷ x ∷ y ∷ []) → HeadNumbersAre t (named (field most_bytes t a n) h o) r
-unfolding named
-head-named t a n x y h o v r i e s q g = record {
-  named = rw (ra, rb) (name-is t a n i e);
-  refers = rw (rc, rd) q;
-  codes = s.codes ∙ (cc g.1);
-  expressions = g.0 ∙ s.expressions;
-  few = rw g.0 s.few;
-}
-  where
-    ra : r.a ≡ most_bytes + a
-    ra = cc g.1
-
-    rb : r.b ≡ n
-    rb = cc g.1
-
-    rc : r.c ≡ x
-    rc = cc g.1
-
-    rd : r.d ≡ y
-    rd = cc g.1
-
 -- THE RECORD
-module _ (t : Bytes) (p : ℕ) (f : Line) (g : LineAt t p f) where
+module _ (t : Bytes) (p : ℕ) (f : Line) (g₀ : LineAt t p f) where
   abbrev words : ℕ → Word
   words = field_of statement t f
+
+  -- field i, and its place
+  abbrev field_here : ℕ → Word
+  field_here i = field most_bytes t (get_or f.starts i 0) (get_or f.lens i 0)
+
+  abbrev place_here : ℕ → places.Place
+  place_here i = record { address = most_bytes + get_or f.starts i 0; length = get_or f.lens i 0 }
 
   -- the fields behind the first eight
   abbrev behind : ℕ → List Word
@@ -150,42 +115,32 @@ module _ (t : Bytes) (p : ℕ) (f : Line) (g : LineAt t p f) where
   column-rest : (j : ℕ) → f.count ≡ 8 + j → j ≤ 1 → (l c k : ℕ) → fields_of 11 none (rest (here t p l c k)) ≡ named_by (name (words 1)) (words_head words) (optional_name (behind j))
   column-rest j e m l c k =
       let z : f.count - 1 ≡ 7 + j = omega arith in
-      let w : rest (here t p l c k) ≡ words 1 ∷ words 2 ∷ words 3 ∷ words 4 ∷ words 5 ∷ words 6 ∷ words 7 ∷ behind j = rest-whole statement t p l c k f g.fields (omega arith) ∙ rw z (rest-words j) in
+      let w : rest (here t p l c k) ≡ words 1 ∷ words 2 ∷ words 3 ∷ words 4 ∷ words 5 ∷ words 6 ∷ words 7 ∷ behind j = rest-whole statement t p l c k f g₀.fields (omega arith) ∙ rw z (rest-words j) in
       ap (fields_of 11 none) w ∙ column-fields words (behind j)
 
-  first-yes : 8 ≤ f.count → is_name (get_or f.lens 1 0) ≡ true → name (words 1) ≡ some (field most_bytes t (get_or f.starts 1 0) (get_or f.lens 1 0))
+  first-yes : 8 ≤ f.count → is_name (get_or f.lens 1 0) ≡ true → name (words 1) ≡ some (field_here 1)
   unfolding field_of base_address
-  first-yes n h = field-named t _ _ (field_at t p f g 1 (omega (arith, n))) h
+  first-yes n h = field-named t _ _ (field_at t p f g₀ 1 (omega (arith, n))) h
 
   first-no : 8 ≤ f.count → is_name (get_or f.lens 1 0) ≡ false → name (words 1) ≡ none
   unfolding field_of base_address
-  first-no n h = field-unnamed t _ _ (field_at t p f g 1 (omega (arith, n))) h
+  first-no n h = field-unnamed t _ _ (field_at t p f g₀ 1 (omega (arith, n))) h
 
   reference-none : optional_name (behind 0) ≡ some none
   unfolding fields_from optional_name
   reference-none = refl
 
-  reference-yes : f.count ≡ 9 → is_name (get_or f.lens 8 0) ≡ true → optional_name (behind 1) ≡ some (some (field most_bytes t (get_or f.starts 8 0) (get_or f.lens 8 0)))
+  reference-yes : f.count ≡ 9 → is_name (get_or f.lens 8 0) ≡ true → optional_name (behind 1) ≡ some (some (field_here 8))
   unfolding fields_from optional_name map_option
-  reference-yes n h = rw (field-named t _ _ (field_at t p f g 8 (omega (arith, n))) h)
+  reference-yes n h = rw (field-named t _ _ (field_at t p f g₀ 8 (omega (arith, n))) h)
 
   reference-no : f.count ≡ 9 → is_name (get_or f.lens 8 0) ≡ false → optional_name (behind 1) ≡ none
   unfolding fields_from optional_name map_option
-  reference-no n h = rw (field-unnamed t _ _ (field_at t p f g 8 (omega (arith, n))) h)
-
-  worded : (o : Option EntryHead) (v : Head) → HeadIs t o (Some v) → (h : EntryHead) × (o ≡ some h) × HeadNumbersAre t h v
-  unfolding HeadIs
-  worded none v s = absurd (let z : ◌≡◌ {A = std.Option Head} (Some v) None = s in let y : ◌≡◌ {A = ℕ} 0 1 = cc in omega arith)
-  worded (some h) v s = let q : ◌≡◌ {A = std.Option Head} (Some v) (Some s.0) = s.1 in let z : s.0 ≡ v = cc in (h, refl, rw z at s.2)
-
-  wordless : (o : Option EntryHead) → HeadIs t o None → o ≡ none
-  unfolding HeadIs
-  wordless none s = refl
-  wordless (some h) s = absurd (let z : ◌≡◌ {A = std.Option Head} None (Some s.0) = s.1 in let y : ◌≡◌ {A = ℕ} 0 1 = cc in omega arith)
+  reference-no n h = rw (field-unnamed t _ _ (field_at t p f g₀ 8 (omega (arith, n))) h)
 
   module _ (r : std.Option Head) where
     pub column-count : (f.count ≡ 8 → ⊥) → (f.count ≡ 9 → ⊥) → r ≡ None → HeadIsHere t p (fields_of 11 none) r
-    column-count n m s = without t p f g r (fields_of 11 none) 7 8 (omega arith) (omega arith) n m column-not s
+    column-count n m s = without t p f g₀ r (fields_of 11 none) 7 8 (omega arith) (omega arith) n m column-not s
 
     column-as : (o : Option EntryHead) (j : ℕ) → f.count ≡ 8 + j → j ≤ 1 → named_by (name (words 1)) (words_head words) (optional_name (behind j)) ≡ o → HeadIs t o r → HeadIsHere t p (fields_of 11 none) r
     unfolding HeadIsHere
@@ -198,31 +153,21 @@ module _ (t : Bytes) (p : ℕ) (f : Line) (g : LineAt t p f) where
     pub column-name-no : 8 ≤ f.count → f.count ≤ 9 → is_name (get_or f.lens 1 0) ≡ false → r ≡ None → HeadIsHere t p (fields_of 11 none) r
     column-name-no n m h s = column-none n m (λ j. rw (first-no n h) (nameless (words_head words) (optional_name (behind j)))) s
 
-    pub column-words-no : 8 ≤ f.count → f.count ≤ 9 → HeadIs t (words_head words) None → r ≡ None → HeadIsHere t p (fields_of 11 none) r
-    column-words-no n m w s = column-none n m (λ j. rw (wordless (words_head words) w) (no_words (name (words 1)) (optional_name (behind j)))) s
-
     pub column-reference-no : f.count ≡ 9 → is_name (get_or f.lens 8 0) ≡ false → r ≡ None → HeadIsHere t p (fields_of 11 none) r
     unfolding HeadIs
     column-reference-no n h s = column-as none 1 (omega (arith, n)) (omega arith) (rw (reference-no n h) (no-reference (name (words 1)) (words_head words))) s
 
-    -- a column whose words fit
-    module _ (v : Head) (w : HeadIs t (words_head words) (Some v)) (n : 8 ≤ f.count) (h : is_name (get_or f.lens 1 0) ≡ true) where
-      abbrev first : Word
-      first = field most_bytes t (get_or f.starts 1 0) (get_or f.lens 1 0)
+    -- a column by its name and its reference
+    module _ (n : 8 ≤ f.count) (h : is_name (get_or f.lens 1 0) ≡ true) {p₁ : places.Place} (e₁ : p₁ ≡ place_here 1)
+        {o : std.Option places.Place} (s : (w : Word) (x : Option Word) → NameIs t (some w) (Some p₁) → NameIs t x o → HeadIs t (column_said w words x) r) where
+      column-named : (x : Option Word) (j : ℕ) → f.count ≡ 8 + j → j ≤ 1 → optional_name (behind j) ≡ some x → NameIs t x o → HeadIsHere t p (fields_of 11 none) r
+      unfolding column_said
+      column-named x j e m g q =
+          column-as _ j e m (rw (first-yes n h, g) (named-all (field_here 1) (words_head words) x))
+          (s (field_here 1) x (rw e₁ (name-is t _ _ (field_at t p f g₀ 1 (omega (arith, n))) h)) q)
 
-      column-named : (x : Option Word) (j c d : ℕ) → f.count ≡ 8 + j → j ≤ 1 → optional_name (behind j) ≡ some x → NameIs t x c d
-          → Numbers r v.expressions ((most_bytes + get_or f.starts 1 0) ∷ get_or f.lens 1 0 ∷ v.code ∷ v.key ∷ v.nullable ∷ v.unique ∷ v.index ∷ c ∷ d ∷ [])
-          → HeadIsHere t p (fields_of 11 none) r
-      unfolding HeadIs
-      column-named x j c d e m o q s =
-          let y = worded (words_head words) v w in
-          column-as (some (named first y.0 x)) j e m (named-all _ _ _ first y.0 x (first-yes n h) y.1 o)
-          (s.0, s.1, head-named t _ _ c d y.0 x v s.0 (field_at t p f g 1 (omega (arith, n))) h y.2 q (s.2, s.3))
+      pub column-plain : f.count ≡ 8 → o ≡ None → HeadIsHere t p (fields_of 11 none) r
+      column-plain e z = column-named none 0 (omega (arith, e)) (omega arith) reference-none (rw z (no_name t))
 
-      pub column-plain : f.count ≡ 8 → Numbers r v.expressions ((most_bytes + get_or f.starts 1 0) ∷ get_or f.lens 1 0 ∷ v.code ∷ v.key ∷ v.nullable ∷ v.unique ∷ v.index ∷ 0 ∷ 0 ∷ []) → HeadIsHere t p (fields_of 11 none) r
-      column-plain e s = column-named none 0 0 0 (omega (arith, e)) (omega arith) reference-none (no_name t) s
-
-      pub column-refers : (a : ℕ) → f.count ≡ 9 → is_name (get_or f.lens 8 0) ≡ true → a ≡ most_bytes + get_or f.starts 8 0
-          → Numbers r v.expressions ((most_bytes + get_or f.starts 1 0) ∷ get_or f.lens 1 0 ∷ v.code ∷ v.key ∷ v.nullable ∷ v.unique ∷ v.index ∷ a ∷ get_or f.lens 8 0 ∷ [])
-          → HeadIsHere t p (fields_of 11 none) r
-      column-refers a e i q s = column-named _ 1 a _ (omega (arith, e)) (omega arith) (reference-yes e i) (rw q (name-is t _ _ (field_at t p f g 8 (omega (arith, e))) i)) s
+      pub column-refers : {p₂ : places.Place} → f.count ≡ 9 → is_name (get_or f.lens 8 0) ≡ true → p₂ ≡ place_here 8 → o ≡ Some p₂ → HeadIsHere t p (fields_of 11 none) r
+      column-refers e i e₂ z = column-named _ 1 (omega (arith, e)) (omega arith) (reference-yes e i) (rw (z, e₂) (name-is t _ _ (field_at t p f g₀ 8 (omega (arith, e))) i))

@@ -1,22 +1,31 @@
--- The words of CREATE's column record, by their numbers.
-use Rattle.std.specs.Prelude.{ℕ, zero, suc, ◌+◌, ◌-◌, ◌%◌, ◌≤◌, ◌<◌, ◌≡◌, refl, Bool, true, false, List, [], ◌∷◌, get_or, take, drop, None}
+-- The words of CREATE's column record: each by its field, and what they say together.
+use Rattle.std.specs.Prelude.{ℕ, zero, suc, ◌+◌, ◌≤◌, ◌<◌, ◌≡◌, refl, Bool, true, false, List, [], ◌∷◌, eqb, get_or, take, drop, None, Some}
 use Rattle.std.specs.Prelude as std
-use Rattle.std.proofs.Common.{arith, ◌∙◌}
+use Rattle.std.proofs.Common.{arith, sym, ap, ◌∙◌}
 use Rattle.std.proofs.Math.Option.{Option, none, some}
 use Rattle.rules.specs.Refusals.{statement}
-use Rattle.rules.specs.Lists.{Bytes}
+use Rattle.rules.specs.Limits.{most_cells}
+use Rattle.rules.specs.Lists.{Bytes, map_option}
 use Rattle.rules.specs.Lines.{Word, bytes}
 use Rattle.rules.specs.Schema.{Datatype}
-use Rattle.rules.specs.Reader.{word}
+use Rattle.rules.specs.Reader.{base_address, word}
 use Rattle.rules.specs.ReadColumn.{◌>>=◌, datatypes, flagged, nullness}
 use Rattle.rules.specs.Area.{flag, type_code}
+use Rattle.numbers.specs.Options.{option_of}
+use Rattle.numbers.specs.Values.{type_at}
+use Rattle.numbers.specs.Codes.{coded}
+use Rattle.numbers.specs.Datatypes.{type_of}
+use Rattle.numbers.specs.declared.datatypes.DataType.{DataType}
 use Rattle.text.specs.Lines.{field}
 use Rattle.text.specs.Words.{find, words_of, push, keys, nth, named_by, nth-none}
 use Rattle.text.specs.Reading.{field_of}
 use Rattle.text.specs.declared.Line.{Line}
+use Rattle.text.specs.declared.places.Place as places
 use Rattle.entries.specs.Entries.{EntryHead, null_number}
-use Rattle.entries.specs.HeadFields.{Numbers, HeadIs, head-is-as, head-none, head_plain}
+use Rattle.entries.specs.Heads.{words_numbers, saying}
+use Rattle.entries.specs.HeadFields.{NameIs, HeadIs, head-none}
 use Rattle.entries.specs.declared.Head.{Head}
+use Rattle.entries.specs.declared.Words.TheVariants.{Column}
 
 -- what the words say: type, key, nullable, unique, index, default
 unfoldable pub words_by : Option Datatype → Option Bool → Option (Option Bool) → Option Bool → Option Bool → Option Bool → Option EntryHead
@@ -42,7 +51,23 @@ words_by t k u q i d = do
 unfoldable pub words_head : (ℕ → Word) → Option EntryHead
 words_head w = words_by (word datatypes (w 2)) (flagged (bytes "pk") (w 3)) (word nullness (w 4)) (flagged (bytes "unique") (w 5)) (flagged (bytes "index") (w 6)) (flagged (bytes "default") (w 7))
 
--- WORDS BY THEIR NUMBERS
+-- a column's name and reference put to its words
+unfoldable pub named : Word → EntryHead → Option Word → EntryHead
+named n h x = record {
+  name = some n;
+  reference = x;
+  code = h.code;
+  key = h.key;
+  nullable = h.nullable;
+  unique = h.unique;
+  index = h.index;
+  expressions = h.expressions;
+}
+
+unfoldable pub column_said : Word → (ℕ → Word) → Option Word → Option EntryHead
+column_said n w x = map_option (λ (h : EntryHead). named n h x) (words_head w)
+
+-- ONE WORD
 type-words : keys datatypes ≡ words_of (bytes "bool int float text ")
 unfolding keys datatypes words_of bytes push
 type-words = refl
@@ -51,31 +76,91 @@ null-words : keys nullness ≡ words_of (bytes "null notnull - ")
 unfolding keys nullness words_of bytes push
 null-words = refl
 
-type-nth : (k : ℕ) → k < 4 → (d : Datatype) × (nth datatypes k ≡ some d) × (type_code d ≡ k + 1)
-unfolding nth datatypes type_code
-type-nth zero h = (_, refl, refl)
-type-nth (suc zero) h = (_, refl, refl)
-type-nth (suc (suc zero)) h = (_, refl, refl)
-type-nth (suc (suc (suc zero))) h = (_, refl, refl)
-type-nth (suc (suc (suc (suc k)))) h = absurd (omega arith)
-
-null-nth : (k : ℕ) → k < 3 → (u : Option Bool) × (nth nullness k ≡ some u) × (null_number u ≡ (k + 1) % 3)
-unfolding nth nullness null_number
-null-nth zero h = (_, refl, refl)
-null-nth (suc zero) h = (_, refl, refl)
-null-nth (suc (suc zero)) h = (_, refl, refl)
-null-nth (suc (suc (suc k))) h = absurd (omega arith)
-
-abbrev flags : Bytes → List (Bytes × Bool)
+abbrev pub flags : Bytes → List (Bytes × Bool)
 flags w = (w, true) ∷ (bytes "-", false) ∷ []
 
-flag-nth : (w : Bytes) (k : ℕ) → k < 2 → (b : Bool) × (nth (flags w) k ≡ some b) × (flag b ≡ 1 - k)
-unfolding nth flag
-flag-nth w zero h = (_, refl, refl)
-flag-nth w (suc zero) h = (_, refl, refl)
-flag-nth w (suc (suc k)) h = absurd (omega arith)
+module _ (x : Bytes) (o : ℕ) (k : ℕ) where
+  abbrev here : Word
+  here = record { bytes = x; start = o }
 
--- the first word that does not fit, or all six
+  by_words : {A : Type 0} (table : List (Bytes × A)) (words : Bytes) → keys table ≡ words_of words → k ≡ find (words_of words) x → word table here ≡ nth table k
+  unfolding word
+  by_words table words e h = named_by table words x k e h
+
+  -- a type
+  module _ (e : k ≡ find (words_of (bytes "bool int float text ")) x) where
+    pub type-none : 4 ≤ k → none ≡ word datatypes here
+    type-none l = sym (by_words datatypes _ type-words e ∙ nth-none datatypes k (unfold datatypes in l))
+
+    pub type-some : k < 4 → (d : DataType) → type_of d ≡ type_at (k + 1) → some (type_of d) ≡ word datatypes here
+    unfolding nth datatypes type_at coded
+    type-some l d q = sym (by_words datatypes _ type-words e ∙ go k l ∙ ap some (sym q))
+      where
+        go : (k : ℕ) → k < 4 → nth datatypes k ≡ some (type_at (k + 1))
+        go zero l = refl
+        go (suc zero) l = refl
+        go (suc (suc zero)) l = refl
+        go (suc (suc (suc zero))) l = refl
+        go (suc (suc (suc (suc k)))) l = absurd (omega arith)
+
+  -- of nulls
+  module _ (e : k ≡ find (words_of (bytes "null notnull - ")) x) where
+    pub null-none : 3 ≤ k → none ≡ word nullness here
+    null-none l = sym (by_words nullness _ null-words e ∙ nth-none nullness k (unfold nullness in l))
+
+    null-some : (j : ℕ) → k ≡ j → nth nullness j ≡ word nullness here
+    null-some j z = rw z at (sym (by_words nullness _ null-words e))
+
+    pub null-allowed : k ≡ 0 → some (some true) ≡ word nullness here
+    unfolding nth nullness
+    null-allowed z = null-some 0 z
+
+    pub null-refused : k ≡ 1 → some (some false) ≡ word nullness here
+    unfolding nth nullness
+    null-refused z = null-some 1 z
+
+    pub null-unsaid : k ≡ 2 → some none ≡ word nullness here
+    unfolding nth nullness
+    null-unsaid z = null-some 2 z
+
+  -- a flag
+  module _ (w words : Bytes) (f : keys (flags w) ≡ words_of words) (e : k ≡ find (words_of words) x) where
+    pub flag-none : 2 ≤ k → none ≡ flagged w here
+    unfolding flagged
+    flag-none l = sym (by_words (flags w) words f e ∙ nth-none (flags w) k l)
+
+    pub flag-some : k < 2 → some (eqb k 0) ≡ flagged w here
+    unfolding flagged nth
+    flag-some l = sym (by_words (flags w) words f e ∙ go k l)
+      where
+        go : (k : ℕ) → k < 2 → nth (flags w) k ≡ some (eqb k 0)
+        go zero l = refl
+        go (suc zero) l = refl
+        go (suc (suc k)) l = absurd (omega arith)
+
+pub pk-words : keys (flags (bytes "pk")) ≡ words_of (bytes "pk - ")
+unfolding keys words_of bytes push
+pk-words = refl
+
+pub unique-words : keys (flags (bytes "unique")) ≡ words_of (bytes "unique - ")
+unfolding keys words_of bytes push
+unique-words = refl
+
+pub index-words : keys (flags (bytes "index")) ≡ words_of (bytes "index - ")
+unfolding keys words_of bytes push
+index-words = refl
+
+pub default-words : keys (flags (bytes "default")) ≡ words_of (bytes "default - ")
+unfolding keys words_of bytes push
+default-words = refl
+
+-- ALL SIX
+few-flag : (b : Bool) → flag b ≤ suc most_cells
+unfolding flag
+few-flag true = omega arith
+few-flag false = omega arith
+
+-- the first that does not fit, or all
 module _ (w : ℕ → Word) where
   type-no : word datatypes (w 2) ≡ none → words_head w ≡ none
   unfolding words_head words_by ◌>>=◌
@@ -119,76 +204,73 @@ module _ (w : ℕ → Word) where
             unfolding words_head words_by ◌>>=◌
             words_are d e = rw (e2, e3, e4, e5, e6, e)
 
--- one word by its number
-module _ (t : Bytes) (f : Line) (i : ℕ) where
-  abbrev at : Bytes
-  at = take (get_or f.lens i 0) (drop (get_or f.starts i 0) t)
+module _ (t : Bytes) (f : Line) (n : Word) (x : Option Word) (r : std.Option Head) where
+  abbrev w : ℕ → Word
+  w = field_of statement t f
 
-  word-is : {A : Type 0} (table : List (Bytes × A)) (words : Bytes) (k : ℕ) → keys table ≡ words_of words → k ≡ find (words_of words) at → word table (field_of statement t f i) ≡ nth table k
-  unfolding word field_of field
-  word-is table words k e h = named_by table words at k e h
+  -- field i, at any start
+  abbrev at : ℕ → ℕ → Word
+  at i o = record { bytes = take (get_or f.lens i 0) (drop (get_or f.starts i 0) t); start = o }
 
-  flag_is : (w words : Bytes) (k : ℕ) → keys (flags w) ≡ words_of words → k ≡ find (words_of words) at → flagged w (field_of statement t f i) ≡ nth (flags w) k
-  unfolding flagged
-  flag_is w words k e h = word-is (flags w) words k e h
+  is-at : {A : Type 0} (g : Word → A) (i : ℕ) (a : A) → ((o : ℕ) → a ≡ g (at i o)) → g (w i) ≡ a
+  unfolding field_of field
+  is-at g i a h = sym (h (base_address statement + get_or f.starts i 0))
 
-pk-words : keys (flags (bytes "pk")) ≡ words_of (bytes "pk - ")
-unfolding keys words_of bytes push
-pk-words = refl
+  none_said : words_head w ≡ none → r ≡ None → HeadIs t (column_said n w x) r
+  unfolding column_said map_option
+  none_said e s = head-none t _ r (rw e) s
 
-unique-words : keys (flags (bytes "unique")) ≡ words_of (bytes "unique - ")
-unfolding keys words_of bytes push
-unique-words = refl
+  pub no-type : ((o : ℕ) → none ≡ word datatypes (at 2 o)) → r ≡ None → HeadIs t (column_said n w x) r
+  no-type h s = none_said (type-no w (is-at (word datatypes) 2 none h)) s
 
-index-words : keys (flags (bytes "index")) ≡ words_of (bytes "index - ")
-unfolding keys words_of bytes push
-index-words = refl
+  module _ (d : DataType) (h2 : (o : ℕ) → some (type_of d) ≡ word datatypes (at 2 o)) where
+    abbrev e2 : word datatypes (w 2) ≡ some (type_of d)
+    e2 = is-at (word datatypes) 2 (some (type_of d)) h2
 
-given-words : keys (flags (bytes "default")) ≡ words_of (bytes "default - ")
-unfolding keys words_of bytes push
-given-words = refl
+    pub no-key : ((o : ℕ) → none ≡ flagged (bytes "pk") (at 3 o)) → r ≡ None → HeadIs t (column_said n w x) r
+    no-key h s = none_said (key-no w _ e2 (is-at (flagged (bytes "pk")) 3 none h)) s
 
-module _ (t : Bytes) (f : Line) (r : std.Option Head) {a : ℕ} (e2 : a ≡ find (words_of (bytes "bool int float text ")) (at t f 2)) where
-  pub words-type : 4 ≤ a → r ≡ None → HeadIs t (words_head (field_of statement t f)) r
-  words-type l s = head-none t _ r (type-no _ (word-is t f 2 datatypes _ a type-words e2 ∙ nth-none datatypes a (unfold datatypes in l))) s
+    module _ (k : Bool) (h3 : (o : ℕ) → some k ≡ flagged (bytes "pk") (at 3 o)) where
+      abbrev e3 : flagged (bytes "pk") (w 3) ≡ some k
+      e3 = is-at (flagged (bytes "pk")) 3 (some k) h3
 
-  module _ (l2 : a < 4) {b : ℕ} (e3 : b ≡ find (words_of (bytes "pk - ")) (at t f 3)) where
-    abbrev typed : (d : Datatype) × (word datatypes (field_of statement t f 2) ≡ some d) × (type_code d ≡ a + 1)
-    typed = let n = type-nth a l2 in (n.0, word-is t f 2 datatypes _ a type-words e2 ∙ n.1, n.2)
+      pub no-null : ((o : ℕ) → none ≡ word nullness (at 4 o)) → r ≡ None → HeadIs t (column_said n w x) r
+      no-null h s = none_said (null-no w _ e2 _ e3 (is-at (word nullness) 4 none h)) s
 
-    pub words-key : 2 ≤ b → r ≡ None → HeadIs t (words_head (field_of statement t f)) r
-    words-key l s = head-none t _ r (key-no _ _ typed.1 (flag_is t f 3 (bytes "pk") _ b pk-words e3 ∙ nth-none _ b l)) s
+      module _ (u : std.Option Bool) (h4 : (o : ℕ) → some (option_of u) ≡ word nullness (at 4 o)) where
+        abbrev e4 : word nullness (w 4) ≡ some (option_of u)
+        e4 = is-at (word nullness) 4 (some (option_of u)) h4
 
-    module _ (l3 : b < 2) {c : ℕ} (e4 : c ≡ find (words_of (bytes "null notnull - ")) (at t f 4)) where
-      abbrev keyed : (x : Bool) × (flagged (bytes "pk") (field_of statement t f 3) ≡ some x) × (flag x ≡ 1 - b)
-      keyed = let n = flag-nth (bytes "pk") b l3 in (n.0, flag_is t f 3 (bytes "pk") _ b pk-words e3 ∙ n.1, n.2)
+        pub no-unique : ((o : ℕ) → none ≡ flagged (bytes "unique") (at 5 o)) → r ≡ None → HeadIs t (column_said n w x) r
+        no-unique h s = none_said (unique-no w _ e2 _ e3 _ e4 (is-at (flagged (bytes "unique")) 5 none h)) s
 
-      pub words-null : 3 ≤ c → r ≡ None → HeadIs t (words_head (field_of statement t f)) r
-      words-null l s = head-none t _ r (null-no _ _ typed.1 _ keyed.1 (word-is t f 4 nullness _ c null-words e4 ∙ nth-none nullness c (unfold nullness in l))) s
+        module _ (q : Bool) (h5 : (o : ℕ) → some q ≡ flagged (bytes "unique") (at 5 o)) where
+          abbrev e5 : flagged (bytes "unique") (w 5) ≡ some q
+          e5 = is-at (flagged (bytes "unique")) 5 (some q) h5
 
-      module _ (l4 : c < 3) {d : ℕ} (e5 : d ≡ find (words_of (bytes "unique - ")) (at t f 5)) where
-        abbrev nulled : (x : Option Bool) × (word nullness (field_of statement t f 4) ≡ some x) × (null_number x ≡ (c + 1) % 3)
-        nulled = let n = null-nth c l4 in (n.0, word-is t f 4 nullness _ c null-words e4 ∙ n.1, n.2)
+          pub no-index : ((o : ℕ) → none ≡ flagged (bytes "index") (at 6 o)) → r ≡ None → HeadIs t (column_said n w x) r
+          no-index h s = none_said (index-no w _ e2 _ e3 _ e4 _ e5 (is-at (flagged (bytes "index")) 6 none h)) s
 
-        pub words-unique : 2 ≤ d → r ≡ None → HeadIs t (words_head (field_of statement t f)) r
-        words-unique l s = head-none t _ r (unique-no _ _ typed.1 _ keyed.1 _ nulled.1 (flag_is t f 5 (bytes "unique") _ d unique-words e5 ∙ nth-none _ d l)) s
+          module _ (i : Bool) (h6 : (o : ℕ) → some i ≡ flagged (bytes "index") (at 6 o)) where
+            abbrev e6 : flagged (bytes "index") (w 6) ≡ some i
+            e6 = is-at (flagged (bytes "index")) 6 (some i) h6
 
-        module _ (l5 : d < 2) {i : ℕ} (e6 : i ≡ find (words_of (bytes "index - ")) (at t f 6)) where
-          abbrev single : (x : Bool) × (flagged (bytes "unique") (field_of statement t f 5) ≡ some x) × (flag x ≡ 1 - d)
-          single = let n = flag-nth (bytes "unique") d l5 in (n.0, flag_is t f 5 (bytes "unique") _ d unique-words e5 ∙ n.1, n.2)
+            pub no-default : ((o : ℕ) → none ≡ flagged (bytes "default") (at 7 o)) → r ≡ None → HeadIs t (column_said n w x) r
+            no-default h s = none_said (default-no w _ e2 _ e3 _ e4 _ e5 _ e6 (is-at (flagged (bytes "default")) 7 none h)) s
 
-          pub words-index : 2 ≤ i → r ≡ None → HeadIs t (words_head (field_of statement t f)) r
-          words-index l s = head-none t _ r (index-no _ _ typed.1 _ keyed.1 _ nulled.1 _ single.1 (flag_is t f 6 (bytes "index") _ i index-words e6 ∙ nth-none _ i l)) s
-
-          module _ (l6 : i < 2) {g : ℕ} (e7 : g ≡ find (words_of (bytes "default - ")) (at t f 7)) where
-            abbrev indexed : (x : Bool) × (flagged (bytes "index") (field_of statement t f 6) ≡ some x) × (flag x ≡ 1 - i)
-            indexed = let n = flag-nth (bytes "index") i l6 in (n.0, flag_is t f 6 (bytes "index") _ i index-words e6 ∙ n.1, n.2)
-
-            pub words-default : 2 ≤ g → r ≡ None → HeadIs t (words_head (field_of statement t f)) r
-            words-default l s = head-none t _ r (default-no _ _ typed.1 _ keyed.1 _ nulled.1 _ single.1 _ indexed.1 (flag_is t f 7 (bytes "default") _ g given-words e7 ∙ nth-none _ g l)) s
-
-            pub words_right : g < 2 → Numbers r (1 - g) (0 ∷ 0 ∷ (a + 1) ∷ (1 - b) ∷ ((c + 1) % 3) ∷ (1 - d) ∷ (1 - i) ∷ 0 ∷ 0 ∷ []) → HeadIs t (words_head (field_of statement t f)) r
-            words_right l s =
-                let n = flag-nth (bytes "default") g l in
-                head-is-as t _ _ r (words_are _ _ typed.1 _ keyed.1 _ nulled.1 _ single.1 _ indexed.1 _ (flag_is t f 7 (bytes "default") _ g given-words e7 ∙ n.1))
-                (head_plain t _ r refl refl (rw (typed.2, keyed.2, nulled.2, single.2, indexed.2, n.2) s) (omega (arith, n.2)))
+            pub all-words : (p : places.Place) (y : std.Option places.Place) → NameIs t (some n) (Some p) → NameIs t x y → (z : Bool) (c : ℕ)
+                → ((o : ℕ) → some z ≡ flagged (bytes "default") (at 7 o)) → c ≡ flag z
+                → r ≡ Some (saying c (Some p) (Column (record { datatype = d; key = k; nullable = u; unique = q; index = i; reference = y })))
+                → HeadIs t (column_said n w x) r
+            unfolding column_said map_option named words_numbers HeadIs
+            all-words p y named refers z c h7 l s = rw (words_are w _ e2 _ e3 _ e4 _ e5 _ e6 z (is-at (flagged (bytes "default")) 7 (some z) h7)) ((
+              _,
+              s,
+              record {
+                named = named;
+                says = rw refers.numbers;
+                refers = refers.fits;
+                expressions = l;
+                few = rw l (few-flag z);
+              },
+            ))

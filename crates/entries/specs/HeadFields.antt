@@ -1,15 +1,17 @@
--- What the fields of one record say as numbers: names by their places, and the contracts of the functions of each shape.
-use Rattle.std.specs.Prelude.{ℕ, zero, suc, ◌+◌, ◌-◌, ◌≤◌, ◌≡◌, refl, true, false, length, take, drop, Result, Ok, Err, Some, None}
+-- What the fields of one record say: names by their places, and the contracts of the functions of each shape.
+use Rattle.std.specs.Prelude.{ℕ, zero, suc, ◌+◌, ◌-◌, ◌≤◌, ◌≡◌, refl, true, false, length, Result, Ok, Err, Some, None}
 use Rattle.std.specs.Prelude as std
 use Rattle.std.proofs.Common.{arith, ◌∙◌}
 use Rattle.std.proofs.Math.Path.{ap}
-use mathlib.Core.List.{List, [], ◌∷◌, ◌++◌}
+use mathlib.Core.List.{List, [], ◌∷◌}
 use Rattle.std.proofs.Math.Option.{Option, none, some}
 use Rattle.rules.specs.Limits.{most_bytes, most_cells}
 use Rattle.rules.specs.Lists.{Bytes, map_option}
 use Rattle.rules.specs.Lines.{Word}
 use Rattle.rules.specs.Reader.{Place, at, rest, name, no_field}
 use Rattle.rules.specs.Area.{span, option_span}
+use Rattle.text.specs.Places.{option_numbers}
+use Rattle.text.specs.declared.places.Place as places
 use Rattle.text.specs.Lines.{field, Fields}
 use Rattle.text.specs.Numbers.{is_name, name_in, name_out}
 use Rattle.text.specs.declared.Line.{Line}
@@ -18,8 +20,10 @@ use Rattle.read_expression.specs.Heads.{field_fits}
 use Rattle.ast.specs.Names.{NameFits}
 use Rattle.read_expression.specs.Reading.{here}
 use Rattle.entries.specs.Entries.{EntryHead, keyword_of, plain_head, named_head, fields_of, name_of}
-use Rattle.entries.specs.Heads.{head_numbers, last_name, numbers_of, Entered, IsHead}
+use Rattle.entries.specs.Heads.{head_numbers, last_name, words_numbers, saying, Entered, IsHead}
 use Rattle.entries.specs.declared.Head.{Head}
+use Rattle.entries.specs.declared.Words.{Words}
+use Rattle.entries.specs.declared.Words.TheVariants.{Nothing}
 use Rattle.numbers.specs.declared.refusals.Reason.TheVariants.{WrongRecord}
 use Rattle.numbers.specs.declared.refusals.Refusal as code
 
@@ -30,28 +34,24 @@ pub record LineAt (t : Bytes) (p : ℕ) (f : Line) : Type 0 where
   pub within : p ≤ length t
   pub fields : Fields t p f
 
--- a name of the statement by its address and length, or zeros
-pub record NameIs (t : Bytes) (w : Option Word) (a n : ℕ) : Type 0 where
-  pub numbers : option_span w ≡ a ∷ n ∷ []
+-- a name of the statement by its place, or none
+pub record NameIs (t : Bytes) (w : Option Word) (n : std.Option places.Place) : Type 0 where
+  pub numbers : option_span w ≡ option_numbers n
   pub fits : (c : Bytes) → NameFits c t w
-  pub last : last_name t a n ≡ map_option (λ (w : Word). w.bytes) w
+  pub last : last_name t n ≡ map_option (λ (w : Word). w.bytes) w
 
--- the numbers of a record's fields
-pub record HeadNumbersAre (t : Bytes) (h : EntryHead) (r : Head) : Type 0 where
-  pub named : NameIs t h.name r.a r.b
-  pub refers : NameIs t h.reference r.c r.d
-  pub codes : h.code ∷ h.key ∷ h.nullable ∷ h.unique ∷ h.index ∷ [] ≡ r.code ∷ r.key ∷ r.nullable ∷ r.unique ∷ r.index ∷ []
+-- what a record's fields say
+pub record HeadSays (t : Bytes) (h : EntryHead) (r : Head) : Type 0 where
+  pub named : NameIs t h.name r.name
+  pub says : h.code ∷ h.key ∷ h.nullable ∷ h.unique ∷ h.index ∷ option_span h.reference ≡ words_numbers r.words
+  pub refers : (c : Bytes) → NameFits c t h.reference
   pub expressions : r.expressions ≡ h.expressions
   pub few : r.expressions ≤ suc most_cells
 
 -- fields that do not fit, or what they say
 unfoldable pub HeadIs : Bytes → Option EntryHead → std.Option Head → Type 0
 HeadIs t none r = r ≡ None
-HeadIs t (some h) r = (x : Head) × (r ≡ Some x) × HeadNumbersAre t h x
-
--- a record with e expressions and these numbers
-abbrev pub Numbers : std.Option Head → ℕ → List ℕ → Type 0
-Numbers r e xs = (x : Head) × (r ≡ Some x) × (x.expressions ≡ e) × (numbers_of x ≡ xs)
+HeadIs t (some h) r = (x : Head) × (r ≡ Some x) × HeadSays t h x
 
 -- what a rule says of the fields at position p
 unfoldable pub HeadIsHere : Bytes → ℕ → (List Word → Option EntryHead) → std.Option Head → Type 0
@@ -66,8 +66,8 @@ unfoldable pub name_head : ℕ → Word → Option EntryHead
 name_head n w = map_option (λ v. named_head n (some v)) (name w)
 
 -- NAMES
-pub no_name : (t : Bytes) → NameIs t none 0 0
-unfolding option_span span NameFits last_name map_option
+pub no_name : (t : Bytes) → NameIs t none None
+unfolding option_span NameFits last_name map_option
 no_name t = record { numbers = refl; fits = λ c. tt; last = refl }
 
 name-some : (n : ℕ) → is_name n ≡ true → 1 ≤ n
@@ -75,18 +75,13 @@ unfolding is_name
 name-some zero h = let z : ◌≡◌ {A = ℕ} 0 1 = cc in absurd (omega arith)
 name-some (suc n) h = omega arith
 
-last_some : (t : Bytes) (a n : ℕ) → 1 ≤ n → last_name t (most_bytes + a) n ≡ some (take n (drop a t))
-unfolding last_name
-last_some t a zero h = absurd (omega arith)
-last_some t a (suc n) h = let e : most_bytes + a - most_bytes ≡ a = omega arith in rw e
-
 module _ (t : Bytes) (a n : ℕ) (i : Inside t a n) where
-  pub name-is : is_name n ≡ true → NameIs t (some (field most_bytes t a n)) (most_bytes + a) n
-  unfolding option_span span NameFits map_option
+  pub name-is : is_name n ≡ true → NameIs t (some (field most_bytes t a n)) (Some (record { address = most_bytes + a; length = n }))
+  unfolding option_span span NameFits map_option last_name field
   name-is h = record {
-    numbers = unfold field in rw (field-length t a n i);
-    fits = λ c. (field_fits t a n i c, unfold field in rw (field-length t a n i) (name-some n h));
-    last = unfold field in last_some t a n (name-some n h);
+    numbers = rw (field-length t a n i);
+    fits = λ c. (field_fits t a n i c, rw (field-length t a n i) (name-some n h));
+    last = let e : most_bytes + a - most_bytes ≡ a = omega arith in rw e;
   }
 
   pub field-named : is_name n ≡ true → name (field most_bytes t a n) ≡ some (field most_bytes t a n)
@@ -106,61 +101,37 @@ pub head-none : (t : Bytes) (o : Option EntryHead) (r : std.Option Head) → o �
 unfolding HeadIs
 head-none t o r e s = rw e s
 
--- numbers without names
-pub head_plain : (t : Bytes) (h : EntryHead) (r : std.Option Head) → h.name ≡ none → h.reference ≡ none
-    → Numbers r h.expressions (0 ∷ 0 ∷ h.code ∷ h.key ∷ h.nullable ∷ h.unique ∷ h.index ∷ 0 ∷ 0 ∷ []) → h.expressions ≤ suc most_cells → HeadIs t (some h) r
-unfolding HeadIs
-head_plain t h r e f g l = (
-  g.0,
-  g.1,
+-- no names
+pub head_plain : (t : Bytes) (h : EntryHead) (r : std.Option Head) (w : Words) → h.name ≡ none → h.reference ≡ none → r ≡ Some (saying h.expressions None w)
+    → h.code ∷ h.key ∷ h.nullable ∷ h.unique ∷ h.index ∷ 0 ∷ 0 ∷ [] ≡ words_numbers w → h.expressions ≤ suc most_cells → HeadIs t (some h) r
+unfolding HeadIs option_span NameFits
+head_plain t h r w e f g s l = (
+  saying h.expressions None w,
+  g,
   record {
-    named = rw (e, a, b) (no_name t);
-    refers = rw (f, c, d) (no_name t);
-    codes = cc g.3;
-    expressions = g.2;
-    few = omega (arith, g.2);
+    named = rw e (no_name t);
+    says = rw f s;
+    refers = λ c. rw f tt;
+    expressions = refl;
+    few = l;
   },
 )
-  where
-    a : g.0.a ≡ 0
-    a = cc g.3
-
-    b : g.0.b ≡ 0
-    b = cc g.3
-
-    c : g.0.c ≡ 0
-    c = cc g.3
-
-    d : g.0.d ≡ 0
-    d = cc g.3
 
 -- a name
 pub head-name : (t : Bytes) (a n e : ℕ) (r : std.Option Head) → Inside t a n → is_name n ≡ true → e ≤ 1
-    → Numbers r e ((most_bytes + a) ∷ n ∷ 0 ∷ 0 ∷ 0 ∷ 0 ∷ 0 ∷ 0 ∷ 0 ∷ []) → HeadIs t (name_head e (field most_bytes t a n)) r
-unfolding name_head map_option named_head HeadIs
+    → r ≡ Some (saying e (Some (record { address = most_bytes + a; length = n })) Nothing) → HeadIs t (name_head e (field most_bytes t a n)) r
+unfolding name_head map_option named_head HeadIs option_span NameFits words_numbers
 head-name t a n e r i h l g = rw (field-named t a n i h) ((
-  g.0,
-  g.1,
+  _,
+  g,
   record {
-    named = rw (x, y) (name-is t a n i h);
-    refers = rw (z, w) (no_name t);
-    codes = cc g.3;
-    expressions = g.2;
-    few = omega (arith, g.2);
+    named = name-is t a n i h;
+    says = refl;
+    refers = λ c. tt;
+    expressions = refl;
+    few = omega arith;
   },
 ))
-  where
-    x : g.0.a ≡ most_bytes + a
-    x = cc g.3
-
-    y : g.0.b ≡ n
-    y = cc g.3
-
-    z : g.0.c ≡ 0
-    z = cc g.3
-
-    w : g.0.d ≡ 0
-    w = cc g.3
 
 pub head-unnamed : (t : Bytes) (a n e : ℕ) (r : std.Option Head) → Inside t a n → is_name n ≡ false → r ≡ None → HeadIs t (name_head e (field most_bytes t a n)) r
 unfolding name_head map_option
@@ -171,22 +142,18 @@ module _ (t : Bytes) (kind : ℕ) (b : Option Bytes) (line : ℕ) (p : Place) wh
   pub no-head : at (keyword_of kind) p ≡ false → IsHead t kind b line p (Ok None)
   no-head h = record { missing = λ e. h; wrong = λ w e. absurd (let y : ◌≡◌ {A = ℕ} 0 1 = cc in omega arith); entered = λ x e. absurd (let y : ◌≡◌ {A = ℕ} 0 1 = cc in omega arith) }
 
-  entered-head : (r : Head) (h : EntryHead) → at (keyword_of kind) p ≡ true → fields_of kind b (rest p) ≡ some h → HeadNumbersAre t h r → Entered t kind b p r
+  entered-head : (r : Head) (h : EntryHead) → at (keyword_of kind) p ≡ true → fields_of kind b (rest p) ≡ some h → HeadSays t h r → Entered t kind b p r
   entered-head r h e f s = record {
     head = h;
     stands = e;
     is = f;
-    numbers = unfold head_numbers in rw (s.named.numbers, s.refers.numbers) (codes _ _ _ _ _ _ _ _ _ _ _ _ _ _ s.codes);
+    numbers = unfold head_numbers in rw (s.named.numbers, s.says);
     expressions = s.expressions;
     few = s.few;
     named = s.named.fits;
-    refers = s.refers.fits;
+    refers = s.refers;
     last = unfold name_of in s.named.last;
   }
-    where
-      codes : (a b c d x y z u v x' y' z' u' v' : ℕ) → x ∷ y ∷ z ∷ u ∷ v ∷ [] ≡ x' ∷ y' ∷ z' ∷ u' ∷ v' ∷ []
-          → a ∷ b ∷ x ∷ y ∷ z ∷ u ∷ v ∷ c ∷ d ∷ [] ≡ a ∷ b ∷ x' ∷ y' ∷ z' ∷ u' ∷ v' ∷ c ∷ d ∷ []
-      codes a b c d x y z u v x' y' z' u' v' e = ap (λ (l : List ℕ). a ∷ b ∷ (l ++ (c ∷ d ∷ []))) e
 
   wrong-line : (v w : code.Refusal) → ◌≡◌ {A = Result (std.Option Head) code.Refusal} (Err v) (Err w) → w ≡ v
   wrong-line v w e = cc
@@ -206,7 +173,7 @@ module _ (t : Bytes) (kind : ℕ) (b : Option Bytes) (line : ℕ) (p : Place) wh
       go (some x) e f = unfold HeadIs in
           let q : ◌≡◌ {A = std.Option Head} (Some r) (Some f.0) = f.1 in
           let z : f.0 ≡ r = cc in
-          let g : HeadNumbersAre t x r = rw z at f.2 in
+          let g : HeadSays t x r = rw z at f.2 in
           record {
             missing = λ y. absurd (let w : ◌≡◌ {A = ℕ} 0 1 = cc in omega arith);
             wrong = λ v y. absurd (let w : ◌≡◌ {A = ℕ} 0 1 = cc in omega arith);

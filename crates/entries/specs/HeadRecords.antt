@@ -1,5 +1,5 @@
 -- The records of clauses, items, order keys, names and rows, by the number of their fields.
-use Rattle.std.specs.Prelude.{ℕ, zero, suc, ◌+◌, ◌≤◌, ◌<◌, ◌≡◌, true, false, List, [], ◌∷◌, length, take, drop, None}
+use Rattle.std.specs.Prelude.{ℕ, zero, suc, ◌+◌, ◌≤◌, ◌<◌, ◌≡◌, true, false, List, [], ◌∷◌, eqb, length, take, drop, None, Some}
 use Rattle.std.specs.Prelude as std
 use Rattle.std.proofs.Common.{arith, ◌∙◌}
 use Rattle.std.proofs.Math.Path.{refl, sym, ap}
@@ -11,7 +11,6 @@ use Rattle.rules.specs.Lists.{Bytes, map_option}
 use Rattle.rules.specs.Lines.{Word, bytes}
 use Rattle.rules.specs.Reader.{base_address, name, word, count_field, no_field, one_field, optional_name}
 use Rattle.rules.specs.ReadStatement.{directions}
-use Rattle.rules.specs.Area.{flag}
 use Rattle.text.specs.Lines.{field, kept_fields}
 use Rattle.text.specs.Words.{find, words_of, push, keys, nth, named_by, nth-none}
 use Rattle.text.specs.Numbers.{count_small}
@@ -20,8 +19,10 @@ use Rattle.text.specs.Records.{no-field, one_field_lem, optional-name}
 use Rattle.text.specs.declared.Line.{Line}
 use Rattle.text.specs.Fields.{Inside, inside-field}
 use Rattle.entries.specs.Entries.{EntryHead, plain_head, named_head, order_head, fields_of}
-use Rattle.entries.specs.HeadFields.{Numbers, LineAt, HeadIs, HeadIsHere, clause_fields, name_head, head-is-as, head-none, head_plain}
+use Rattle.entries.specs.Heads.{words_numbers, saying}
+use Rattle.entries.specs.HeadFields.{LineAt, HeadIs, HeadIsHere, clause_fields, name_head, head-is-as, head-none, head_plain}
 use Rattle.entries.specs.declared.Head.{Head}
+use Rattle.entries.specs.declared.Words.TheVariants.{Nothing, Descends}
 
 -- WHAT THE FIELDS SAY
 item-fields : (w : Word) → fields_of 0 none (w ∷ []) ≡ name_head 1 w
@@ -79,15 +80,15 @@ module _ (t : Bytes) (p : ℕ) (f : Line) (g : LineAt t p f) where
 
   module _ (r : std.Option Head) where
     -- clauses
-    pub clause-yes : (e : ℕ) → f.count ≡ 1 → e ≤ 1 → Numbers r e (0 ∷ 0 ∷ 0 ∷ 0 ∷ 0 ∷ 0 ∷ 0 ∷ 0 ∷ 0 ∷ []) → HeadIsHere t p (clause_fields e) r
-    clause-yes e n l s = with_none r (clause_fields e) n (unfold clause_fields no_field map_option in head_plain t (plain_head e) r (unfold plain_head in refl) (unfold plain_head in refl) (unfold plain_head in s) (unfold plain_head in omega (arith, l)))
+    pub clause-yes : (e : ℕ) → f.count ≡ 1 → e ≤ 1 → r ≡ Some (saying e None Nothing) → HeadIsHere t p (clause_fields e) r
+    clause-yes e n l s = with_none r (clause_fields e) n (unfold clause_fields no_field map_option plain_head words_numbers in head_plain t (plain_head e) r Nothing refl refl s refl (omega (arith, l)))
 
     pub clause-no : (e : ℕ) → (f.count ≡ 1 → ⊥) → r ≡ None → HeadIsHere t p (clause_fields e) r
     clause-no e n s = without r (clause_fields e) 0 0 (omega arith) (omega arith) n n (λ ws x y. unfold clause_fields map_option in rw (no-field ws x)) s
 
     -- items
-    pub item-plain : f.count ≡ 1 → Numbers r 1 (0 ∷ 0 ∷ 0 ∷ 0 ∷ 0 ∷ 0 ∷ 0 ∷ 0 ∷ 0 ∷ []) → HeadIsHere t p (fields_of 0 none) r
-    item-plain n s = with_none r (fields_of 0 none) n (unfold fields_of optional_name map_option in head_plain t (named_head 1 none) r (unfold named_head in refl) (unfold named_head in refl) (unfold named_head in s) (unfold named_head in omega arith))
+    pub item-plain : f.count ≡ 1 → r ≡ Some (saying 1 None Nothing) → HeadIsHere t p (fields_of 0 none) r
+    item-plain n s = with_none r (fields_of 0 none) n (unfold fields_of optional_name map_option named_head words_numbers in head_plain t (named_head 1 none) r Nothing refl refl s refl (omega arith))
 
     pub item-named : f.count ≡ 2 → HeadIs t (name_head 1 first) r → HeadIsHere t p (fields_of 0 none) r
     item-named n s = with-one r (fields_of 0 none) n (head-is-as t _ _ r (item-fields first) s)
@@ -107,12 +108,12 @@ module _ (t : Bytes) (p : ℕ) (f : Line) (g : LineAt t p f) where
       pub order-word : 2 ≤ k → r ≡ None → HeadIsHere t p (fields_of 4 none) r
       order-word l s = with-one r (fields_of 4 none) n (head-none t _ r (order-fields first ∙ rw (direction-is ∙ nth-none directions k (unfold directions in l)) (unfold map_option in refl)) s)
 
-      pub order-yes : k < 2 → Numbers r 1 (0 ∷ 0 ∷ k ∷ 0 ∷ 0 ∷ 0 ∷ 0 ∷ 0 ∷ 0 ∷ []) → HeadIsHere t p (fields_of 4 none) r
+      pub order-yes : k < 2 → r ≡ Some (saying 1 None (Descends (eqb k 1))) → HeadIsHere t p (fields_of 4 none) r
       order-yes l s = with-one r (fields_of 4 none) n (head-is-as t _ (map_option order_head (nth directions k)) r (order-fields first ∙ ap (map_option order_head) direction-is) (go k l s))
         where
-          go : (k : ℕ) → k < 2 → Numbers r 1 (0 ∷ 0 ∷ k ∷ 0 ∷ 0 ∷ 0 ∷ 0 ∷ 0 ∷ 0 ∷ []) → HeadIs t (map_option order_head (nth directions k)) r
-          go zero l s = unfold nth directions map_option in head_plain t (order_head false) r (unfold order_head in refl) (unfold order_head in refl) (unfold order_head flag in s) (unfold order_head in omega arith)
-          go (suc zero) l s = unfold nth directions map_option in head_plain t (order_head true) r (unfold order_head in refl) (unfold order_head in refl) (unfold order_head flag in s) (unfold order_head in omega arith)
+          go : (k : ℕ) → k < 2 → r ≡ Some (saying 1 None (Descends (eqb k 1))) → HeadIs t (map_option order_head (nth directions k)) r
+          go zero l s = unfold nth directions map_option order_head words_numbers in head_plain t (order_head false) r (Descends false) refl refl s refl (omega arith)
+          go (suc zero) l s = unfold nth directions map_option order_head words_numbers in head_plain t (order_head true) r (Descends true) refl refl s refl (omega arith)
           go (suc (suc k)) l s = absurd (omega arith)
 
     -- names
@@ -134,5 +135,5 @@ module _ (t : Bytes) (p : ℕ) (f : Line) (g : LineAt t p f) where
       pub row-wrong : ((o : ℕ) → none ≡ count_field (record { bytes = take (get_or f.lens 1 0) (drop (get_or f.starts 1 0) t); start = o })) → r ≡ None → HeadIsHere t p (fields_of 9 none) r
       row-wrong e s = with-one r (fields_of 9 none) n (head-none t _ r (row-fields first ∙ rw (counted none e) (unfold map_option in refl)) s)
 
-      pub row-yes : (k : ℕ) → ((o : ℕ) → some k ≡ count_field (record { bytes = take (get_or f.lens 1 0) (drop (get_or f.starts 1 0) t); start = o })) → Numbers r k (0 ∷ 0 ∷ 0 ∷ 0 ∷ 0 ∷ 0 ∷ 0 ∷ 0 ∷ 0 ∷ []) → HeadIsHere t p (fields_of 9 none) r
-      row-yes k e s = with-one r (fields_of 9 none) n (head-is-as t _ (some (plain_head k)) r (row-fields first ∙ rw (counted (some k) e) (unfold map_option in refl)) (head_plain t (plain_head k) r (unfold plain_head in refl) (unfold plain_head in refl) (unfold plain_head in s) (unfold plain_head in count_small _ k (e 0))))
+      pub row-yes : (k : ℕ) → ((o : ℕ) → some k ≡ count_field (record { bytes = take (get_or f.lens 1 0) (drop (get_or f.starts 1 0) t); start = o })) → r ≡ Some (saying k None Nothing) → HeadIsHere t p (fields_of 9 none) r
+      row-yes k e s = with-one r (fields_of 9 none) n (head-is-as t _ (some (plain_head k)) r (row-fields first ∙ rw (counted (some k) e) (unfold map_option in refl)) (unfold plain_head words_numbers in head_plain t (plain_head k) r Nothing refl refl s refl (count_small _ k (e 0))))

@@ -1,7 +1,7 @@
 -- The records of sets: names that rise, each with a value or its default.
 use Prim.Native.Nat.{ℕ, zero, suc, ◌-◌, ◌≤◌}
 use Rattle.std.proofs.Common.{arith, sym, ◌∙◌}
-use Rattle.std.specs.Prelude.{◌≡◌, Bool, List, [], ◌∷◌, length, get_or, take, drop, None}
+use Rattle.std.specs.Prelude.{◌≡◌, Bool, List, [], ◌∷◌, length, get_or, take, drop, None, Some}
 use Rattle.std.specs.Prelude as std
 use Rattle.std.proofs.Math.Path.{refl}
 use Rattle.std.proofs.Math.Bool.{true, false}
@@ -17,6 +17,7 @@ use Rattle.text.specs.Numbers.{is_name, name_in, name_out}
 use Rattle.std.specs.Ordering.{is_lt}
 use Rattle.text.specs.Order.{order_of, ordered}
 use Rattle.text.specs.declared.Line.{Line}
+use Rattle.text.specs.declared.places.Place as places
 use Rattle.entries.specs.Entries.{set_head, fields_of}
 use Rattle.entries.specs.Heads.{last_name}
 use Rattle.entries.specs.HeadFields.{LineAt, HeadIs, HeadIsHere, name_head, head-is-as, head-none}
@@ -24,23 +25,15 @@ use Rattle.entries.specs.HeadRecords.{with-one, with_two, without}
 use Rattle.entries.specs.declared.Head.{Head}
 
 -- THE NAME BEFORE
--- by its address and length
-module _ (t : Bytes) (last len a n : ℕ) where
-  pub rises-first : len ≡ 0 → true ≡ rises (last_name t last len) (field most_bytes t a n)
+module _ (t : Bytes) (a n : ℕ) where
+  pub rises-first : true ≡ rises (last_name t None) (field most_bytes t a n)
   unfolding last_name rises
-  rises-first z = rw z
+  rises-first = refl
 
-  last_name_lem : (len ≡ 0 → ⊥) → last_name t last len ≡ some (take len (drop (last - most_bytes) t))
-  unfolding last_name
-  last_name_lem h = go len h
-    where
-      go : (k : ℕ) → (k ≡ 0 → ⊥) → last_name t last k ≡ some (take k (drop (last - most_bytes) t))
-      go zero h = absurd (h refl)
-      go (suc k) h = unfold last_name in refl
-
-  pub rises-by : {i : ℕ} {x y : Bytes} {b : Bool} → (len ≡ 0 → ⊥) → i ≡ last - most_bytes → x ≡ take len (drop i t) → y ≡ take n (drop a t) → b ≡ is_lt (order_of x y) → b ≡ rises (last_name t last len) (field most_bytes t a n)
-  unfolding rises field
-  rises-by h e ex ey q = rw (last_name_lem h, q, ex, ey, e) (sym (ordered _ _).less)
+  pub rises-by : (p : places.Place) {i : ℕ} {x y : Bytes} {b : Bool} → i ≡ p.address - most_bytes → x ≡ take p.length (drop i t) → y ≡ take n (drop a t) → b ≡ is_lt (order_of x y)
+      → b ≡ rises (last_name t (Some p)) (field most_bytes t a n)
+  unfolding last_name rises field
+  rises-by p e ex ey q = rw (q, ex, ey, e) (sym (ordered _ _).less)
 
 -- WHAT THE FIELDS SAY
 set-fields : (b : Option Bytes) (ws : List Word) → fields_of 10 b ws ≡ map_option set_head (rising_set b ws)

@@ -11,7 +11,7 @@ use Rattle.rules.specs.Lines.{bytes}
 use Rattle.rules.specs.Ast.{Join, cross, inner, left, right}
 use Rattle.rules.specs.Reader.{base_address, key, rest, line_here, apply, one_of, name, word, both, two_fields, optional_name, name_alias}
 use Rattle.rules.specs.ReadStatement.{FromHead, joins, predicates, from_heads}
-use Rattle.rules.specs.Area.{flag, span, option_span}
+use Rattle.rules.specs.Area.{span, option_span}
 use Rattle.text.specs.Lines.{field, kept_fields, Fields}
 use Rattle.text.specs.Words.{find, words_of, push, keys, nth, named_by, nth-none}
 use Rattle.text.specs.Numbers.{is_name, name_in, name_out}
@@ -22,8 +22,12 @@ use Rattle.text.specs.Fields.{Inside, field-length}
 use Rattle.read_expression.specs.Heads.{field_fits}
 use Rattle.read_expression.specs.Reading.{here}
 use Rattle.ast.specs.Names.{NameFits}
-use Rattle.from.specs.Records.{join_number, table_fields, join_fields, from_numbers, FromFits, numbers_of, RowSays, IsFromRow}
+use Rattle.text.specs.declared.places.Place.{Place}
+use Rattle.from.specs.Records.{join_number, table_fields, join_fields, Says, FromFits, RowSays, IsFromRow}
+use Rattle.from.specs.Numbers.{number_of}
+use Rattle.from.specs.declared.row.Kind.{Kind}
 use Rattle.from.specs.declared.record.FromRecord.{FromRecord}
+use Rattle.from.specs.declared.record.Said.TheVariants as S
 
 pub row_as : {t : Bytes} {e : ℕ} {h : Option FromHead} {r : std.Option FromRecord} (g : Option FromHead) → g ≡ h → IsFromRow t e h r → IsFromRow t e g r
 row_as g e s = rw e s
@@ -60,13 +64,14 @@ module _ (t : Bytes) (a n : ℕ) (i : Inside t a n) where
   unfolding table_fields map_option name_alias both
   table_none h = rw (field-none h)
 
-  pub table-some : (e : ℕ) (r : FromRecord) → is_name n ≡ true → numbers_of r ≡ 1 ∷ 0 ∷ (most_bytes + a) ∷ n ∷ 0 ∷ 0 ∷ [] → r.next ≡ e → IsFromRow t e (table_fields (field most_bytes t a n ∷ [])) (Some r)
-  unfolding RowSays table_fields map_option name_alias both optional_name
-  table-some e r h x y = record {
+  pub table-some : (e : ℕ) (p : Place) → is_name n ≡ true → p ≡ record { address = most_bytes + a; length = n }
+      → IsFromRow t e (table_fields (field most_bytes t a n ∷ [])) (Some (record { said = S.Table p None; next = e }))
+  unfolding RowSays Says table_fields map_option name_alias both optional_name
+  table-some e p h x = record {
     says = rw (field-name h) (record {
-      is = unfold from_numbers option_span span field in rw (field-length t a n i) (sym x);
+      is = unfold option_span span field in rw (field-length t a n i, x) (refl, refl);
       fits = λ c. unfold FromFits NameFits in (field_fits t a n i c, tt);
-      next = y;
+      next = refl;
     });
   }
 
@@ -79,25 +84,18 @@ module _ (t : Bytes) (a n b m : ℕ) (i : Inside t a n) (j : Inside t b m) where
   unfolding table_fields map_option name_alias both optional_name
   alias-second h g = rw (field-name t a n i h, field-none t b m j g)
 
-  pub alias-some : (e : ℕ) (r : FromRecord) → is_name n ≡ true → is_name m ≡ true → numbers_of r ≡ 1 ∷ 0 ∷ (most_bytes + a) ∷ n ∷ (most_bytes + b) ∷ m ∷ [] → r.next ≡ e
-      → IsFromRow t e (table_fields (field most_bytes t a n ∷ field most_bytes t b m ∷ [])) (Some r)
-  unfolding RowSays table_fields map_option name_alias both optional_name
-  alias-some e r h g x y = record {
+  pub alias-some : (e : ℕ) (p o : Place) → is_name n ≡ true → is_name m ≡ true → p ≡ record { address = most_bytes + a; length = n } → o ≡ record { address = most_bytes + b; length = m }
+      → IsFromRow t e (table_fields (field most_bytes t a n ∷ field most_bytes t b m ∷ [])) (Some (record { said = S.Table p (Some o); next = e }))
+  unfolding RowSays Says table_fields map_option name_alias both optional_name
+  alias-some e p o h g x y = record {
     says = rw (field-name t a n i h, field-name t b m j g) (record {
-      is = unfold from_numbers option_span span field in rw (field-length t a n i, field-length t b m j) (sym x);
+      is = unfold option_span span field in rw (field-length t a n i, field-length t b m j, x, y) (refl, refl);
       fits = λ c. unfold FromFits in (field_fits t a n i c, field_fit t b m j c g);
-      next = y;
+      next = refl;
     });
   }
 
 -- JOINS
--- whether a word has the number 0, as a number
-pub flag-zero : (o : ℕ) → o < 2 → flag (eqb o 0) ≡ 1 - o
-unfolding flag
-flag-zero zero h = refl
-flag-zero (suc zero) h = refl
-flag-zero (suc (suc o)) h = absurd (omega arith)
-
 pub join-words : keys joins ≡ words_of (bytes "cross inner left right ")
 unfolding joins keys words_of push bytes
 join-words = refl
@@ -120,15 +118,10 @@ join-at (suc (suc zero)) h = record { join = left; is = refl; number = refl }
 join-at (suc (suc (suc zero))) h = record { join = right; is = refl; number = refl }
 join-at (suc (suc (suc (suc k)))) h = absurd (omega arith)
 
-record FlagAt (k : ℕ) : Type 0 where
-  on : Bool
-  is : nth predicates k ≡ some on
-  number : flag on ≡ 1 - k
-
-flag_at : (k : ℕ) → k < 2 → FlagAt k
-unfolding predicates nth flag
-flag_at zero h = record { on = true; is = refl; number = refl }
-flag_at (suc zero) h = record { on = false; is = refl; number = refl }
+flag_at : (k : ℕ) → k < 2 → nth predicates k ≡ some (eqb k 0)
+unfolding predicates nth
+flag_at zero h = refl
+flag_at (suc zero) h = refl
 flag_at (suc (suc k)) h = absurd (omega arith)
 
 neither : {A B : Type 0} (a : Option A) → both {A = A} {B = B} a none ≡ none
@@ -154,17 +147,16 @@ module _ (t : Bytes) (a n b m j : ℕ) (words : Bytes) (w : keys joins ≡ words
     unfolding join_fields map_option two_fields
     predicate-none h = rw (predicates-is, nth-none predicates o (unfold predicates in h), neither (word joins (field most_bytes t a n)))
 
-    pub join-some : (e : ℕ) (r : FromRecord) → j < 4 → o < 2 → numbers_of r ≡ (j + 2) ∷ (1 - o) ∷ 0 ∷ 0 ∷ 0 ∷ 0 ∷ [] → r.next ≡ e
-        → IsFromRow t e (join_fields (field most_bytes t a n ∷ field most_bytes t b m ∷ [])) (Some r)
-    unfolding RowSays join_fields map_option two_fields both
-    join-some e r hj ho x y =
+    pub join-some : (e : ℕ) (k : Kind) → j < 4 → o < 2 → number_of k ≡ j + 2
+        → IsFromRow t e (join_fields (field most_bytes t a n ∷ field most_bytes t b m ∷ [])) (Some (record { said = S.Join k (eqb o 0); next = e }))
+    unfolding RowSays Says join_fields map_option two_fields both
+    join-some e k hj ho x =
         let u = join-at j hj in
-        let v = flag_at o ho in
         record {
-          says = rw (joins-is, u.is, predicates-is, v.is) (record {
-            is = unfold from_numbers in rw (u.number, v.number) (sym x);
+          says = rw (joins-is, u.is, predicates-is, flag_at o ho) (record {
+            is = (x ∙ sym u.number, refl);
             fits = λ c. unfold FromFits in tt;
-            next = y;
+            next = refl;
           });
         }
 

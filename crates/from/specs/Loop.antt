@@ -3,6 +3,7 @@ use Prim.Native.Nat.{ℕ, suc, ◌+◌, ◌*◌, ◌-◌, ◌≤◌, ◌<◌}
 use Rattle.std.proofs.Common.{arith, ◌∙◌}
 use Rattle.std.proofs.Math.Numerals.{add-one}
 use Rattle.std.proofs.Math.Path.{◌≡◌, refl, sym, ap}
+use Rattle.std.specs.Prelude as std
 use Rattle.std.specs.Prelude.{Bool, List, [], ◌∷◌, ◌++◌, length, set, Some, None}
 use Rattle.std.proofs.Math.Bool.{true, false}
 use Rattle.std.proofs.Math.Option.{none}
@@ -22,7 +23,7 @@ use Rattle.numbers.specs.Kept.{Kept, kept-all}
 use Rattle.ast.specs.Table.{row_size, table_size}
 use Rattle.read_expression.specs.Reading.{here, Position}
 use Rattle.from.specs.Layout.{trees_before}
-use Rattle.from.specs.Records.{IsFromRow}
+use Rattle.from.specs.Records.{alias_first, alias_second, IsFromRow}
 use Rattle.from.specs.Lines.{record-moves, join-moves}
 use Rattle.from.specs.Rules.{Frame, first, rest_of, rest-begin, rest-no, rest-table, rest-join, here-wrong, here-limit, here-table, here-join}
 use Rattle.from.specs.Trees.{TreeReady}
@@ -30,8 +31,10 @@ use Rattle.from.specs.Rows.{table-row}
 use Rattle.from.specs.Stack.{code_of, Holds, lefts, join-small, flag_small, holds-push}
 use Rattle.from.specs.Kinds.{IsTable, IsJoin, row-end, row-table, row-join, row-none}
 use Rattle.from.specs.Numbers.{number_of}
-use Rattle.from.specs.declared.row.Kind.TheVariants as K
 use Rattle.from.specs.declared.record.FromRecord.{FromRecord}
+use Rattle.from.specs.declared.record.Said.TheVariants as S
+use Rattle.from.specs.declared.row.Kind.{Kind}
+use Rattle.text.specs.declared.places.Place as places
 
 -- the tree that was read, before the left sides of the open joins
 unfoldable pub held : Bool → From → List From → List From
@@ -121,8 +124,8 @@ module _ {t : Bytes} {p₀ l₀ c₀ k₀ n₀ : ℕ} {cells₀ rows₀ : List �
     pub next-within : r.next ≤ length t
     next-within = omega (arith, row-end _ said, line-most t p, h.position.within)
 
-    module _ (z : r.kind ≡ K.Table) where
-      named : IsTable t (one_of from_heads (line_here (here t p l c k))) r
+    module _ {name : places.Place} {alias : std.Option places.Place} (z : r.said ≡ S.Table name alias) where
+      named : IsTable t (one_of from_heads (line_here (here t p l c k))) name alias
       named = row-table _ said z
 
       pub loop-limit : most_from_tables ≤ k → turns from_tree (here t p₀ l₀ c₀ k₀) ≡ limit_at statement l
@@ -141,7 +144,7 @@ module _ {t : Bytes} {p₀ l₀ c₀ k₀ n₀ : ℕ} {cells₀ rows₀ : List �
       table-next = (unfold place in place-next statement t p l c (suc k)) ∙ rw ((row-end _ said), add-one k)
 
       pub loop-table : k < most_from_tables → (rows' : List ℕ)
-          → rows' ≡ sets rows (row_size * n) (1 ∷ l ∷ 0 ∷ r.name.address ∷ r.name.length ∷ r.alias.address ∷ r.alias.length ∷ 0 ∷ []) → length rows' ≡ length rows
+          → rows' ≡ sets rows (row_size * n) (1 ∷ l ∷ 0 ∷ name.address ∷ name.length ∷ alias_first alias ∷ alias_second alias ∷ 0 ∷ []) → length rows' ≡ length rows
           → TreeLoop t p₀ l₀ c₀ k₀ n₀ cells₀ rows₀ true r.next (l + 1) c (k + 1) (n + 1) d stack cells rows'
       unfolding held place
       loop-table m rows' e g = record {
@@ -161,7 +164,7 @@ module _ {t : Bytes} {p₀ l₀ c₀ k₀ n₀ : ℕ} {cells₀ rows₀ : List �
         tables = omega arith;
         begun = h.begun;
         count = omega (arith, h.count);
-        stand = λ cells'' y b. rw (add-one n) (table-row rows rows' n 1 l 0 r.name.address r.name.length r.alias.address r.alias.length 0
+        stand = λ cells'' y b. rw (add-one n) (table-row rows rows' n 1 l 0 name.address name.length (alias_first alias) (alias_second alias) 0
             (omega (arith, row_room m, h.rows-room)) e b t cells'' refl refl
             ∙ rw (named.word b, named.other b, h.stand cells'' y b));
         cells-kept = h.cells-kept;
@@ -171,8 +174,8 @@ module _ {t : Bytes} {p₀ l₀ c₀ k₀ n₀ : ℕ} {cells₀ rows₀ : List �
       }
 
     -- one more join is open
-    module _ (y : r.kind ≡ K.Table → ⊥) where
-      joins : IsJoin (one_of from_heads (line_here (here t p l c k))) r
+    module _ {kind : Kind} {on : Bool} (y : r.said ≡ S.Join kind on) where
+      joins : IsJoin (one_of from_heads (line_here (here t p l c k))) kind on
       joins = row-join _ said y
 
       pub push-moves : p + 13 ≤ r.next
@@ -184,16 +187,16 @@ module _ {t : Bytes} {p₀ l₀ c₀ k₀ n₀ : ℕ} {cells₀ rows₀ : List �
       pub push-within : d < length stack
       push-within = omega (arith, push-moves, next-within, h.stack-room, h.deep)
 
-      pub push-small : (number_of r.kind ≤ 5) × (flag r.on ≤ 1)
-      push-small = (omega (arith, joins.kind, (join-small joins.join).1), omega (arith, joins.flag, flag_small joins.on))
+      pub push-small : (number_of kind ≤ 5) × (flag on ≤ 1)
+      push-small = (omega (arith, joins.kind, (join-small joins.join).1), flag_small on)
 
       join-next : next (here t p l c k) ≡ here t r.next (l + 1) c k
       join-next = place-next statement t p l c k ∙ rw (row-end _ said)
 
-      pub loop-push : TreeLoop t p₀ l₀ c₀ k₀ n₀ cells₀ rows₀ false r.next (l + 1) c k n (d + 1) (set stack d (l * 32 + number_of r.kind * 4 + flag r.on * 2)) cells rows
+      pub loop-push : TreeLoop t p₀ l₀ c₀ k₀ n₀ cells₀ rows₀ false r.next (l + 1) c k n (d + 1) (set stack d (l * 32 + number_of kind * 4 + flag on * 2)) cells rows
       unfolding held lefts code_of place
       loop-push =
-          let o = joins.on in
+          let o = on in
           let j = joins.join in
           record {
             frames = first l j o ∷ h.frames;
@@ -202,7 +205,7 @@ module _ {t : Bytes} {p₀ l₀ c₀ k₀ n₀ : ℕ} {cells₀ rows₀ : List �
             is = ap (rest_of false (h.fuel - 1) (first l j o ∷ h.frames) h.tree) (sym join-next)
                 ∙ sym (rest-join (here t p l c k) (h.fuel - 1) h.frames h.tree j o _ (here-join (here t p l c k) j o joins.is)) ∙ rest-is;
             opened = omega (arith, h.opened);
-            holds = holds-push stack d _ (first l j o) h.frames h.opened push-within (omega (arith, joins.kind, joins.flag)) h.holds;
+            holds = holds-push stack d _ (first l j o) h.frames h.opened push-within (omega (arith, joins.kind)) h.holds;
             enough = omega (arith, h.enough, push-moves);
             deep = omega (arith, h.deep, push-moves);
             position = next-position t p l c r.next h.position (row-end _ said) (omega (arith, push-moves));
@@ -214,7 +217,7 @@ module _ {t : Bytes} {p₀ l₀ c₀ k₀ n₀ : ℕ} {cells₀ rows₀ : List �
             count = h.count;
             stand = h.stand;
             cells-kept = h.cells-kept;
-            stack-room = omega (arith, length-set stack d (l * 32 + number_of r.kind * 4 + flag r.on * 2), h.stack-room);
+            stack-room = omega (arith, length-set stack d (l * 32 + number_of kind * 4 + flag on * 2), h.stack-room);
             cells-room = h.cells-room;
             rows-room = h.rows-room;
           }

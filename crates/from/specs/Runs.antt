@@ -1,4 +1,5 @@
 -- All trees of FROM, by a loop over them.
+use Rattle.std.specs.Prelude as std
 use Rattle.std.specs.Prelude.{ℕ, suc, ◌+◌, ◌*◌, ◌-◌, ◌≤◌, ◌<◌, ◌≡◌, true, false, length, replicate, Ok, Err, Some, None}
 use Rattle.std.proofs.Common.{arith, ◌∙◌}
 use Rattle.std.proofs.Math.Path.{refl, sym, ap}
@@ -22,12 +23,13 @@ use Rattle.from.specs.Layout.{trees_before}
 use Rattle.from.specs.Roots.{trees-none, froms-are}
 use Rattle.from.specs.Terms.{FromsRead}
 use Rattle.rules.specs.Limits.{most_bytes}
-use Rattle.from.specs.Records.{IsFromRow}
+use Rattle.from.specs.Records.{alias_first, alias_second, IsFromRow}
 use Rattle.from.specs.Trees.{TreeTook, TreeReady, TreeRead}
 use Rattle.from.specs.Loop.{loop-begin, loop-wrong, loop-limit, loop-table}
 use Rattle.from.specs.Closed.{loop-end}
-use Rattle.from.specs.declared.row.Kind.TheVariants as K
 use Rattle.from.specs.declared.record.FromRecord.{FromRecord}
+use Rattle.from.specs.declared.record.Said.TheVariants as S
+use Rattle.text.specs.declared.places.Place as places
 use Rattle.from.specs.declared.Froms.{Froms}
 use Rattle.numbers.specs.declared.refusals.Reason.TheVariants.{WrongRecord, LimitPassed}
 use Rattle.numbers.specs.declared.refusals.Refusal as code
@@ -48,13 +50,13 @@ unfolding TreeRead wrong_at reason_of
 tree-wrong {t} {p} w f = loop-wrong (loop-begin no_joins w (no_joins_lem t p w.position.short)) f
 
 module _ {t : Bytes} {p l c k n : ℕ} {cells rows : List ℕ} (w : TreeReady t p l c k n cells rows) {r : FromRecord}
-    (f : (l c k : ℕ) → IsFromRow t (line_end t p) (one_of from_heads (line_here (here t p l c k))) (Some r)) (z : r.kind ≡ K.Table) where
+    (f : (l c k : ℕ) → IsFromRow t (line_end t p) (one_of from_heads (line_here (here t p l c k))) (Some r)) {name : places.Place} {alias : std.Option places.Place} (z : r.said ≡ S.Table name alias) where
   pub table-limit : most_from_tables ≤ k → TreeRead t p l c k n cells cells rows rows (Err (record { reason = LimitPassed; line = l }))
   unfolding TreeRead limit_at reason_of
   table-limit m = loop-limit (loop-begin no_joins w (no_joins_lem t p w.position.short)) f z m
 
   pub table-took : k < most_from_tables → (rows' : List ℕ)
-      → rows' ≡ sets rows (row_size * n) (1 ∷ l ∷ 0 ∷ r.name.address ∷ r.name.length ∷ r.alias.address ∷ r.alias.length ∷ 0 ∷ []) → length rows' ≡ length rows
+      → rows' ≡ sets rows (row_size * n) (1 ∷ l ∷ 0 ∷ name.address ∷ name.length ∷ alias_first alias ∷ alias_second alias ∷ 0 ∷ []) → length rows' ≡ length rows
       → TreeRead t p l c k n cells cells rows rows' (Ok (record { at = record { position = r.next; line = l + 1; rows = c }; tables = k + 1; rows = n + 1 }))
   unfolding TreeRead
   table-took m rows' e g = loop-end (loop-table (loop-begin no_joins w (no_joins_lem t p w.position.short)) f z m rows' e g) refl

@@ -13,15 +13,16 @@ ghost use Rattle.numbers.specs.Values.{is_one};
 ghost use Rattle.ast.specs.Table.{row_size, table_size};
 ghost use Rattle.read_expression.specs.Reading.{Position, Given};
 ghost use Rattle.from.specs.Numbers.{number_of};
-ghost use Rattle.from.specs.declared.row.Kind.TheVariants.{Table};
+ghost use Rattle.from.specs.Records.{alias_first, alias_second};
 ghost use Rattle.from.specs.Terms.{FromsRead};
 ghost use Rattle.from.specs.Trees.{on_in, Closed, TreeReady, TreeRead};
 ghost use Rattle.from.specs.Turns.{TreeBegun, RowsBegun, TurnFrom};
 
-use self::record::{FromRecord, NOWHERE, from_record, from_stands};
+use self::record::{Said, from_record, from_stands};
 use self::roots::sides;
 use self::row::{Kind, kind_by};
 use ast::rows::ROW_SIZE;
+use numbers::put_four;
 use numbers::refusals::{Reason, Refusal};
 use read_expression::reading::{Cursor, read_expressions};
 use text::places::Place;
@@ -46,72 +47,33 @@ pub struct Froms {
 }
 
 // The same inside a tree: how many joins are open, and whether a side was read.
-#[derive(Clone, Copy)]
+#[derive(Clone, Copy, Debug, PartialEq, Eq)]
 struct Stand {
     froms: Froms,
     open: usize,
     done: bool,
 }
 
-// A FROM row: 0 for the predicate of a join that has none, else its row and 1 more; and how many rows its sides have.
-#[derive(Clone, Copy)]
-struct FromRow {
-    kind: Kind,
-    line: u32,
-    predicate: u32,
-    name: Place,
-    alias: Place,
-    sides: u32,
-}
-
-// Row n.
-fn put_row(rows: &mut [u32], n: u32, row: FromRow)
+// A table in row n.
+fn put_table(rows: &mut [u32], n: u32, line: u32, name: Place, alias: Option<Place>)
     requires { row_size * n + row_size ≤ length rows.old }
-    ensures { rows.new ≡ sets rows.old (row_size * n) (number_of row.kind ∷ row.line ∷ row.predicate ∷ row.name.address ∷
-        row.name.length ∷ row.alias.address ∷ row.alias.length ∷ row.sides ∷ []) }
+    ensures { rows.new ≡ sets rows.old (row_size * n) (1 ∷ line ∷ 0 ∷ name.address ∷ name.length ∷ alias_first alias ∷
+        alias_second alias ∷ 0 ∷ []) }
 {
     let i = ROW_SIZE * n as usize;
-    rows[i] = row.kind as u32;
-    rows[i + 1] = row.line;
-    rows[i + 2] = row.predicate;
-    rows[i + 3] = row.name.address;
-    rows[i + 4] = row.name.length;
-    rows[i + 5] = row.alias.address;
-    rows[i + 6] = row.alias.length;
-    rows[i + 7] = row.sides;
+    let (address, length) = Place::numbers(alias);
+    put_four(rows, i, u32::from(Kind::Table), line, 0, name.address);
+    put_four(rows, i + 4, name.length, address, length, 0);
 }
 
-fn table_row(line: u32, h: FromRecord) -> FromRow
-    ensures { result ≡ record { kind = Table; line = line; predicate = 0; name = h.name; alias = h.alias; sides = 0 } }
+// A join in row n: 0 for the predicate of one that has none, else its row and 1 more; and how many rows its sides have.
+fn put_join(rows: &mut [u32], n: u32, kind: Kind, line: u32, predicate: u32, sides: u32)
+    requires { row_size * n + row_size ≤ length rows.old }
+    ensures { rows.new ≡ sets rows.old (row_size * n) (number_of kind ∷ line ∷ predicate ∷ 0 ∷ 0 ∷ 0 ∷ 0 ∷ sides ∷ []) }
 {
-    FromRow {
-        kind: Kind::Table,
-        line,
-        predicate: 0,
-        name: h.name,
-        alias: h.alias,
-        sides: 0,
-    }
-}
-
-fn join_row(kind: Kind, line: u32, predicate: u32, sides: u32) -> FromRow
-    ensures { result ≡ record {
-      kind = kind;
-      line = line;
-      predicate = predicate;
-      name = record { address = 0; length = 0 };
-      alias = record { address = 0; length = 0 };
-      sides = sides;
-    } }
-{
-    FromRow {
-        kind,
-        line,
-        predicate,
-        name: NOWHERE,
-        alias: NOWHERE,
-        sides,
-    }
+    let i = ROW_SIZE * n as usize;
+    put_four(rows, i, u32::from(kind), line, predicate, 0);
+    put_four(rows, i + 4, 0, 0, 0, sides);
 }
 
 // The predicate of an open join, if it has one, and its row.
@@ -133,11 +95,11 @@ fn close_join(
     let on = v / 2 % 2;
     let s = sides(rows, n);
     if on != 1 {
-        put_row(rows, n, join_row(kind, line, 0, s));
+        put_join(rows, n, kind, line, 0, s);
         return Ok(at);
     }
     let behind = read_expressions(t, at, 1, cells)?;
-    put_row(rows, n, join_row(kind, line, at.rows + 1, s));
+    put_join(rows, n, kind, line, at.rows + 1, s);
     Ok(behind)
 }
 
@@ -162,13 +124,13 @@ fn next_side(
         rows: at.rows,
     };
     let d = s.open;
-    match h.kind {
-        Kind::Table => {
+    match h.said {
+        Said::Table(name, alias) => {
             let froms = s.froms;
             if MOST_TABLES <= froms.tables {
                 return Err(Reason::LimitPassed.at(at.line));
             }
-            put_row(rows, froms.rows, table_row(at.line, h));
+            put_table(rows, froms.rows, at.line, name, alias);
             Ok(Some(Stand {
                 froms: Froms {
                     at: next,
@@ -179,8 +141,8 @@ fn next_side(
                 done: true,
             }))
         }
-        kind => {
-            stack[d] = at.line * 32 + kind as u32 * 4 + u32::from(h.on) * 2;
+        Said::Join(kind, on) => {
+            stack[d] = at.line * 32 + u32::from(kind) * 4 + u32::from(on) * 2;
             Ok(Some(Stand {
                 froms: Froms {
                     at: next,
@@ -299,13 +261,13 @@ fn read_tree(t: &[u8], froms: Froms, cells: &mut [u32], rows: &mut [u32]) -> Res
     let Some(h) = from_record(t, at.position) else {
         return Err(Reason::WrongRecord.at(at.line));
     };
-    let Kind::Table = h.kind else {
+    let Said::Table(name, alias) = h.said else {
         return read_joined(t, froms, cells, rows);
     };
     if MOST_TABLES <= froms.tables {
         return Err(Reason::LimitPassed.at(at.line));
     }
-    put_row(rows, froms.rows, table_row(at.line, h));
+    put_table(rows, froms.rows, at.line, name, alias);
     Ok(Froms {
         at: Cursor {
             position: h.next,

@@ -1,4 +1,4 @@
-// What one record of FROM says, as numbers.
+// What one record of FROM says.
 ghost use Rattle.std.specs.Prelude.{◌≡◌, true, false, [], ◌∷◌, ℕ, ◌+◌, ◌≤◌, length, MatchOption};
 ghost use Rattle.rules.specs.Limits.{most_bytes};
 ghost use Rattle.rules.specs.Lists.{same, any};
@@ -14,51 +14,20 @@ ghost use Rattle.from.specs.Records.{table_fields, join_fields, IsFromRow};
 
 use crate::row::Kind;
 use text::Line;
-use text::places::{Place, address};
+use text::places::{Place, name_at};
 
-// The place of a name that is not there.
-pub(crate) const NOWHERE: Place = Place {
-    address: 0,
-    length: 0,
-};
+// What a FROM record says: a table's name and its alias, or a join's kind and whether a predicate follows it.
+#[derive(Clone, Copy, Debug, PartialEq, Eq)]
+pub enum Said {
+    Table(Place, Option<Place>),
+    Join(Kind, bool),
+}
 
-// A FROM record: the kind of its row, whether a predicate follows a join, the places of a table's name and of its alias (none: 0 0), and the
-// position behind it.
+// A FROM record: what it says, and the position behind it.
 #[derive(Clone, Copy, Debug, PartialEq, Eq)]
 pub struct FromRecord {
-    pub kind: Kind,
-    pub on: bool,
-    pub name: Place,
-    pub alias: Place,
+    pub said: Said,
     pub next: usize,
-}
-
-// The place of the n bytes at a, if they are a name.
-fn name_at(a: usize, n: usize) -> Option<Place>
-    requires { (a ≤ 65536) × (n ≤ 65536) }
-    ensures { MatchOption result (is_name n ≡ false) (λ x. (is_name n ≡ true) × (x
-        ≡ record { address = most_bytes + a; length = n })) }
-{
-    if !text::is_name(n) {
-        return None;
-    }
-    Some(Place {
-        address: address(a),
-        length: n as u32,
-    })
-}
-
-// A table by its places.
-fn table(name: Place, alias: Place, next: usize) -> FromRecord
-    ensures { result ≡ record { kind = Table; on = false; name = name; alias = alias; next = next } }
-{
-    FromRecord {
-        kind: Kind::Table,
-        on: false,
-        name,
-        alias,
-        next,
-    }
 }
 
 // A table's name, and its alias where the line has one.
@@ -67,11 +36,20 @@ fn table_record(t: &[u8], p: usize, f: Line) -> Option<FromRecord>
     ensures { (l c k : ℕ) → IsFromRow t.now f.next (table_fields (rest (here t.now p l c k))) result }
 {
     match f.count {
-        2 => Some(table(name_at(f.starts[1], f.lens[1])?, NOWHERE, f.next)),
+        2 => {
+            let name = name_at(f.starts[1], f.lens[1])?;
+            Some(FromRecord {
+                said: Said::Table(name, None),
+                next: f.next,
+            })
+        }
         3 => {
             let name = name_at(f.starts[1], f.lens[1])?;
             let alias = name_at(f.starts[2], f.lens[2])?;
-            Some(table(name, alias, f.next))
+            Some(FromRecord {
+                said: Said::Table(name, Some(alias)),
+                next: f.next,
+            })
         }
         _ => None,
     }
@@ -93,10 +71,7 @@ fn join_record(t: &[u8], a: usize, n: usize, b: usize, m: usize, e: usize) -> Op
         return None;
     }
     Some(FromRecord {
-        kind,
-        on: o == 0,
-        name: NOWHERE,
-        alias: NOWHERE,
+        said: Said::Join(kind, o == 0),
         next: e,
     })
 }

@@ -23,6 +23,7 @@ pub fn left(rows: &[u32], r: u32) -> u32
 pub fn items(rows: &[u32], n: u32) -> u32
     ensures { result ≡ length (roots_before rows.now n) }
 {
+    // counted by hand: where the tree before ends is known only from its root
     let mut end = n;
     let mut c: u32 = 0;
     while end != 0 {

@@ -1,11 +1,14 @@
 // FROM's rows by name: a table, or a join with its sides and its predicate, whatever the rows hold. With the kind the laws
 // of specs/Access.antt give the tree at a row.
 ghost use Rattle.std.specs.Prelude.{◌≡◌};
+ghost use Rattle.text.specs.Places.{place_of};
 ghost use Rattle.from.specs.Access as access;
+ghost use Rattle.from.specs.Numbers.{number_of};
 
 use ast::rows::at;
+use text::places::Place;
 
-// The kinds of rows, by their numbers in the rows.
+// The kinds of rows, by their numbers in the rows, which are lent zeroed (reader_read_texts) and so stay numbers.
 #[derive(Clone, Copy, Debug, PartialEq, Eq)]
 pub enum Kind {
     Table = 1,
@@ -13,6 +16,14 @@ pub enum Kind {
     Inner,
     Left,
     Right,
+}
+
+impl From<Kind> for u32 {
+    ghost from_gives = { λ kind number. number ≡ number_of kind };
+
+    fn from(kind: Kind) -> u32 {
+        kind as u32
+    }
 }
 
 // The kind of a number; a right join where it is no other's, which From would not say.
@@ -56,27 +67,19 @@ pub fn predicate_of(rows: &[u32], r: u32) -> Option<u32>
 }
 
 // The place of a table's name.
-pub fn name_address(rows: &[u32], r: u32) -> u32
-    ensures { result ≡ access.name_address rows.now r }
+pub fn name(rows: &[u32], r: u32) -> Place
+    ensures address { result.address ≡ access.name_address rows.now r }
+    ensures length { result.length ≡ access.name_length rows.now r }
 {
-    at(rows, r as usize, 3)
+    Place {
+        address: at(rows, r as usize, 3),
+        length: at(rows, r as usize, 4),
+    }
 }
 
-pub fn name_length(rows: &[u32], r: u32) -> u32
-    ensures { result ≡ access.name_length rows.now r }
+// That of its alias.
+pub fn alias(rows: &[u32], r: u32) -> Option<Place>
+    ensures { result ≡ place_of (access.alias_address rows.now r) (access.alias_length rows.now r) }
 {
-    at(rows, r as usize, 4)
-}
-
-// That of its alias; there is none where the length is 0.
-pub fn alias_address(rows: &[u32], r: u32) -> u32
-    ensures { result ≡ access.alias_address rows.now r }
-{
-    at(rows, r as usize, 5)
-}
-
-pub fn alias_length(rows: &[u32], r: u32) -> u32
-    ensures { result ≡ access.alias_length rows.now r }
-{
-    at(rows, r as usize, 6)
+    Place::of_numbers(at(rows, r as usize, 5), at(rows, r as usize, 6))
 }

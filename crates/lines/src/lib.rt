@@ -9,7 +9,7 @@ ghost use Rattle.lines.specs.Spans.{lines_end, span_at, line_span, nth_line};
 ghost use Rattle.lines.specs.Readers.{at_start, lines_on};
 
 // A text with a position in it and the number of the line that starts there, from 1.
-#[derive(Clone, Copy)]
+#[derive(Clone, Copy, Debug, PartialEq, Eq)]
 struct LineReader<'a> {
     text: &'a [u8],
     at: usize,
@@ -17,7 +17,7 @@ struct LineReader<'a> {
 }
 
 // Where a line starts, and how many bytes it has without its LF.
-#[derive(Clone, Copy)]
+#[derive(Clone, Copy, Debug, PartialEq, Eq)]
 struct Span {
     start: usize,
     len: usize,

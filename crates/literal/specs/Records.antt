@@ -1,11 +1,12 @@
 -- What the record of a literal says: its kind and two numbers, by its keyword and its field.
-use Rattle.std.specs.Prelude.{◌≡◌, ℕ, zero, suc, ◌+◌, ◌-◌, ◌/◌, ◌%◌, ◌^◌, ◌<◌, ◌≤◌, List, [], ◌∷◌, length, take, drop, ◌≢◌, slice_index}
+use Rattle.std.specs.Prelude.{◌≡◌, ℕ, zero, suc, ◌+◌, ◌-◌, ◌/◌, ◌%◌, ◌^◌, ◌<◌, ◌≤◌, Bool, List, [], ◌∷◌, map, length, take, drop, ◌≢◌, slice_index}
 use Rattle.std.specs.Prelude as std
-use Rattle.std.proofs.Common.{arith, ◌∙◌}
+use Rattle.std.specs.Option.{option_map}
+use Rattle.std.proofs.Common.{arith, Bor, ◌∙◌}
 use Rattle.std.proofs.Math.Path.{refl, sym, ap}
 use Rattle.std.proofs.Math.Option.{Option, none, some}
 use Rattle.rules.specs.Refusals.{Text}
-use Rattle.rules.specs.Lists.{Bytes, map_option}
+use Rattle.rules.specs.Lists.{Bytes, map_option, named}
 use Rattle.rules.specs.Lines.{Word, bytes}
 use Rattle.rules.specs.Lines as Lines
 use Rattle.rules.specs.Schema.{Value, null, bool}
@@ -15,7 +16,8 @@ use Rattle.numbers.specs.Bits.{signed, bits-signed}
 use Rattle.numbers.specs.Values.{WordFits, ValueFits, LiteralFits}
 use Rattle.text.specs.declared.Line.{Line}
 use Rattle.text.specs.Lines.{field, Fields}
-use Rattle.text.specs.Words.{find, words_of, push, keys, nth, named_by, nth-none}
+use Rattle.text.specs.Beside.{beside, beside-named}
+use Rattle.text.specs.Words.{find, words_of, push, keys, nth, nth-none}
 use Rattle.text.specs.Reading.{place, text_of, field_of, one-of, rest-none, rest-one, rest-other}
 use Rattle.text.specs.Records.{no-field, one_field_lem}
 use Rattle.text.specs.Fields.{Inside, field-length, field_at}
@@ -74,26 +76,29 @@ module _ (w : Word) where
   unfolding literal_by apply
   no-literal k h = rw (nth-none literals k (unfold literals in h))
 
-pub flag-words : keys flags ≡ words_of (bytes "t f ")
-unfolding flags keys words_of push bytes
-flag-words = refl
-
 module _ (base : ℕ) (t : Bytes) (a n : ℕ) where
-  module _ (k : ℕ) (words : Bytes) (e : keys flags ≡ words_of words) (h : k ≡ find (words_of words) (take n (drop a t))) where
-    flag_is : literal_by 1 (field base t a n) ≡ map_option bool (nth flags k)
+  module _ (es : List (Bor (List ℕ) × Bool)) (e : map (λ x. (x.0.now, x.1)) es ≡ flags) {o : std.Option Bool}
+      (h : o ≡ beside es (take n (drop a t))) where
+    flag_is : literal_by 1 (field base t a n) ≡ map_option bool (option_of o)
     unfolding literal_by literals nth apply one_field word field
-    flag_is = ap (map_option bool) (named_by flags words (take n (drop a t)) k e h)
-
-    pub flag-none : 2 ≤ k → literal_by 1 (field base t a n) ≡ none
-    flag-none l = flag_is ∙ rw (nth-none flags k (unfold flags in l)) (unfold map_option in refl)
-
-    pub flag-some : (r : Literal) → k < 2 → (r.kind ≡ L.Bool) × (r.first ≡ 1 - k) × (r.second ≡ 0) → IsLiteral base t (literal_by 1 (field base t a n)) (std.Some r)
-    flag-some r l g = rw flag_is (go k l g.1)
+    flag_is = ap (map_option bool) (sym (rw h (whole (beside es (take n (drop a t)))
+        ∙ beside-named (λ b. b) (take n (drop a t)) es ∙ ap (λ x. named x (take n (drop a t))) e)))
       where
-        go : (k : ℕ) → k < 2 → r.first ≡ 1 - k → IsLiteral base t (map_option bool (nth flags k)) (std.Some r)
-        go zero l x = unfold nth flags map_option in record { is = unfold value_numbers flag kind_number in rw (g.0, x, g.2); fits = λ k e c q f. unfold LiteralFits ValueFits in tt }
-        go (suc zero) l x = unfold nth flags map_option in record { is = unfold value_numbers flag kind_number in rw (g.0, x, g.2); fits = λ k e c q f. unfold LiteralFits ValueFits in tt }
-        go (suc (suc k)) l x = absurd (omega arith)
+        whole : (o : std.Option Bool) → option_of o ≡ option_of (option_map (λ b. b) o)
+        whole (std.Some b) = refl
+        whole std.None = refl
+
+    pub flag-none : o ≡ std.None → literal_by 1 (field base t a n) ≡ none
+    unfolding map_option
+    flag-none g = flag_is ∙ rw g
+
+    pub flag-some : (b : Bool) (r : Literal) → o ≡ std.Some b → (r.kind ≡ L.Bool) × (r.first ≡ flag b) × (r.second ≡ 0)
+        → IsLiteral base t (literal_by 1 (field base t a n)) (std.Some r)
+    unfolding map_option
+    flag-some b r g x = rw (flag_is, g) (record {
+      is = unfold value_numbers kind_number in rw (x.0, x.1, x.2);
+      fits = λ k e c q f. unfold LiteralFits ValueFits in tt;
+    })
 
   text-fits : Inside t a n → (k : Text) → base_address k ≡ base → (c q : Bytes) → text_of k c q ≡ t → WordFits c q (field base t a n)
   unfolding WordFits field

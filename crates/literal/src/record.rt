@@ -27,13 +27,11 @@ fn halves(kind: LiteralKind, bits: u64) -> Literal
 fn flag(t: &[u8], a: usize, n: usize) -> Option<Literal>
     ensures { (base : ℕ) → IsLiteral base t.now (literal_by 1 (field base t.now a n)) result }
 {
-    let k = text::which(b"t f ", t, a, n);
-    if 2 <= k {
-        return None;
-    }
+    let table: [(&[u8], bool); 2] = [(b"t", true), (b"f", false)];
+    let set = text::words::beside(&table, text::part(t, a, n))?;
     Some(Literal {
         kind: LiteralKind::Bool,
-        first: 1 - k as u32,
+        first: set as u32,
         second: 0,
     })
 }

@@ -1,5 +1,8 @@
+pub mod Aggregates
 pub mod Bits
 pub mod Codes
+pub mod Datatypes
+pub mod Flags
 pub mod Kept
 pub mod Literals
 pub mod Operators

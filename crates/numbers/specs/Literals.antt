@@ -25,6 +25,14 @@ kind_number L.Text = 5
 unfoldable pub kind_at : ℕ → LiteralKind
 kind_at k = coded L.Null (L.Null ∷ L.Bool ∷ L.Int ∷ L.Float ∷ L.Text ∷ []) 1 k
 
+pub kind-back : (l : LiteralKind) → kind_at (kind_number l) ≡ l
+unfolding kind_at kind_number coded
+kind-back L.Null = refl
+kind-back L.Bool = refl
+kind-back L.Int = refl
+kind-back L.Float = refl
+kind-back L.Text = refl
+
 -- what a kind and two numbers stand for, over the catalog c and the statement q
 unfoldable pub literal_of : LiteralKind → Bytes → Bytes → ℕ → ℕ → Value
 literal_of L.Null c q a b = null
@@ -56,14 +64,6 @@ module _ (c q : Bytes) where
   pub numbered-value : (k a b : ℕ) → value_at c q k a b ≡ literal_value c q (numbered k a b)
   unfolding value_at kind_at literal_of
   numbered-value k a b = sym (coded-map (λ (l : LiteralKind). literal_of l c q a b) _ _ 1 k)
-
-  kind-back : (l : LiteralKind) → kind_at (kind_number l) ≡ l
-  unfolding kind_at kind_number coded
-  kind-back L.Null = refl
-  kind-back L.Bool = refl
-  kind-back L.Int = refl
-  kind-back L.Float = refl
-  kind-back L.Text = refl
 
   pub literal-back : (l : Literal) → value_at c q (kind_number l.kind) l.first l.second ≡ literal_value c q l
   literal-back l = numbered-value (kind_number l.kind) l.first l.second

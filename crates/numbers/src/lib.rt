@@ -1,6 +1,8 @@
 // Numbers of 32 bits in a lent slice.
 #![tactic(auto)]
 
+pub mod aggregates; // aggregates.rt: the aggregate functions
+pub mod datatypes; // datatypes.rt: the datatypes of columns
 pub mod halves;
 pub mod literals; // literals.rt: literals by their kinds and two numbers
 pub mod operators; // operators.rt: the operators of expressions

@@ -37,14 +37,16 @@ pub enum Reason {
     InvalidIs,
 }
 
-impl Reason {
-    // Document 01's number.
-    pub fn number(self) -> u32
-        ensures { result ≡ refusal_number (reason_of self) }
-    {
-        self as u32
-    }
+// Document 01's number.
+impl From<Reason> for u32 {
+    ghost from_gives = { λ reason number. number ≡ refusal_number (reason_of reason) };
 
+    fn from(reason: Reason) -> u32 {
+        reason as u32
+    }
+}
+
+impl Reason {
     // The refusal for this reason at a line.
     pub fn at(self, line: u32) -> Refusal
         ensures { result ≡ record { reason = self; line = line } }

@@ -18,7 +18,8 @@ use Rattle.rules.specs.Area.{span, header_size, map_numbers, set_numbers, own_nu
 use Rattle.rules.specs.Entry.{outcome, refused_area}
 use Rattle.appends.specs.Area.{cells_numbers, records_numbers, header_of, area_of, create-area, drop-area}
 use Rattle.plan.specs.Layout.{cells_end, select_code, create_code, drop_code, delete_code, insert_code, update_code}
-use Rattle.plan.specs.Appended.{Appended}
+use Rattle.plan.specs.Pushed.{Pushed}
+use Rattle.plan.specs.declared.nodes.Nodes.{Nodes}
 use Rattle.plan.specs.Finished.{finished}
 
 -- n cells cs stand in t; the records rs are the first k numbers of s, and the own numbers ws those from k to e
@@ -31,19 +32,19 @@ pub record Pieces (cs : List Cell) (rs : List NodeRecord) (ws : List ℕ) (n k e
   pub own : k ≡ length (records_numbers rs)
   pub end : e ≡ k + length ws
 
--- from what was appended to t₀ and s₀
-pub pieces : {cs : List Cell} {n k e : ℕ} {s₀ s₁ s t : List ℕ} (rs : List NodeRecord) (ws t₀ : List ℕ)
+-- from what was appended to t₀, and pushed behind no numbers
+pub pieces : {cs : List Cell} {n : ℕ} {r s u : Nodes} {t : List ℕ} (rs : List NodeRecord) (ws t₀ : List ℕ)
     → length t ≡ length t₀ → cells_end n ≤ length t
     → take (cells_end n) t ≡ take (cells_end 0) t₀ ++ cells_numbers cs
-    → Appended (records_numbers rs) 0 s₀ k s₁ → Appended ws k s₁ e s → Pieces cs rs ws n k e s t
-pieces rs ws t₀ l h c a b = record {
+    → r.used ≡ 0 → Pushed (records_numbers rs) r s → Pushed ws s u → Pieces cs rs ws n s.used u.used u.numbers.now t
+pieces rs ws t₀ l h c z a b = record {
   before = take header_size t₀;
   header = length-take-le header_size t₀ (omega (arith, l, h));
   room = h;
   cells = c;
-  nodes = b.numbers ∙ rw a.numbers;
-  own = omega (arith, a.next);
-  end = b.next;
+  nodes = b.appended.numbers ∙ rw (a.appended.numbers, z);
+  own = omega (arith, a.appended.next, z);
+  end = b.appended.next;
 }
 
 -- THE AREA

@@ -3,6 +3,7 @@ pub mod Layout
 pub mod Kinds
 pub mod Places
 pub mod Appended
+pub mod Pushed
 pub mod Records
 pub mod Parts
 pub mod Own

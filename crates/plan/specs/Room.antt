@@ -17,7 +17,8 @@ use Rattle.appends.specs.Nodes.Lays.{Lays}
 use Rattle.appends.specs.Area.{records_numbers}
 use Rattle.plan.specs.Layout.{record_head, source_head, aggregate_head, item_size, key_size}
 use Rattle.plan.specs.Layout.{mapping_size, set_size, column_size, cell_size}
-use Rattle.plan.specs.Appended.{Appended}
+use Rattle.plan.specs.Pushed.{Pushed}
+use Rattle.plan.specs.declared.nodes.Nodes.{Nodes}
 use Rattle.plan.specs.Records.{unsized, opened}
 
 -- NODES
@@ -26,8 +27,8 @@ module _ (i l : ℕ) (n : Node Built) (cs : List Cell) (rs : List NodeRecord) (j
   unfolding records_numbers
   lays-room = rw (← h.records) (records-room (number_node i n) l ∙ number-room n i)
 
-  pub laid-in-use : {k k' : ℕ} {s s' : List ℕ} → Appended (records_numbers rs) k s k' s' → k' ≡ k + node_room n
-  laid-in-use a = a.next ∙ rw lays-room
+  pub laid-in-use : {s t : Nodes} → Pushed (records_numbers rs) s t → t.used ≡ s.used + node_room n
+  laid-in-use a = a.appended.next ∙ rw lays-room
 
 -- PARTS of records
 one_size : (r : NodeRecord) → length (concat (map record_numbers (r ∷ []))) ≡ length (record_numbers r)
@@ -47,26 +48,26 @@ unfolding record_numbers sized N.records N.last N.nodes node_room rows_room row_
 keys-size xs = omega (arith, records-room (P.order (P.values []) xs) 0, one_size (order 0 xs))
 
 -- what is in use at the head of each open record
-module _ {i k : ℕ} {s t : List ℕ} where
-  pub values-in-use : Appended (opened (values [])) i s k t → k ≡ i + record_head
+module _ {s t : Nodes} where
+  pub values-in-use : Pushed (opened (values [])) s t → t.used ≡ s.used + record_head
   unfolding opened unsized record_numbers sized row_numbers
-  values-in-use a = a.next
+  values-in-use a = a.appended.next
 
-  pub aggregate-in-use : (n : ℕ) → Appended (opened (aggregate n [] [])) i s k t → k ≡ i + aggregate_head
+  pub aggregate-in-use : (n : ℕ) → Pushed (opened (aggregate n [] [])) s t → t.used ≡ s.used + aggregate_head
   unfolding opened unsized record_numbers sized function_numbers
-  aggregate-in-use n a = a.next
+  aggregate-in-use n a = a.appended.next
 
-  pub project-in-use : (n : ℕ) → Appended (opened (project n [])) i s k t → k ≡ i + source_head
+  pub project-in-use : (n : ℕ) → Pushed (opened (project n [])) s t → t.used ≡ s.used + source_head
   unfolding opened unsized record_numbers sized item_numbers
-  project-in-use n a = a.next
+  project-in-use n a = a.appended.next
 
-  pub order-in-use : (n : ℕ) → Appended (opened (order n [])) i s k t → k ≡ i + source_head
+  pub order-in-use : (n : ℕ) → Pushed (opened (order n [])) s t → t.used ≡ s.used + source_head
   unfolding opened unsized record_numbers sized key_numbers
-  order-in-use n a = a.next
+  order-in-use n a = a.appended.next
 
-  pub remap-in-use : (n : ℕ) → Appended (opened (remap n [])) i s k t → k ≡ i + source_head
+  pub remap-in-use : (n : ℕ) → Pushed (opened (remap n [])) s t → t.used ≡ s.used + source_head
   unfolding opened unsized record_numbers sized
-  remap-in-use n a = a.next
+  remap-in-use n a = a.appended.next
 
 -- OWN NUMBERS
 pub mappings-size : (ms : List Mapping) → length (concat (map mapping_numbers ms)) ≡ mapping_size * length ms

@@ -13,7 +13,8 @@ use Rattle.appends.specs.Area.{cells_numbers, records_numbers, cells-numbers-app
 use Rattle.appends.specs.Nodes.Lays.{Lays}
 use Rattle.appends.specs.From.Laid.{stage_of, StageLaid, NodeLaid}
 use Rattle.plan.specs.Layout.{cells_end}
-use Rattle.plan.specs.Appended.{Appended, appended-none}
+use Rattle.plan.specs.Pushed.{Pushed, Kept, kept-all, pushed-none}
+use Rattle.plan.specs.declared.nodes.Nodes.{Nodes}
 use Rattle.plan.specs.Records.{records-append, records-first}
 use Rattle.numbers.specs.Reasons.{named, noted}
 use Rattle.numbers.specs.declared.refusals.Reason as reasons
@@ -48,33 +49,33 @@ emits-refused {a} {r = r} w h e = go a (sym e ∙ h.answer)
     go (ok p) g = absurd (let z : ◌≡◌ {A = ℕ} 0 1 = cc in omega arith)
     go (refused v) g = record { why = v; is = refl; refusal = cc }
 
--- WHAT STANDS in the area and among the nodes: cells from the i-th on, records behind u numbers
-pub record Stands (i u : ℕ) (area nodes : List ℕ) (cs : List Cell) (rs : List NodeRecord) (j v : ℕ)
-    (area' nodes' : List ℕ) : Type 0 where
+-- WHAT STANDS in the area and among the nodes: cells from the i-th on, records behind those of s
+pub record Stands (i : ℕ) (area : List ℕ) (s : Nodes) (cs : List Cell) (rs : List NodeRecord) (j : ℕ) (area' : List ℕ)
+    (t : Nodes) : Type 0 where
   pub cells : take (cells_end j) area' ≡ take (cells_end i) area ++ cells_numbers cs
-  pub records : Appended (records_numbers rs) u nodes v nodes'
+  pub records : Pushed (records_numbers rs) s t
 
-pub stands-none : (i u : ℕ) (area nodes : List ℕ) → u ≤ length nodes → Stands i u area nodes [] [] i u area nodes
+pub stands-none : (i : ℕ) (area : List ℕ) (s : Nodes) → s.used ≤ length s.numbers.now → Stands i area s [] [] i area s
 unfolding cells_numbers records_numbers concat
-stands-none i u area nodes h = record {
+stands-none i area s h = record {
   cells = sym (append-nil (take (cells_end i) area));
-  records = appended-none u nodes h;
+  records = pushed-none s h;
 }
 
 -- one step after another
-pub stands_on : {i u : ℕ} {area nodes : List ℕ} {cs : List Cell} {rs : List NodeRecord} {j v : ℕ}
-    {area' nodes' : List ℕ} {ds : List Cell} {ts : List NodeRecord} {p w : ℕ} {area'' nodes'' : List ℕ}
-    → Stands i u area nodes cs rs j v area' nodes' → Stands j v area' nodes' ds ts p w area'' nodes''
-    → Stands i u area nodes (cs ++ ds) (rs ++ ts) p w area'' nodes''
-stands_on {i} {u} {area} {nodes} {cs} {rs} {ds = ds} {ts = ts} a b = record {
+pub stands_on : {i : ℕ} {area : List ℕ} {s : Nodes} {cs : List Cell} {rs : List NodeRecord} {j : ℕ} {area' : List ℕ}
+    {t : Nodes} {ds : List Cell} {ts : List NodeRecord} {p : ℕ} {area'' : List ℕ} {u : Nodes}
+    → Stands i area s cs rs j area' t → Stands j area' t ds ts p area'' u
+    → Stands i area s (cs ++ ds) (rs ++ ts) p area'' u
+stands_on {i} {area} {cs = cs} {rs} {ds = ds} {ts} a b = record {
   cells = rw (cells-numbers-append cs ds, b.cells, a.cells) (append_assoc (take (cells_end i) area) _ _);
   records = records-append rs ts a.records b.records;
 }
 
 -- cells, and one record
-pub stands_one : {i u : ℕ} {area nodes : List ℕ} {cs : List Cell} {j v : ℕ} {area' nodes' : List ℕ} (r : NodeRecord)
+pub stands_one : {i : ℕ} {area : List ℕ} {s : Nodes} {cs : List Cell} {j : ℕ} {area' : List ℕ} {t : Nodes} (r : NodeRecord)
     → take (cells_end j) area' ≡ take (cells_end i) area ++ cells_numbers cs
-    → Appended (record_numbers r) u nodes v nodes' → Stands i u area nodes cs (r ∷ []) j v area' nodes'
+    → Pushed (record_numbers r) s t → Stands i area s cs (r ∷ []) j area' t
 stands_one r c a = record { cells = c; records = records-first r a }
 
 -- A STEP
@@ -94,13 +95,13 @@ pub node-lies : {a : Answer (Node Built)} {cs : List Cell} {rs : List NodeRecord
 node-lies h = record { node = h.node; answer = h.answer; lays = h.lays }
 
 -- accepted: whatever node stands before it, the step appends its cells and records to that node's
-pub record Taken {B : Type 0} (view : Node Built → B) (a : Node Built → Answer B) (n m k : ℕ) (area nodes : List ℕ)
-    (n' m' k' : ℕ) (area' nodes' : List ℕ) : Type 0 where
+pub record Taken {B : Type 0} (view : Node Built → B) (a : Node Built → Answer B) (n m : ℕ) (area : List ℕ) (s : Nodes)
+    (n' m' : ℕ) (area' : List ℕ) (t : Nodes) : Type 0 where
   pub cells : List Cell
   pub records : List NodeRecord
   pub lies : (d : Node Built) (cs : List Cell) (rs : List NodeRecord) → Lays 0 0 d cs rs n m
       → Lies view (a d) (cs ++ cells) (rs ++ records) n' m'
-  pub stands : Stands n k area nodes cells records n' k' area' nodes'
+  pub stands : Stands n area s cells records n' area' t
 
 -- refused, whatever node stands before it
 abbrev pub StoppedWith : {B : Type 0} → (Node Built → Answer B) → ℕ → ℕ → code.Refusal → Type 0
@@ -110,90 +111,88 @@ StoppedWith a n m w = (d : Node Built) (cs : List Cell) (rs : List NodeRecord) �
 abbrev pub Stepped : Type 0
 Stepped = Result Step code.Refusal
 
-unfoldable pub StepAs : {B : Type 0} → (Node Built → B) → (Node Built → Answer B) → ℕ → ℕ → ℕ → List ℕ → List ℕ
-    → List ℕ → List ℕ → Stepped → Type 0
-StepAs view a n m k area nodes area' nodes' (Ok s) = Taken view a n m k area nodes s.cell s.node s.used area' nodes'
-StepAs view a n m k area nodes area' nodes' (Err w) = StoppedWith a n m w
+unfoldable pub StepAs : {B : Type 0} → (Node Built → B) → (Node Built → Answer B) → ℕ → ℕ → List ℕ → Nodes → List ℕ → Nodes
+    → Stepped → Type 0
+StepAs view a n m area s area' t (Ok p) = Taken view a n m area s p.cell p.node area' t
+StepAs view a n m area s area' t (Err w) = StoppedWith a n m w
 
--- the step a behind n cells, m nodes and k numbers of the nodes; what it makes of its node is view
-pub record Steps {B : Type 0} (view : Node Built → B) (a : Node Built → Answer B) (n m k : ℕ) (area nodes : List ℕ)
-    (area' nodes' : List ℕ) (r : Stepped) : Type 0 where
+-- the step a behind n cells, m nodes and the numbers of s; what it makes of its node is view
+pub record Steps {B : Type 0} (view : Node Built → B) (a : Node Built → Answer B) (n m : ℕ) (area : List ℕ) (s : Nodes)
+    (area' : List ℕ) (t : Nodes) (r : Stepped) : Type 0 where
   pub kept : length area' ≡ length area
-  pub kept-nodes : length nodes' ≡ length nodes
-  pub is : StepAs view a n m k area nodes area' nodes' r
+  pub kept-nodes : Kept s t
+  pub is : StepAs view a n m area s area' t r
 
-module _ {B : Type 0} {view : Node Built → B} {a : Node Built → Answer B} {n m k : ℕ} {area nodes area' nodes' : List ℕ}
-  where
-    pub step-done : {n' m' k' : ℕ} → length area' ≡ length area → length nodes' ≡ length nodes
-        → Taken view a n m k area nodes n' m' k' area' nodes'
-        → Steps view a n m k area nodes area' nodes' (Ok (record { cell = n'; node = m'; used = k' }))
-    unfolding StepAs
-    step-done e f t = record { kept = e; kept-nodes = f; is = t }
+module _ {B : Type 0} {view : Node Built → B} {a : Node Built → Answer B} {n m : ℕ} {area : List ℕ} {s : Nodes}
+    {area' : List ℕ} {t : Nodes} where
+  pub step-done : {n' m' : ℕ} → length area' ≡ length area → Kept s t → Taken view a n m area s n' m' area' t
+      → Steps view a n m area s area' t (Ok (record { cell = n'; node = m' }))
+  unfolding StepAs
+  step-done e f h = record { kept = e; kept-nodes = f; is = h }
 
-    pub step-refused : {w : code.Refusal} → length area' ≡ length area → length nodes' ≡ length nodes → StoppedWith a n m w
-        → Steps view a n m k area nodes area' nodes' (Err w)
-    unfolding StepAs
-    step-refused e f t = record { kept = e; kept-nodes = f; is = t }
+  pub step-refused : {w : code.Refusal} → length area' ≡ length area → Kept s t → StoppedWith a n m w
+      → Steps view a n m area s area' t (Err w)
+  unfolding StepAs
+  step-refused e f h = record { kept = e; kept-nodes = f; is = h }
 
-    pub taken : {r : Stepped} (s : Step) → Steps view a n m k area nodes area' nodes' r → r ≡ Ok s
-        → Taken view a n m k area nodes s.cell s.node s.used area' nodes'
-    unfolding StepAs
-    taken s h e = rw e at h.is
+  pub taken : {r : Stepped} (p : Step) → Steps view a n m area s area' t r → r ≡ Ok p
+      → Taken view a n m area s p.cell p.node area' t
+  unfolding StepAs
+  taken p h e = rw e at h.is
 
-    pub not_taken : {r : Stepped} (w : code.Refusal) → Steps view a n m k area nodes area' nodes' r → r ≡ Err w
-        → StoppedWith a n m w
-    unfolding StepAs
-    not_taken w h e = rw e at h.is
+  pub not_taken : {r : Stepped} (w : code.Refusal) → Steps view a n m area s area' t r → r ≡ Err w
+      → StoppedWith a n m w
+  unfolding StepAs
+  not_taken w h e = rw e at h.is
 
 -- nothing is appended
-pub step-none : {B : Type 0} {view : Node Built → B} {a : Node Built → Answer B} {n m k : ℕ} {area nodes : List ℕ}
-    → k ≤ length nodes → ((d : Node Built) → a d ≡ ok (view d)) → Steps view a n m k area nodes area nodes
-    (Ok (record { cell = n; node = m; used = k }))
-step-none {n = n} {m} {k} {area} {nodes} h e = step-done refl refl (record {
+pub step-none : {B : Type 0} {view : Node Built → B} {a : Node Built → Answer B} {n m : ℕ} {area : List ℕ} {s : Nodes}
+    → s.used ≤ length s.numbers.now → ((d : Node Built) → a d ≡ ok (view d))
+    → Steps view a n m area s area s (Ok (record { cell = n; node = m }))
+step-none {n = n} {m} {area} {s} h e = step-done refl (kept-all s) (record {
   cells = [];
   records = [];
   lies = λ d cs rs l. record { node = d; answer = e d; lays = rw (append-nil cs, append-nil rs) l };
-  stands = stands-none n k area nodes h;
+  stands = stands-none n area s h;
 })
 
 -- WHAT STANDS SO FAR, from the header on: the node d with all its cells and records
-pub record Standing (d : Node Built) (n m k : ℕ) (area₀ nodes₀ area nodes : List ℕ) : Type 0 where
+pub record Standing (d : Node Built) (n m : ℕ) (area₀ : List ℕ) (s₀ : Nodes) (area : List ℕ) (s : Nodes) : Type 0 where
   pub cells : List Cell
   pub records : List NodeRecord
   pub lays : Lays 0 0 d cells records n m
-  pub stands : Stands 0 0 area₀ nodes₀ cells records n k area nodes
+  pub none : s₀.used ≡ 0
+  pub stands : Stands 0 area₀ s₀ cells records n area s
   pub kept : length area ≡ length area₀
-  pub kept-nodes : length nodes ≡ length nodes₀
 
 -- a step on
-pub record Went {B : Type 0} (view : Node Built → B) (a : Answer B) (n m k : ℕ) (area₀ nodes₀ area nodes : List ℕ)
-    : Type 0 where
+pub record Went {B : Type 0} (view : Node Built → B) (a : Answer B) (n m : ℕ) (area₀ : List ℕ) (s₀ : Nodes) (area : List ℕ)
+    (s : Nodes) : Type 0 where
   pub node : Node Built
   pub answer : a ≡ ok (view node)
-  pub standing : Standing node n m k area₀ nodes₀ area nodes
+  pub standing : Standing node n m area₀ s₀ area s
 
-pub standing_on : {B : Type 0} {view : Node Built → B} {a : Node Built → Answer B} {d : Node Built} {n m k : ℕ}
-    {area₀ nodes₀ area nodes area' nodes' : List ℕ} {r : Stepped} (p : Step)
-    → Standing d n m k area₀ nodes₀ area nodes → Steps view a n m k area nodes area' nodes' r → r ≡ Ok p
-    → Went view (a d) p.cell p.node p.used area₀ nodes₀ area' nodes'
-standing_on {d = d} p s h e =
-    let t = taken p h e in
-    let l = t.lies d s.cells s.records s.lays in
+pub standing_on : {B : Type 0} {view : Node Built → B} {a : Node Built → Answer B} {d : Node Built} {n m : ℕ}
+    {area₀ : List ℕ} {s₀ : Nodes} {area : List ℕ} {s : Nodes} {area' : List ℕ} {t : Nodes} {r : Stepped} (p : Step)
+    → Standing d n m area₀ s₀ area s → Steps view a n m area s area' t r → r ≡ Ok p
+    → Went view (a d) p.cell p.node area₀ s₀ area' t
+standing_on {d = d} p h g e =
+    let k = taken p g e in
+    let l = k.lies d h.cells h.records h.lays in
     record {
       node = l.node;
       answer = l.answer;
       standing = record {
-        cells = s.cells ++ t.cells;
-        records = s.records ++ t.records;
+        cells = h.cells ++ k.cells;
+        records = h.records ++ k.records;
         lays = l.lays;
-        stands = stands_on s.stands t.stands;
-        kept = h.kept ∙ s.kept;
-        kept-nodes = h.kept-nodes ∙ s.kept-nodes;
+        none = h.none;
+        stands = stands_on h.stands k.stands;
+        kept = g.kept ∙ h.kept;
       };
     }
 
-pub standing-refused : {B : Type 0} {view : Node Built → B} {a : Node Built → Answer B} {d : Node Built} {n m k : ℕ}
-    {area₀ nodes₀ area nodes area' nodes' : List ℕ} {r : Stepped} (w : code.Refusal)
-    → Standing d n m k area₀ nodes₀ area nodes → Steps view a n m k area nodes area' nodes' r → r ≡ Err w
-    → RefusedWith (a d) w
-standing-refused {d = d} w s h e = not_taken w h e d s.cells s.records s.lays
+pub standing-refused : {B : Type 0} {view : Node Built → B} {a : Node Built → Answer B} {d : Node Built} {n m : ℕ}
+    {area₀ : List ℕ} {s₀ : Nodes} {area : List ℕ} {s : Nodes} {area' : List ℕ} {t : Nodes} {r : Stepped} (w : code.Refusal)
+    → Standing d n m area₀ s₀ area s → Steps view a n m area s area' t r → r ≡ Err w → RefusedWith (a d) w
+standing-refused {d = d} w h g e = not_taken w g e d h.cells h.records h.lays

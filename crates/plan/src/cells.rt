@@ -1,4 +1,5 @@
-// Cells appended to the plan in the lent area, the first of them the n-th. Operands are given by their cells.
+// Cells appended to the plan in the lent area, the first of them the n-th. Operands are given by their cells. (The next cell stays
+// beside the area: by it a step names the cells that it makes, and it is what building an expression gives.)
 ghost use Rattle.std.specs.Prelude.{◌≡◌, [], ◌∷◌, ◌+◌};
 ghost use Rattle.rules.specs.Lists.{Bytes};
 ghost use Rattle.rules.specs.Ast as ast;

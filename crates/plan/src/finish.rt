@@ -8,7 +8,7 @@ ghost use Rattle.plan.specs.Kinds.{statement_number};
 ghost use Rattle.plan.specs.declared.finish.Kind.{Kind};
 ghost use Rattle.plan.specs.Finished.{cleared, finished};
 
-use crate::nodes::UnknownKind;
+use crate::nodes::{Nodes, UnknownKind};
 use crate::steps::Step;
 use crate::{CELL_SIZE, HEADER_SIZE};
 use numbers::put_four;
@@ -68,12 +68,12 @@ fn put_header(area: &mut [u32], kind: Kind, cells: u32, nodes: u32, own: u32, al
     area[ALL_PLACE] = all;
 }
 
-// The first n numbers of another slice, from place i on.
-fn copy(area: &mut [u32], i: usize, nodes: &[u32], n: usize)
-    requires { (i + n ≤ length area.old) × (n ≤ length nodes.now) }
-    ensures { area.new ≡ paste area.old i nodes.now n }
+// The numbers of the nodes that are in use, from place i on.
+fn copy(area: &mut [u32], i: usize, nodes: &Nodes)
+    requires { (i + nodes.now.used ≤ length area.old) × (nodes.now.used ≤ length nodes.now.numbers.now) }
+    ensures { area.new ≡ paste area.old i nodes.now.numbers.now nodes.now.used }
 {
-    area[i..i + n].copy_from_slice(&nodes[..n]);
+    area[i..i + nodes.used].copy_from_slice(&nodes.numbers[..nodes.used]);
 }
 
 // All from place i on is zero.
@@ -91,22 +91,17 @@ pub fn clear(area: &mut [u32])
     clear_from(area, 0);
 }
 
-// The plan of a statement of a kind: the cells and the nodes before a step, whose cells stand in the area, and behind the
-// nodes' numbers the own numbers up to place e.
-pub fn finish(area: &mut [u32], nodes: &[u32], kind: Kind, at: Step, e: usize)
-    requires { (plan_size ≤ length area.old) × (at.cell ≤ most_plan_cells) × (at.used ≤ e) × (e ≤ nodes_size)
-        × (e ≤ length nodes.now) }
-    ensures { area.new ≡ finished (statement_number kind) at.cell at.node at.used e nodes.now area.old }
+// The plan of a statement of a kind: the cells and the nodes before a step, whose cells stand in the area, the nodes' numbers
+// and, from place `own` of them on, the statement's own.
+pub fn finish(area: &mut [u32], nodes: &Nodes, kind: Kind, at: Step, own: usize)
+    requires { (plan_size ≤ length area.old) × (at.cell ≤ most_plan_cells) × (own ≤ nodes.now.used)
+        × (nodes.now.used ≤ nodes_size) × (nodes.now.used ≤ length nodes.now.numbers.now) }
+    ensures { area.new ≡ finished (statement_number kind) at.cell at.node own nodes.now.used nodes.now.numbers.now
+        area.old }
 {
     let i = HEADER_SIZE + CELL_SIZE * (at.cell as usize);
-    put_header(
-        area,
-        kind,
-        at.cell,
-        at.node,
-        (i + at.used) as u32,
-        (i + e) as u32,
-    );
-    copy(area, i, nodes, e);
-    clear_from(area, i + e);
+    let end = i + nodes.used;
+    put_header(area, kind, at.cell, at.node, (i + own) as u32, end as u32);
+    copy(area, i, nodes);
+    clear_from(area, end);
 }

@@ -7,7 +7,6 @@ pub mod finish;
 pub mod nodes;
 pub mod own;
 pub mod parts;
-pub mod pushes;
 pub mod steps;
 
 // Numbers of the header, and of a cell.

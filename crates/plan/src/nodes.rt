@@ -1,22 +1,80 @@
-// Node records of a fixed length (docs/PLAN.md, "Nodes"): the kind, how many numbers follow, and those. A root that may
-// be missing stands as one more than it, or 0. Each function that appends answers how many numbers are in use then.
-#![tactic(auto, using(crate::proofs::Flags::byte_flag), unfolding(rules::specs::Area::record_numbers, rules::specs::Area::sized, rules::specs::Area::row_numbers, rules::specs::Area::halves, crate::specs::Records::rows_numbers))]
+// The numbers of the nodes, and node records of a fixed length (docs/PLAN.md, "Nodes"): the kind, how many numbers follow, and
+// those. A number that may be missing stands as one more than it, or 0.
+#![tactic(auto, using(numbers::specs::Flags::byte_flag), unfolding(rules::specs::Area::record_numbers, rules::specs::Area::sized, rules::specs::Area::row_numbers, rules::specs::Area::halves, crate::specs::Records::rows_numbers))]
 
-ghost use Rattle.std.specs.Prelude.{◌≡◌, [], ◌∷◌, ℕ, ◌+◌, ◌≤◌, length, MatchResult, Some};
+ghost use Rattle.std.specs.Prelude.{◌≡◌, [], ◌∷◌, ◌+◌, ◌≤◌, ◌<◌, ◌^◌, length, MatchResult};
 ghost use Rattle.std.proofs.Math.Option.{Option};
 ghost use Rattle.rules.specs.Lines.{Word};
 ghost use Rattle.rules.specs.Schema.{Table};
 ghost use Rattle.rules.specs.Nodes.{scan, values, join, filter};
 ghost use Rattle.rules.specs.Area.{span, option_span, option_number, record_numbers};
+ghost use Rattle.numbers.specs.Options.{option_of};
 ghost use Rattle.plan.specs.Layout.{record_head, scan_size, empty_row_size, join_size, filter_size, rows_size};
-ghost use Rattle.plan.specs.Appended.{Appended};
+ghost use Rattle.plan.specs.Pushed.{Pushed};
 ghost use Rattle.plan.specs.Kinds.{node_number};
 ghost use Rattle.plan.specs.declared.nodes.Kind.{Kind};
-ghost use Rattle.plan.specs.Places.{place_numbers, option_place};
+ghost use Rattle.plan.specs.Places.{place_numbers};
+ghost use Rattle.text.specs.Places.{option_numbers};
 ghost use Rattle.plan.specs.Records.{rows_numbers};
 
-use crate::pushes::{four, pair, place, push};
+use numbers::put_four;
 use text::places::Place;
+
+// A lent slice, and how many of its numbers are in use: those of the nodes, and behind them the statement's own.
+#[derive(Drop)]
+pub struct Nodes<'n> {
+    pub numbers: &'n mut [u32],
+    pub used: usize,
+}
+
+impl<'n> Nodes<'n> {
+    pub fn push(&mut self, x: u32)
+        requires { self.old.used + 1 ≤ length self.old.numbers.now }
+        ensures { Pushed (x ∷ []) self.old self.new }
+    {
+        self.numbers[self.used] = x;
+        self.used += 1;
+    }
+
+    pub fn pair(&mut self, x: u32, y: u32)
+        requires { self.old.used + 2 ≤ length self.old.numbers.now }
+        ensures { Pushed (x ∷ y ∷ []) self.old self.new }
+    {
+        self.push(x);
+        self.push(y);
+    }
+
+    pub fn four(&mut self, a: u32, b: u32, c: u32, d: u32)
+        requires { self.old.used + 4 ≤ length self.old.numbers.now }
+        ensures { Pushed (a ∷ b ∷ c ∷ d ∷ []) self.old self.new }
+    {
+        put_four(self.numbers, self.used, a, b, c, d);
+        self.used += 4;
+    }
+
+    // The address and the length of a place, or two zeros for none.
+    pub fn place(&mut self, place: Option<Place>)
+        requires { self.old.used + 2 ≤ length self.old.numbers.now }
+        ensures { Pushed (option_numbers place) self.old self.new }
+    {
+        match place {
+            Some(place) => self.pair(place.address, place.length),
+            None => self.pair(0, 0),
+        }
+    }
+}
+
+// One more than a number, or 0 for none.
+#[tactic(auto, unfolding(rules::specs::Area::option_number))]
+pub(crate) fn number_of(x: Option<u32>) -> u32
+    requires { option_number (option_of x) < 2 ^ 32 }
+    ensures { result ≡ option_number (option_of x) }
+{
+    match x {
+        Some(x) => x + 1,
+        None => 0,
+    }
+}
 
 // The kinds of node, by their numbers in the plan.
 #[derive(Clone, Copy, Debug, PartialEq, Eq)]
@@ -82,62 +140,60 @@ const ROWS_LENGTH: u32 = 3;
 const HALF: u64 = 4294967296;
 
 // The head of a record: its kind, and how many numbers follow.
-pub fn head(nodes: &mut [u32], k: usize, kind: Kind, count: u32) -> usize
-    requires { k + record_head ≤ length nodes.old }
-    ensures { Appended (node_number kind ∷ count ∷ []) k nodes.old result nodes.new }
+pub fn head(nodes: &mut Nodes, kind: Kind, count: u32)
+    requires { nodes.old.used + record_head ≤ length nodes.old.numbers.now }
+    ensures { Pushed (node_number kind ∷ count ∷ []) nodes.old nodes.new }
 {
-    pair(nodes, k, u32::from(kind), count)
+    nodes.pair(u32::from(kind), count);
 }
 
 // The rows of a table by its name; its alias; its filter's root.
-pub fn scan(nodes: &mut [u32], k: usize, name: Place, alias: Option<Place>, root: u32) -> usize
-    requires { k + scan_size ≤ length nodes.old }
-    ensures { (t : Table) (w : Option Word) (x : Option ℕ) → span t.name ≡ place_numbers name
-        → option_span w ≡ option_place alias → option_number x ≡ root
-        → Appended (record_numbers (scan t w x)) k nodes.old result nodes.new }
+pub fn scan(nodes: &mut Nodes, name: Place, alias: Option<Place>, filter: Option<u32>)
+    requires room { nodes.old.used + scan_size ≤ length nodes.old.numbers.now }
+    requires root { option_number (option_of filter) < 2 ^ 32 }
+    ensures { (t : Table) (w : Option Word) → span t.name ≡ place_numbers name → option_span w ≡ option_numbers alias
+        → Pushed (record_numbers (scan t w (option_of filter))) nodes.old nodes.new }
 {
-    let i = head(nodes, k, Kind::Scan, SCAN_LENGTH);
-    let j = place(nodes, i, Some(name));
-    let l = push(nodes, j, root);
-    place(nodes, l, alias)
+    head(nodes, Kind::Scan, SCAN_LENGTH);
+    nodes.place(Some(name));
+    nodes.push(number_of(filter));
+    nodes.place(alias);
 }
 
 // One row of no columns: the source of a SELECT that has no FROM.
-pub fn empty_row(nodes: &mut [u32], k: usize) -> usize
-    requires { k + empty_row_size ≤ length nodes.old }
-    ensures { Appended (record_numbers (values ([] ∷ []))) k nodes.old result nodes.new }
+pub fn empty_row(nodes: &mut Nodes)
+    requires { nodes.old.used + empty_row_size ≤ length nodes.old.numbers.now }
+    ensures { Pushed (record_numbers (values ([] ∷ []))) nodes.old nodes.new }
 {
-    let i = head(nodes, k, Kind::Values, EMPTY_ROW_LENGTH);
-    push(nodes, i, 0)
+    head(nodes, Kind::Values, EMPTY_ROW_LENGTH);
+    nodes.push(0);
 }
 
 // A join of two nodes, with its predicate's root.
-pub fn join(nodes: &mut [u32], k: usize, left: u32, right: u32, outer: bool, root: u32) -> usize
-    requires { k + join_size ≤ length nodes.old }
-    ensures { (x : Option ℕ) → option_number x ≡ root → Appended (record_numbers
-        (join left right x outer)) k nodes.old result nodes.new }
+pub fn join(nodes: &mut Nodes, left: u32, right: u32, outer: bool, predicate: Option<u32>)
+    requires room { nodes.old.used + join_size ≤ length nodes.old.numbers.now }
+    requires root { option_number (option_of predicate) < 2 ^ 32 }
+    ensures { Pushed (record_numbers (join left right (option_of predicate) outer)) nodes.old nodes.new }
 {
-    let i = head(nodes, k, Kind::Join, JOIN_LENGTH);
-    four(nodes, i, left, right, u32::from(outer), root)
+    head(nodes, Kind::Join, JOIN_LENGTH);
+    nodes.four(left, right, u32::from(outer), number_of(predicate));
 }
 
 // The rows of a source for which a condition holds.
-pub fn filter(nodes: &mut [u32], k: usize, source: u32, root: u32) -> usize
-    requires { k + filter_size ≤ length nodes.old }
-    ensures { Appended (record_numbers (filter source root)) k nodes.old result nodes.new }
+pub fn filter(nodes: &mut Nodes, source: u32, root: u32)
+    requires { nodes.old.used + filter_size ≤ length nodes.old.numbers.now }
+    ensures { Pushed (record_numbers (filter source root)) nodes.old nodes.new }
 {
-    let i = head(nodes, k, Kind::Filter, FILTER_LENGTH);
-    pair(nodes, i, source, root)
+    head(nodes, Kind::Filter, FILTER_LENGTH);
+    nodes.pair(source, root);
 }
 
 // All rows of a source but the first n, or the first n alone, by the kind; the low half of n first.
-pub fn rows(nodes: &mut [u32], k: usize, kind: Kind, source: u32, n: u64) -> usize
-    requires { k + rows_size ≤ length nodes.old }
-    ensures { Appended (rows_numbers (node_number kind) source n) k nodes.old result nodes.new }
+pub fn rows(nodes: &mut Nodes, kind: Kind, source: u32, n: u64)
+    requires { nodes.old.used + rows_size ≤ length nodes.old.numbers.now }
+    ensures { Pushed (rows_numbers (node_number kind) source n) nodes.old nodes.new }
 {
-    let low = (n % HALF) as u32;
-    let high = (n / HALF) as u32;
-    let i = head(nodes, k, kind, ROWS_LENGTH);
-    let j = push(nodes, i, source);
-    pair(nodes, j, low, high)
+    head(nodes, kind, ROWS_LENGTH);
+    nodes.push(source);
+    nodes.pair((n % HALF) as u32, (n / HALF) as u32);
 }

@@ -1,125 +1,127 @@
-// The statement's own numbers (docs/PLAN.md), behind those of its nodes. Each function answers how many numbers are in use
-// then. Some have the same shape: one for several statements would be no plainer, as each says whose numbers it appends.
-#![tactic(auto, using(crate::proofs::Flags::byte_flag), unfolding(rules::specs::Area::own_numbers, rules::specs::Area::mapping_numbers, rules::specs::Area::set_numbers, crate::specs::Own::inserting, crate::specs::Own::updating, crate::specs::Own::creating, rules::specs::Lists::concat))]
+// The statement's own numbers (docs/PLAN.md), behind those of its nodes. Some functions have the same shape: one for several
+// statements would be no plainer, as each says whose numbers it appends.
+#![tactic(auto, using(numbers::specs::Flags::byte_flag), unfolding(rules::specs::Area::own_numbers, rules::specs::Area::mapping_numbers, rules::specs::Area::set_numbers, crate::specs::Own::inserting, crate::specs::Own::updating, crate::specs::Own::creating, rules::specs::Lists::concat))]
 
-ghost use Rattle.std.specs.Prelude.{◌≡◌, [], ◌∷◌, ℕ, ◌+◌, ◌≤◌, length};
+ghost use Rattle.std.specs.Prelude.{◌≡◌, [], ◌∷◌, ℕ, ◌+◌, ◌≤◌, ◌<◌, ◌^◌, length};
 ghost use Rattle.std.proofs.Math.Option.{Option};
 ghost use Rattle.rules.specs.Lines.{Word};
 ghost use Rattle.rules.specs.Schema.{Value, Table};
 ghost use Rattle.rules.specs.Plan.{Node, cindex, vindex, Made, delete};
 ghost use Rattle.rules.specs.Plan as plan;
-ghost use Rattle.rules.specs.Area.{span, option_span, type_code, mapping_numbers, set_numbers, default_numbers, own_numbers};
+ghost use Rattle.rules.specs.Area.{span, option_span, option_number, mapping_numbers, set_numbers, default_numbers, own_numbers};
+ghost use Rattle.numbers.specs.Options.{option_of};
+ghost use Rattle.numbers.specs.Datatypes.{type_of};
 ghost use Rattle.numbers.specs.Literals.{given_numbers};
 ghost use Rattle.plan.specs.Layout.{cell_size, own_size, own_head, set_size, mapping_size, column_size};
-ghost use Rattle.plan.specs.Appended.{Appended};
-ghost use Rattle.plan.specs.Places.{place_numbers, option_place};
+ghost use Rattle.plan.specs.Pushed.{Pushed};
+ghost use Rattle.plan.specs.Places.{place_numbers};
+ghost use Rattle.text.specs.Places.{option_numbers};
 ghost use Rattle.plan.specs.Own.{inserting, updating, creating, column_numbers};
 
 use crate::CELL_SIZE;
-use crate::pushes::{four, pair, place, push};
+use crate::nodes::{Nodes, number_of};
+use numbers::datatypes::DataType;
 use numbers::literals::{Literal, put_given};
 use text::places::Place;
 
 // A name and a number.
-fn named(nodes: &mut [u32], k: usize, name: Place, x: u32) -> usize
-    requires { k + own_size ≤ length nodes.old }
-    ensures { Appended (name.address ∷ name.length ∷ x ∷ []) k nodes.old result nodes.new }
+fn named(nodes: &mut Nodes, name: Place, x: u32)
+    requires { nodes.old.used + own_size ≤ length nodes.old.numbers.now }
+    ensures { Pushed (name.address ∷ name.length ∷ x ∷ []) nodes.old nodes.new }
 {
-    let i = pair(nodes, k, name.address, name.length);
-    push(nodes, i, x)
+    nodes.place(Some(name));
+    nodes.push(x);
 }
 
-pub fn drop(nodes: &mut [u32], k: usize, name: Place, exists: bool) -> usize
-    requires { k + own_size ≤ length nodes.old }
-    ensures { (w : Word) → span w ≡ place_numbers name → Appended (own_numbers
-        (plan.drop w exists)) k nodes.old result nodes.new }
+pub fn drop(nodes: &mut Nodes, name: Place, exists: bool)
+    requires { nodes.old.used + own_size ≤ length nodes.old.numbers.now }
+    ensures { (w : Word) → span w ≡ place_numbers name → Pushed (own_numbers
+        (plan.drop w exists)) nodes.old nodes.new }
 {
-    named(nodes, k, name, u32::from(exists))
+    named(nodes, name, u32::from(exists));
 }
 
-pub fn delete(nodes: &mut [u32], k: usize, name: Place, key: u32) -> usize
-    requires { k + own_size ≤ length nodes.old }
+pub fn delete(nodes: &mut Nodes, name: Place, key: u32)
+    requires { nodes.old.used + own_size ≤ length nodes.old.numbers.now }
     ensures { (t : Table) (p : Node ℕ) → span t.name ≡ place_numbers name → t.key ≡ key
-        → Appended (own_numbers (delete t p)) k nodes.old result nodes.new }
+        → Pushed (own_numbers (delete t p)) nodes.old nodes.new }
 {
-    named(nodes, k, name, key)
+    named(nodes, name, key);
 }
 
 // INSERT: 0 for no column map, or one more than its length; then the map.
-pub fn insert(nodes: &mut [u32], k: usize, name: Place, columns: u32) -> usize
-    requires { k + own_size ≤ length nodes.old }
-    ensures { (t : Table) → span t.name ≡ place_numbers name → Appended
-        (inserting t columns []) k nodes.old result nodes.new }
+pub fn insert(nodes: &mut Nodes, name: Place, columns: Option<u32>)
+    requires room { nodes.old.used + own_size ≤ length nodes.old.numbers.now }
+    requires columns { option_number (option_of columns) < 2 ^ 32 }
+    ensures { (t : Table) → span t.name ≡ place_numbers name → Pushed
+        (inserting t (option_number (option_of columns)) []) nodes.old nodes.new }
 {
-    named(nodes, k, name, columns)
+    named(nodes, name, number_of(columns));
 }
 
-pub fn mapping(nodes: &mut [u32], k: usize, column: u32, value: u32) -> usize
-    requires { k + mapping_size ≤ length nodes.old }
-    ensures { Appended (mapping_numbers (record { column = cindex column; value = vindex value })) k nodes.old result
+pub fn mapping(nodes: &mut Nodes, column: u32, value: u32)
+    requires { nodes.old.used + mapping_size ≤ length nodes.old.numbers.now }
+    ensures { Pushed (mapping_numbers (record { column = cindex column; value = vindex value })) nodes.old
         nodes.new }
 {
-    pair(nodes, k, column, value)
+    nodes.pair(column, value);
 }
 
 // UPDATE: the table, and how many sets there are; then each set's column and root.
-pub fn update(nodes: &mut [u32], k: usize, name: Place, key: u32, sets: u32) -> usize
-    requires { k + own_head ≤ length nodes.old }
+pub fn update(nodes: &mut Nodes, name: Place, key: u32, sets: u32)
+    requires { nodes.old.used + own_head ≤ length nodes.old.numbers.now }
     ensures { (t : Table) → span t.name ≡ place_numbers name → t.key ≡ key
-        → Appended (updating t sets []) k nodes.old result nodes.new }
+        → Pushed (updating t sets []) nodes.old nodes.new }
 {
-    four(nodes, k, name.address, name.length, key, sets)
+    nodes.four(name.address, name.length, key, sets);
 }
 
-pub fn set(nodes: &mut [u32], k: usize, column: u32, root: u32) -> usize
-    requires { k + set_size ≤ length nodes.old }
-    ensures { Appended (set_numbers ((column, root) ∷ [])) k nodes.old result nodes.new }
+pub fn set(nodes: &mut Nodes, column: u32, root: u32)
+    requires { nodes.old.used + set_size ≤ length nodes.old.numbers.now }
+    ensures { Pushed (set_numbers ((column, root) ∷ [])) nodes.old nodes.new }
 {
-    pair(nodes, k, column, root)
+    nodes.pair(column, root);
 }
 
 // CREATE: the table, and how many columns it has; then each column and its default.
-pub fn create(nodes: &mut [u32], k: usize, name: Place, key: u32, columns: u32) -> usize
-    requires { k + own_head ≤ length nodes.old }
-    ensures { (w : Word) → span w ≡ place_numbers name → Appended (creating w key columns []) k nodes.old result nodes.new }
+pub fn create(nodes: &mut Nodes, name: Place, key: u32, columns: u32)
+    requires { nodes.old.used + own_head ≤ length nodes.old.numbers.now }
+    ensures { (w : Word) → span w ≡ place_numbers name → Pushed (creating w key columns []) nodes.old nodes.new }
 {
-    four(nodes, k, name.address, name.length, key, columns)
+    nodes.four(name.address, name.length, key, columns);
 }
 
-// A column by its name, its type's code, and the name of the table that it refers to.
+// A column by its name, its type, and the name of the table that it refers to.
 pub fn column(
-    nodes: &mut [u32],
-    k: usize,
+    nodes: &mut Nodes,
     name: Place,
-    code: u32,
+    datatype: DataType,
     nullable: bool,
     unique: bool,
     index: bool,
     reference: Option<Place>,
-) -> usize
-    requires { k + column_size ≤ length nodes.old }
-    ensures { (c : Made) → span c.name ≡ place_numbers name → type_code c.type ≡ code → c.nullable ≡ nullable
-        → c.unique ≡ unique → c.index ≡ index → option_span c.reference ≡ option_place reference
-        → Appended (column_numbers c) k nodes.old result nodes.new }
+)
+    requires { nodes.old.used + column_size ≤ length nodes.old.numbers.now }
+    ensures { (c : Made) → span c.name ≡ place_numbers name → c.type ≡ type_of datatype → c.nullable ≡ nullable
+        → c.unique ≡ unique → c.index ≡ index → option_span c.reference ≡ option_numbers reference
+        → Pushed (column_numbers c) nodes.old nodes.new }
 {
-    let i = four(
-        nodes,
-        k,
+    nodes.four(
         name.address,
         name.length,
-        code,
+        u32::from(datatype),
         u32::from(nullable),
     );
-    let j = pair(nodes, i, u32::from(unique), u32::from(index));
-    place(nodes, j, reference)
+    nodes.pair(u32::from(unique), u32::from(index));
+    nodes.place(reference);
 }
 
 // A column's default: its numbers, all 0 for none.
-pub fn default_value(nodes: &mut [u32], k: usize, default: Option<Literal>) -> usize
-    requires { k + cell_size ≤ length nodes.old }
+pub fn default_value(nodes: &mut Nodes, default: Option<Literal>)
+    requires { nodes.old.used + cell_size ≤ length nodes.old.numbers.now }
     ensures { (d : Option Value) → default_numbers d ≡ given_numbers default
-        → Appended (default_numbers d) k nodes.old result nodes.new }
+        → Pushed (default_numbers d) nodes.old nodes.new }
 {
-    put_given(nodes, k, default);
-    k + CELL_SIZE
+    put_given(nodes.numbers, nodes.used, default);
+    nodes.used += CELL_SIZE;
 }

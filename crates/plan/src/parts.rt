@@ -1,21 +1,21 @@
 // Node records whose length is not known before all of their parts are pushed: begun with a length of 0, ended by
 // storing it. Rows of values, groups and remap targets are pushed as they are.
-#![tactic(auto, using(crate::proofs::Flags::byte_flag), unfolding(rules::specs::Area::function_numbers, rules::specs::Area::item_numbers, rules::specs::Area::key_numbers))]
+#![tactic(auto, using(numbers::specs::Flags::byte_flag), unfolding(rules::specs::Area::function_numbers, rules::specs::Area::item_numbers, rules::specs::Area::key_numbers))]
 
-ghost use Rattle.std.specs.Prelude.{◌≡◌, [], ◌∷◌, ◌+◌, ◌-◌, ◌≤◌, length, set};
+ghost use Rattle.std.specs.Prelude.{◌≡◌, [], ◌∷◌, ◌+◌, ◌-◌, ◌≤◌, length};
 ghost use Rattle.std.proofs.Math.Option.{Option};
 ghost use Rattle.rules.specs.Lines.{Word};
-ghost use Rattle.rules.specs.Plan.{Aggregate};
 ghost use Rattle.rules.specs.Nodes.{values, aggregate};
-ghost use Rattle.rules.specs.Area.{option_span, aggregate_code, function_numbers, item_numbers, key_numbers};
-ghost use Rattle.plan.specs.Layout.{nodes_size, record_head, source_head, aggregate_head, length_place, groups_place, function_size, item_size, key_size};
-ghost use Rattle.plan.specs.Appended.{Appended};
+ghost use Rattle.rules.specs.Area.{option_span, function_numbers, item_numbers, key_numbers};
+ghost use Rattle.numbers.specs.Aggregates.{aggregate_of};
+ghost use Rattle.plan.specs.Layout.{record_head, source_head, aggregate_head, length_place, groups_place, function_size, item_size, key_size};
+ghost use Rattle.plan.specs.Pushed.{Pushed, Stored, Countable};
 ghost use Rattle.plan.specs.Kinds.{node_number};
-ghost use Rattle.plan.specs.Places.{option_place};
+ghost use Rattle.text.specs.Places.{option_numbers};
 ghost use Rattle.plan.specs.Records.{opened, over_numbers};
 
-use crate::nodes::{Kind, head};
-use crate::pushes::{pair, place, push};
+use crate::nodes::{Kind, Nodes, head};
+use numbers::aggregates::Aggregate;
 use text::places::Place;
 
 // Where in a record its length stands, and in an aggregate's the number of its groups.
@@ -27,79 +27,78 @@ const GROUPS: usize = 3;
 pub const KEY_SIZE: usize = 2;
 
 // BEGINNINGS
-pub fn begin_values(nodes: &mut [u32], k: usize) -> usize
-    requires { k + record_head ≤ length nodes.old }
-    ensures { Appended (opened (values [])) k nodes.old result nodes.new }
+pub fn begin_values(nodes: &mut Nodes)
+    requires { nodes.old.used + record_head ≤ length nodes.old.numbers.now }
+    ensures { Pushed (opened (values [])) nodes.old nodes.new }
 {
-    head(nodes, k, Kind::Values, 0)
+    head(nodes, Kind::Values, 0);
 }
 
-pub fn begin_aggregate(nodes: &mut [u32], k: usize, source: u32) -> usize
-    requires { k + aggregate_head ≤ length nodes.old }
-    ensures { Appended (opened (aggregate source [] [])) k nodes.old result nodes.new }
+pub fn begin_aggregate(nodes: &mut Nodes, source: u32)
+    requires { nodes.old.used + aggregate_head ≤ length nodes.old.numbers.now }
+    ensures { Pushed (opened (aggregate source [] [])) nodes.old nodes.new }
 {
-    let i = head(nodes, k, Kind::Aggregate, 0);
-    pair(nodes, i, source, 0)
+    head(nodes, Kind::Aggregate, 0);
+    nodes.pair(source, 0);
 }
 
 // A projection, an order or a remap of a source, by the kind.
-pub fn begin(nodes: &mut [u32], k: usize, kind: Kind, source: u32) -> usize
-    requires { k + source_head ≤ length nodes.old }
-    ensures { Appended (over_numbers (node_number kind) source) k nodes.old result nodes.new }
+pub fn begin(nodes: &mut Nodes, kind: Kind, source: u32)
+    requires { nodes.old.used + source_head ≤ length nodes.old.numbers.now }
+    ensures { Pushed (over_numbers (node_number kind) source) nodes.old nodes.new }
 {
-    let i = head(nodes, k, kind, 0);
-    push(nodes, i, source)
+    head(nodes, kind, 0);
+    nodes.push(source);
 }
 
 // PARTS
-// An aggregate function, by its code, of an argument.
-pub fn function(nodes: &mut [u32], k: usize, code: u32, root: u32) -> usize
-    requires { k + function_size ≤ length nodes.old }
-    ensures { (f : Aggregate) → aggregate_code f ≡ code → Appended (function_numbers
-        ((f, root) ∷ [])) k nodes.old result nodes.new }
+// An aggregate function of an argument.
+pub fn function(nodes: &mut Nodes, aggregate: Aggregate, root: u32)
+    requires { nodes.old.used + function_size ≤ length nodes.old.numbers.now }
+    ensures { Pushed (function_numbers ((aggregate_of aggregate, root) ∷ [])) nodes.old nodes.new }
 {
-    pair(nodes, k, code, root)
+    nodes.pair(u32::from(aggregate), root);
 }
 
 // An item of a projection and its alias.
-pub fn item(nodes: &mut [u32], k: usize, root: u32, alias: Option<Place>) -> usize
-    requires { k + item_size ≤ length nodes.old }
-    ensures { (w : Option Word) → option_span w ≡ option_place alias → Appended (item_numbers
-        ((root, w) ∷ [])) k nodes.old result nodes.new }
+pub fn item(nodes: &mut Nodes, root: u32, alias: Option<Place>)
+    requires { nodes.old.used + item_size ≤ length nodes.old.numbers.now }
+    ensures { (w : Option Word) → option_span w ≡ option_numbers alias → Pushed (item_numbers
+        ((root, w) ∷ [])) nodes.old nodes.new }
 {
-    let i = push(nodes, k, root);
-    place(nodes, i, alias)
+    nodes.push(root);
+    nodes.place(alias);
 }
 
 // A key of an order.
-pub fn key(nodes: &mut [u32], k: usize, root: u32, descending: bool) -> usize
-    requires { k + key_size ≤ length nodes.old }
-    ensures { Appended (key_numbers ((root, descending) ∷ [])) k nodes.old result nodes.new }
+pub fn key(nodes: &mut Nodes, root: u32, descending: bool)
+    requires { nodes.old.used + key_size ≤ length nodes.old.numbers.now }
+    ensures { Pushed (key_numbers ((root, descending) ∷ [])) nodes.old nodes.new }
 {
-    pair(nodes, k, root, u32::from(descending))
+    nodes.pair(root, u32::from(descending));
 }
 
 // ENDS
-// How many of the k numbers stand behind place i, stored there.
-fn count(nodes: &mut [u32], i: usize, k: usize)
-    requires { (i + 1 ≤ k) × (k ≤ length nodes.old) × (k ≤ nodes_size) }
-    ensures { nodes.new ≡ set nodes.old i (k - (i + 1)) }
+// Stored at place i, how many of the numbers in use stand behind it.
+fn count(nodes: &mut Nodes, i: usize)
+    requires { Countable i nodes.old }
+    ensures { Stored i (nodes.old.used - (i + 1)) nodes.old nodes.new }
 {
-    nodes[i] = (k - (i + 1)) as u32;
+    nodes.numbers[i] = (nodes.used - (i + 1)) as u32;
 }
 
 // The length of the record that starts at a place.
-pub fn end(nodes: &mut [u32], start: usize, k: usize)
-    requires { (start + record_head ≤ k) × (k ≤ length nodes.old) × (k ≤ nodes_size) }
-    ensures { nodes.new ≡ set nodes.old (start + length_place) (k - (start + record_head)) }
+pub fn end(nodes: &mut Nodes, start: usize)
+    requires { Countable (start + length_place) nodes.old }
+    ensures { Stored (start + length_place) (nodes.old.used - (start + record_head)) nodes.old nodes.new }
 {
-    count(nodes, start + LENGTH, k);
+    count(nodes, start + LENGTH);
 }
 
 // The number of groups of the aggregate that starts at a place.
-pub fn end_groups(nodes: &mut [u32], start: usize, k: usize)
-    requires { (start + aggregate_head ≤ k) × (k ≤ length nodes.old) × (k ≤ nodes_size) }
-    ensures { nodes.new ≡ set nodes.old (start + groups_place) (k - (start + aggregate_head)) }
+pub fn end_groups(nodes: &mut Nodes, start: usize)
+    requires { Countable (start + groups_place) nodes.old }
+    ensures { Stored (start + groups_place) (nodes.old.used - (start + aggregate_head)) nodes.old nodes.new }
 {
-    count(nodes, start + GROUPS, k);
+    count(nodes, start + GROUPS);
 }

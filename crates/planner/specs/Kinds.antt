@@ -19,6 +19,7 @@ use Rattle.statement.specs.Stays.{SectionsStay}
 use Rattle.statement.specs.declared.access.Kind.{Kind}
 use Rattle.statement.specs.declared.access.Kind.TheVariants as K
 use Rattle.plan.specs.Emits.{Written}
+use Rattle.plan.specs.declared.nodes.Nodes.{Nodes}
 use Rattle.numbers.specs.Reasons.{named}
 use Rattle.numbers.specs.declared.refusals.Reason.TheVariants as Re
 use Rattle.build_statement.specs.Plans.{Ready, Plans}
@@ -46,6 +47,16 @@ one_table_of K.Other n = false
 abbrev pub has_one_table : List ℕ → Bool
 has_one_table parts = one_table_of (kind_of (kind_number parts)) (from_rows parts)
 
+pub one-table-other : (k : Kind) (n : ℕ) → (k ≡ K.Select → ⊥) → one_table_of k n ≡ false
+unfolding one_table_of
+one-table-other K.Select n f = absurd (f refl)
+one-table-other K.Create n f = refl
+one-table-other K.Drop n f = refl
+one-table-other K.Delete n f = refl
+one-table-other K.Insert n f = refl
+one-table-other K.Update n f = refl
+one-table-other K.Other n f = refl
+
 pub one-table-by : (parts : List ℕ) {k : Kind} {n : ℕ} → k ≡ kind_of (kind_number parts) → n ≡ from_rows parts
     → one_table_of k n ≡ has_one_table parts
 one-table-by parts e f = cc
@@ -68,9 +79,9 @@ has-one-table parts e = go (kind_of (kind_number parts)) refl e
     go K.Other z h = absurd (false≢true h)
 
 -- with room for a plan
-pub ready : {c q : Bytes} {tables cells froms parts area nodes : List ℕ} → StatementReady c q tables cells froms parts
+pub ready : {c q : Bytes} {tables cells froms parts area : List ℕ} {nodes : Nodes} → StatementReady c q tables cells froms parts
     → Free area nodes → Ready c q tables cells froms parts area nodes
-ready h f = record { within = h.within; area_room = f.area_room; nodes_room = f.nodes_room }
+ready h f = record { within = h.within; area_room = f.area_room; nodes_room = f.nodes_room; none = f.none }
 
 -- built as another answer is
 pub plans-as : {a b : _} {area area' : List ℕ} {r : Written} → a ≡ b → Plans b area area' r → Plans a area area' r
@@ -83,14 +94,14 @@ module _ (c q : Bytes) (cells froms parts : List ℕ) where
     unfolding statement_of
     select-is = statement-kind c q cells froms parts K.Select e
 
-    select-ready : {tables area nodes : List ℕ} → StatementReady c q tables cells froms parts
-        → length cells ≡ table_size → SelectRoom (select_at c q cells froms parts) area nodes
+    select-ready : {tables area : List ℕ} {nodes : Nodes} → StatementReady c q tables cells froms parts
+        → length cells ≡ table_size → SelectRoom (select_at c q cells froms parts) area nodes → nodes.used ≡ 0
         → SelectReady c q tables cells froms parts area nodes
-    select-ready h l f = record { within = rw select-is at h.within; table = l; stay = h.stay e; free = f }
+    select-ready h l f z = record { within = rw select-is at h.within; table = l; stay = h.stay e; free = f; none = z }
 
-    pub select-any : {tables area nodes : List ℕ} → StatementReady c q tables cells froms parts
+    pub select-any : {tables area : List ℕ} {nodes : Nodes} → StatementReady c q tables cells froms parts
         → length cells ≡ table_size → Free area nodes → SelectReady c q tables cells froms parts area nodes
-    select-any h l f = select-ready h l (any-tables (rw select-is at h.within) f.area_room f.nodes_room)
+    select-any h l f = select-ready h l (any-tables (rw select-is at h.within) f.area_room f.nodes_room) f.none
 
     pub select-built : (ts : Catalog) → build_statement ts (statement_at c q cells froms parts)
         ≡ build_select ts (select_at c q cells froms parts)
@@ -99,12 +110,12 @@ module _ (c q : Bytes) (cells froms parts : List ℕ) where
 
   -- SELECT over at most one table
   module _ (e : has_one_table parts ≡ true) where
-    pub one-table-ready : {tables area nodes : List ℕ} → StatementReady c q tables cells froms parts
-        → length cells ≡ table_size → least_area ≤ length area → length nodes ≡ one_table_size
+    pub one-table-ready : {tables area : List ℕ} {nodes : Nodes} → StatementReady c q tables cells froms parts
+        → length cells ≡ table_size → least_area ≤ length area → length nodes.numbers.now ≡ one_table_size → nodes.used ≡ 0
         → SelectReady c q tables cells froms parts area nodes
-    one-table-ready h l a n =
+    one-table-ready h l a n z =
         let o = has-one-table parts e in
-        select-ready o.select h l (one_table c q cells froms parts o.rows a n)
+        select-ready o.select h l (one_table c q cells froms parts o.rows a n) z
 
     pub one-table-built : (ts : Catalog) → build_statement ts (statement_at c q cells froms parts)
         ≡ build_select ts (select_at c q cells froms parts)

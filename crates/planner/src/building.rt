@@ -18,6 +18,7 @@ use build_statement::drop::build_drop_table;
 use build_update::update::build_update;
 use numbers::refusals::{Reason, Refusal};
 use plan::NODES_SIZE;
+use plan::nodes::Nodes;
 use statement::access::{Kind, from_rows, kind_of, line};
 use text::places::Texts;
 
@@ -29,7 +30,7 @@ fn build_kind(
     froms: &[u32],
     parts: &[u32],
     area: &mut [u32],
-    nodes: &mut [u32],
+    nodes: &mut Nodes,
 ) -> Result<u32, Refusal>
     requires statement_ready { StatementReady texts.now.catalog.now texts.now.statement.now tables.now cells.old froms.now
         parts.now }
@@ -86,10 +87,7 @@ fn build_kind(
             area,
             nodes,
         ),
-        Kind::Other => Err(Refusal {
-            reason: Reason::OtherStatement,
-            line: line(parts),
-        }),
+        Kind::Other => Err(Reason::OtherStatement.at(line(parts))),
     }
 }
 
@@ -97,15 +95,9 @@ fn build_kind(
 fn has_one_table(parts: &[u32]) -> bool
     ensures { result ≡ has_one_table parts.now }
 {
-    let kind = kind_of(parts);
-    match kind {
+    match kind_of(parts) {
         Kind::Select => from_rows(parts) <= 1,
-        Kind::Create => false,
-        Kind::Drop => false,
-        Kind::Delete => false,
-        Kind::Insert => false,
-        Kind::Update => false,
-        Kind::Other => false,
+        _ => false,
     }
 }
 
@@ -128,8 +120,16 @@ pub fn build(
 {
     if has_one_table(parts) {
         let mut few = [0u32; ONE_TABLE_SIZE];
-        return build_select(texts, tables, cells, froms, parts, area, &mut few);
+        let mut nodes = Nodes {
+            numbers: &mut few,
+            used: 0,
+        };
+        return build_select(texts, tables, cells, froms, parts, area, &mut nodes);
     }
-    let mut nodes = [0u32; NODES_SIZE];
+    let mut numbers = [0u32; NODES_SIZE];
+    let mut nodes = Nodes {
+        numbers: &mut numbers,
+        used: 0,
+    };
     build_kind(texts, tables, cells, froms, parts, area, &mut nodes)
 }

@@ -28,7 +28,7 @@ pub const LEAST_AREA: usize = 16384;
 
 // Document 01's number of a refusal, its text (1 catalog, 2 statement) and line; or 0 and how many cells the plan has.
 #[repr(C)]
-#[derive(Clone, Copy)]
+#[derive(Clone, Copy, Debug, PartialEq, Eq)]
 pub struct Outcome {
     pub number: u32,
     pub text: u32,
@@ -73,7 +73,12 @@ fn plan_read(
             line: 0,
             count: n,
         },
-        Err(w) => refuse(area, w.reason.number(), Text::Statement.number(), w.line),
+        Err(w) => refuse(
+            area,
+            u32::from(w.reason),
+            u32::from(Text::Statement),
+            w.line,
+        ),
     }
 }
 
@@ -96,7 +101,7 @@ fn plan_with(texts: &Texts, tables: &mut [u32], area: &mut [u32]) -> Outcome
         &mut parts,
     );
     match read {
-        Err(w) => refuse(area, w.reason.number(), w.text.number(), w.line),
+        Err(w) => refuse(area, u32::from(w.reason), u32::from(w.text), w.line),
         Ok(_) => plan_read(texts, tables, &mut cells, &froms, &parts, area),
     }
 }
@@ -107,8 +112,8 @@ pub fn planner_plan(catalog: &[u8], statement: &[u8], area: &mut [u32]) -> Outco
 {
     if area.len() < LEAST_AREA {
         return Outcome {
-            number: Reason::ShortArea.number(),
-            text: Text::Statement.number(),
+            number: u32::from(Reason::ShortArea),
+            text: u32::from(Text::Statement),
             line: 0,
             count: 0,
         };

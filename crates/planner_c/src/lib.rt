@@ -11,11 +11,7 @@ use planner::Outcome;
 
 // The plan of the statement over the catalog, in the area: whatever the texts are, and whatever the area holds.
 #[unsafe(no_mangle)]
-pub extern "C" fn planner_plan<'t>(
-    catalog: &'t [u8],
-    statement: &'t [u8],
-    area: &mut [u32],
-) -> Outcome
+pub extern "C" fn planner_plan(catalog: &[u8], statement: &[u8], area: &mut [u32]) -> Outcome
     ensures { Answers (plan catalog.now statement.now area.old) result area.new }
 {
     planner::planner_plan(catalog, statement, area)

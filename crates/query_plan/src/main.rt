@@ -96,7 +96,7 @@ fn show_record<W: Write>(to: &mut W, texts: &Texts, outcome: Outcome) -> io::Res
     if outcome.number == 0 {
         return Ok(());
     }
-    if outcome.text == Text::Catalog.number() {
+    if outcome.text == u32::from(Text::Catalog) {
         return show_line(to, texts.catalog, outcome.line);
     }
     show_line(to, texts.statement, outcome.line)

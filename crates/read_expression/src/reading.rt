@@ -13,6 +13,7 @@ use crate::heads::{Row, head};
 use ast::row::Kind;
 use ast::rows::{ROW_SIZE, STATEMENT_ROWS};
 use literal::record::literal_at;
+use numbers::put_four;
 use numbers::refusals::{Reason, Refusal};
 use text::MOST_BYTES;
 
@@ -35,14 +36,8 @@ pub fn put_row(cells: &mut [u32], c: u32, line: u32, rows: u32, h: Row)
         []) }
 {
     let i = ROW_SIZE * c as usize;
-    cells[i] = h.kind as u32;
-    cells[i + 1] = line;
-    cells[i + 2] = rows;
-    cells[i + 3] = h.code;
-    cells[i + 4] = h.a;
-    cells[i + 5] = h.b;
-    cells[i + 6] = h.c;
-    cells[i + 7] = h.d;
+    put_four(cells, i, u32::from(h.kind), line, rows, h.code);
+    put_four(cells, i + 4, h.a, h.b, h.c, h.d);
 }
 
 // The literal behind the operand of an `is` at row c; and that row, on its line.

@@ -54,7 +54,7 @@ fn put_refusal(to: &mut Writer, w: TextRefusal)
     ensures short { length (line_of (Err w)) ≤ 64 }
 {
     to.bytes(b"refused");
-    to.number(w.reason.number());
+    to.number(u32::from(w.reason));
     to.field(text_word(w.text));
     to.number(w.line);
     to.byte(b'\n');

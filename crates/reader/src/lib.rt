@@ -18,14 +18,16 @@ pub enum Text {
     Statement = 2,
 }
 
-impl Text {
-    // Document 01's number.
-    pub fn number(self) -> u32
-        ensures { result ≡ text_number (text_of self) }
-    {
-        self as u32
-    }
+// Document 01's number.
+impl From<Text> for u32 {
+    ghost from_gives = { λ text number. number ≡ text_number (text_of text) };
 
+    fn from(text: Text) -> u32 {
+        text as u32
+    }
+}
+
+impl Text {
     // A refusal of this text.
     fn refuses(self, refusal: Refusal) -> TextRefusal
         ensures { result ≡ record { reason = refusal.reason; text = self; line = refusal.line } }

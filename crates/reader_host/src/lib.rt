@@ -36,13 +36,13 @@ fn answered(t: Result<Contents, TextRefusal>) -> Answer
             number: 0,
             text: 0,
             line: 0,
-            kind: t.kind as u32,
+            kind: u32::from(t.kind),
             cells: t.cells,
             tables: t.tables,
         },
         Err(w) => {
-            let number = w.reason.number();
-            let text = w.text.number();
+            let number = u32::from(w.reason);
+            let text = u32::from(w.text);
             Answer {
                 number,
                 text,

@@ -1,5 +1,5 @@
 -- What reading a column comes to, where it takes the fewest bytes of its default's line at least.
-use Rattle.std.specs.Prelude.{ℕ, suc, ◌+◌, ◌≤◌, ◌<◌, ◌≡◌, List, [], ◌∷◌, length, refl, Result, Ok, Err, Some, None}
+use Rattle.std.specs.Prelude.{ℕ, suc, ◌+◌, ◌≤◌, ◌<◌, ◌≡◌, Bool, List, [], ◌∷◌, length, refl, Result, Ok, Err, Some, None}
 use Rattle.std.specs.Prelude as std
 use native.Mathlib.Omega.{arith}
 use Rattle.std.proofs.Math.Path.{sym, ap}
@@ -21,7 +21,10 @@ use Rattle.schema.specs.Records.{Position, here, default_said, column_here, colu
 use Rattle.text.specs.Answers.{prefixed}
 use Rattle.numbers.specs.Kept.{kept-all, kept-sets-behind}
 use Rattle.numbers.specs.Stores.{Stored, stored-first, stored-sets, sets-append}
-use Rattle.numbers.specs.Values.{is_one, type_at, default_of}
+use Rattle.rules.specs.Area.{flag, type_code}
+use Rattle.numbers.specs.Datatypes.{type_of}
+use Rattle.numbers.specs.declared.datatypes.DataType.{DataType}
+use Rattle.numbers.specs.Values.{is_one, type_at, type-back, flag-back, default_of}
 use Rattle.numbers.specs.declared.refusals.Reason.TheVariants.{WrongRecord, LimitPassed}
 use Rattle.numbers.specs.declared.refusals.Refusal as code
 use Rattle.numbers.specs.Reasons.{reason_of}
@@ -54,10 +57,17 @@ module _ {t : Bytes} {s : List ℕ} {p l f n : ℕ} (w : ColumnReady t s p l f n
   unfolding columns_from ColumnMoves ColumnEnds column_said reason_of stop place
   column-wrong {w} z = let e : w ≡ record { reason = WrongRecord; line = l } = rw z at h.next in rw e record { says = λ q fuel. sym (columns-wrong _ fuel n none (says-as q _ z) refl); kept = kept-all _ _ s; moves = tt }
 
-  module _ {a m k u e : ℕ} (z : c ≡ Ok (Some (record { name = record { address = a; length = m }; datatype = k; nullable = u; next = e }))) where
+  module _ {a m e : ℕ} {datatype : DataType} {nullable : Bool}
+      (z : c ≡ Ok (Some (record { name = record { address = a; length = m }; datatype = datatype; nullable = nullable; next = e }))) where
+    abbrev k : ℕ
+    k = type_code (type_of datatype)
+
+    abbrev u : ℕ
+    u = flag nullable
+
     said : (q : Bytes) → column_here (here t p l) ≡ some (some (word_at t q a m, type_at k, is_one u))
     unfolding column_said
-    said q = says-as q _ z
+    said q = says-as q _ z ∙ rw (type-back (type_of datatype), flag-back nullable)
 
     ends : e ≡ line_end t p
     unfolding ColumnEnds

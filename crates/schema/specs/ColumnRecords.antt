@@ -1,5 +1,5 @@
 -- The column's record, field by field.
-use Rattle.std.specs.Prelude.{ℕ, zero, suc, ◌+◌, ◌-◌, ◌≤◌, ◌<◌, ◌≡◌, refl, Bool, true, false, List, [], ◌∷◌, length, get_or, take, drop, Ok, Err, Some, None}
+use Rattle.std.specs.Prelude.{ℕ, zero, suc, ◌+◌, ◌≤◌, ◌<◌, ◌≡◌, refl, Bool, true, false, List, [], ◌∷◌, eqb, length, get_or, take, drop, Ok, Err, Some, None}
 use Rattle.std.proofs.Common.{arith, ◌∙◌}
 use Rattle.std.proofs.Math.Path.{sym, ap}
 use Rattle.std.proofs.Math.Option.{Option, none, some}
@@ -16,7 +16,8 @@ use Rattle.text.specs.Words.{find, words_of, push, keys, nth, named_by, nth-none
 use Rattle.text.specs.Numbers.{is_name}
 use Rattle.text.specs.Reading.{field_of, at-is, rest-three, rest-other, name-yes, name-no}
 use Rattle.numbers.specs.Codes.{coded}
-use Rattle.numbers.specs.Values.{is_one, type_at}
+use Rattle.numbers.specs.Values.{type_at}
+use Rattle.numbers.specs.Datatypes.{datatype_at, datatype-type}
 use Rattle.schema.specs.Records.{Position, here, column_here, column_said, ColumnEnds, ColumnLine, field-here, field-most}
 use Rattle.numbers.specs.declared.refusals.Reason.TheVariants.{WrongRecord}
 
@@ -55,8 +56,8 @@ type-nth (suc (suc zero)) h = refl
 type-nth (suc (suc (suc zero))) h = refl
 type-nth (suc (suc (suc (suc k)))) h = absurd (omega arith)
 
-null-nth : (u : ℕ) → u < 2 → nth nullables u ≡ some (is_one (1 - u))
-unfolding nth nullables is_one
+null-nth : (u : ℕ) → u < 2 → nth nullables u ≡ some (eqb u 0)
+unfolding nth nullables
 null-nth zero h = refl
 null-nth (suc zero) h = refl
 null-nth (suc (suc u)) h = absurd (omega arith)
@@ -119,11 +120,11 @@ module _ (t : Bytes) (p line : ℕ) (f : Line) (g : Fields t p f) {b : Bool} (ke
           unfolding nullables
           column-null v = column-wrong (λ l. column-fields l none (column-null-no _ _ _ _ (named l) typed (null-number t f 3 u eu ∙ nth-none nullables u v)))
 
-          pub column-right : Position t p → u < 2 → ColumnLine t p line (Ok (Some (record { name = record { address = get_or f.starts 1 0; length = get_or f.lens 1 0 }; datatype = k + 1; nullable = 1 - u; next = f.next })))
+          pub column-right : Position t p → u < 2 → ColumnLine t p line (Ok (Some (record { name = record { address = get_or f.starts 1 0; length = get_or f.lens 1 0 }; datatype = datatype_at (k + 1); nullable = eqb u 0; next = f.next })))
           unfolding column_said ColumnEnds field_of
           column-right w v = record {
             says = λ q l. sym (column-here l ∙ ap some (column-fields l _ (column-yes _ _ _ _ _ (named l) typed (null-number t f 3 u eu ∙ null-nth u v)
-                ∙ ap (λ x. some (x, type_at (k + 1), is_one (1 - u))) (first q l))));
+                ∙ rw (first q l, datatype-type (k + 1)))));
             next = g.next;
           }
             where

@@ -16,7 +16,7 @@ use Rattle.text.specs.declared.Line.{Line}
 use Rattle.text.specs.Lines.{Fields, line_end, field}
 use Rattle.text.specs.Reading.{place, text_of, field-word, field-inside}
 use Rattle.numbers.specs.Literals.{given_value}
-use Rattle.numbers.specs.Values.{is_one, type_at}
+use Rattle.numbers.specs.Datatypes.{type_of}
 use Rattle.schema.specs.Layout.{table_start}
 use Rattle.numbers.specs.declared.refusals.Reason.TheVariants.{WrongRecord}
 use Rattle.numbers.specs.declared.refusals.Refusal as code
@@ -39,7 +39,7 @@ unfoldable pub column_here : Place → Option (Option (Word × Datatype × Bool)
 column_here p = elim (at (bytes "column") p) [ true ↦ some (column_fields (rest p)) | false ↦ none ]
 
 unfoldable pub column_said : Bytes → Bytes → Result (std.Option ColumnRecord) code.Refusal → Option (Option (Word × Datatype × Bool))
-column_said c q (Ok (Some r)) = some (some (word_at c q r.name.address r.name.length, type_at r.datatype, is_one r.nullable))
+column_said c q (Ok (Some r)) = some (some (word_at c q r.name.address r.name.length, type_of r.datatype, r.nullable))
 column_said c q (Ok None) = none
 column_said c q (Err w) = some none
 

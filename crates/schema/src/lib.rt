@@ -16,7 +16,8 @@ use numbers::literals::{Literal, LiteralKind};
 use numbers::number;
 use text::places::{Place, Texts};
 
-// The most numbers that a catalog takes: how many tables, 32 tables of five numbers, 2,048 columns of eight.
+// The most numbers that a catalog takes: how many tables, 32 tables of five numbers, 2,048 columns of eight. They are lent zeroed
+// (reader_read_texts), and 0 is no column's type, so they stay numbers.
 pub const NUMBERS: usize = 16545;
 
 // Where the tables' numbers start, and how many each table has.

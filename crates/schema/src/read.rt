@@ -25,7 +25,7 @@ const MOST_TABLE_COLUMNS: u32 = 64;
 const LEAST_COLUMN: usize = 23;
 
 // Behind the columns of a table: the position, its line, and how many columns there are.
-#[derive(Clone, Copy)]
+#[derive(Clone, Copy, Debug, PartialEq, Eq)]
 struct Run {
     position: usize,
     line: u32,
@@ -55,14 +55,9 @@ fn read_column(
         return Err(Reason::WrongRecord.at(line + 1));
     };
     let i = COLUMNS + COLUMN_SIZE * (first + index as usize);
-    put_four(
-        tables,
-        i,
-        c.name.address,
-        c.name.length,
-        c.datatype,
-        c.nullable,
-    );
+    let datatype = u32::from(c.datatype);
+    let nullable = u32::from(c.nullable);
+    put_four(tables, i, c.name.address, c.name.length, datatype, nullable);
     put_given(tables, i + 4, d);
     Ok(Some(f.next))
 }
@@ -133,6 +128,7 @@ fn read_tables(catalog: &[u8], tables: &mut [u32]) -> Result<(), Refusal>
     requires { (length catalog.now ≤ most_bytes) × (numbers_for (length catalog.now) ≤ length tables.old) }
     ensures { (q : Bytes) → catalog_of catalog.now q tables.new result ≡ read_catalog catalog.now }
 {
+    // counted by hand: where the next table stands is known only once this one is read
     let mut p: usize = 0;
     let mut line: u32 = 1;
     let mut n: u32 = 0;

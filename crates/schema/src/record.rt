@@ -10,18 +10,19 @@ ghost use Rattle.schema.specs.Records.{Position, here, names, default_said, Colu
 
 use crate::{TABLE_SIZE, TABLES};
 use literal::record::literal_at;
+use numbers::datatypes::DataType;
 use numbers::literals::Literal;
 use numbers::number;
 use numbers::refusals::{Reason, Refusal};
 use text::Line;
 use text::places::{Place, Texts};
 
-// A column's record: its name, its type, 1 if it is nullable, and the position behind the line.
+// A column's record: its name, its type, whether it may be null, and the position behind the line.
 #[derive(Clone, Copy, Debug, PartialEq, Eq)]
 pub struct ColumnRecord {
     pub name: Place,
-    pub datatype: u32,
-    pub nullable: u32,
+    pub datatype: DataType,
+    pub nullable: bool,
     pub next: usize,
 }
 
@@ -61,8 +62,8 @@ pub fn column_record(catalog: &[u8], at: usize, line: u32) -> Result<Option<Colu
             address: f.starts[1] as u32,
             length: f.lens[1] as u32,
         },
-        datatype: (k + 1) as u32,
-        nullable: (1 - u) as u32,
+        datatype: DataType::of_number(k as u32 + 1),
+        nullable: u == 0,
         next: f.next,
     }))
 }

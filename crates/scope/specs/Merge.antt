@@ -1,6 +1,6 @@
 -- Two scopes merged: the other's labels and tables behind one's own.
 use Rattle.std.specs.Prelude.{ℕ, suc, ◌+◌, ◌≤◌, ◌<◌, ◌≡◌, List, [], ◌∷◌, ◌++◌, map, length, get_or, take, drop, set}
-use Rattle.std.proofs.Common.{arith, add-one, add-zero, ap, ◌∙◌, append_assoc, append-nil, length-set, take-suc-set, take-suc, length-take-le, get_or-take, length-append, length-drop, take_at}
+use Rattle.std.proofs.Common.{arith, add-one, add-zero, ap, ◌∙◌, append_assoc, append-nil, length-set, take-suc-set, take-suc, take_all, length-take-le, length-append, length-drop, take_at}
 use Rattle.rules.specs.Limits.{most_columns, most_from_tables}
 use Rattle.rules.specs.Lists.{Bytes}
 use Rattle.rules.specs.Ast.{Expr}
@@ -49,22 +49,23 @@ appending-more {f} {m} {l} {n} {xs} {j} {ls} {v} a h g e =
     }
 
 -- the slot of the j-th of the other's labels
-pub slot_at : {s o : Scope} → Mergeable s o → (j : ℕ) → j < o.width → slot_of (get_or o.labels j 0) + s.count < slot_count
-slot_at {s} {o} m j h =
-    let g : get_or (labels_of o) j 0 ≡ get_or o.labels j 0 = get_or-take o.width o.labels j 0 h in
-    let b : slot_of (get_or o.labels j 0) ≤ o.count = rw g at (below_at j m.other.slots) in
-    omega (arith, m.tables)
+pub slot_at : {s o : Scope} → Mergeable s o → (j : ℕ) → slot_of (get_or (labels_of o) j 0) + s.count < slot_count
+slot_at m j = omega (arith, m.tables, below_at j m.other.slots)
 
 -- all are stored
 pub merged : {s o : Scope} {j : ℕ} (r : Scope) → Mergeable s o
-    → Appending (shifted s.count) most_columns s.labels s.width o.labels j r.labels → j ≤ o.width → o.width ≤ j
+    → Appending (shifted s.count) most_columns s.labels s.width (labels_of o) j r.labels → j ≤ length (labels_of o)
+    → length (labels_of o) ≤ j
     → r.tables ≡ take s.count s.tables ++ (table_numbers o ++ drop (s.count + length (table_numbers o)) s.tables) → r.matches ≡ s.matches → r.hidden ≡ s.hidden → r.width ≡ s.width + o.width
     → r.count ≡ s.count + o.count → Merged s o r
 unfolding rules.merge rules.shift
 merged {s} {o} {j} r m a h g b em eh ew ec =
-    let ej : j ≡ o.width = omega arith in
+    let many : length (labels_of o) ≡ o.width =
+    length-take-le o.width o.labels (omega (arith, m.other.width, m.other.labels-room)) in
+    let all : take j (labels_of o) ≡ labels_of o = take_all j (labels_of o) g in
+    let z : s.width + o.width ≡ s.width + j = omega arith in
     let p : Plain r = record { unmatched = rw em m.plain.unmatched; shown = eh ∙ m.plain.shown } in
-    let el : labels_of r ≡ labels_of s ++ map (shifted s.count) (labels_of o) = rw (ew, ← ej) a.stored in
+    let el : labels_of r ≡ labels_of s ++ map (shifted s.count) (labels_of o) = rw (ew, z, ← all) a.stored in
     let ln : length (table_numbers s) ≡ s.count =
     length-take-le s.count s.tables (omega (arith, m.valid.tables-room, m.valid.tables)) in
     let lo : length (table_numbers o) ≡ o.count =

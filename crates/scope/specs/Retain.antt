@@ -2,7 +2,7 @@
 use Prim.Native.Nat.{ℕ, suc, ◌+◌, ◌≤◌, ◌<◌}
 use native.Mathlib.Omega.{arith}
 use Rattle.std.proofs.Math.Numerals.{add-one}
-use Rattle.std.specs.Prelude.{◌≡◌, refl, Bool, true, false, drop, set}
+use Rattle.std.specs.Prelude.{◌≡◌, Bool, true, false, drop, set}
 use Rattle.std.proofs.Math.Path.{ap, sym}
 use Rattle.std.proofs.Common.{◌∙◌, length-append, drop_of_length-le, drop-cons, take-suc-set, take_at}
 use mathlib.Core.List.{List, [], ◌∷◌, ◌++◌}
@@ -32,9 +32,6 @@ pub record Retaining (e : ℕ → Expr) (rs kept₀ : List ℕ) (n i k : ℕ) (k
   pub few : k ≤ n + i
   pub count : k + length (retained e (take k kept) (drop i rs)) ≡ n + length (retained e (take n kept₀) rs)
   pub rows : sets kept k (retained e (take k kept) (drop i rs)) ≡ sets kept₀ n (retained e (take n kept₀) rs)
-
-pub retain-begin : (e : ℕ → Expr) (rs kept : List ℕ) (n : ℕ) → Retaining e rs kept n 0 n kept
-retain-begin e rs kept n = record { room = refl; few = omega arith; count = refl; rows = refl }
 
 module _ {e : ℕ → Expr} {rs kept₀ : List ℕ} {n i k : ℕ} {kept : List ℕ} (s : Retaining e rs kept₀ n i k kept) where
   module _ {b : Bool} (h : i < length rs) (t : b ≡ has_equal e (take k kept) (e (get_or rs i 0))) where

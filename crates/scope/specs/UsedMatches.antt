@@ -1,9 +1,9 @@
 -- The matches of a scope, none where no column is matched: the rules cannot tell the difference.
 use Prim.Native.Nat.{ℕ, zero, suc}
-use Rattle.std.proofs.Common.{arith, sym, ◌∙◌, lt-ltb}
+use Rattle.std.proofs.Common.{arith, sym}
 use Rattle.std.proofs.lemmas.Bool.{ne_eqb}
 use Rattle.std.specs.List.{list_any}
-use Rattle.std.specs.Prelude.{◌≡◌, nat_eq, Bool, false, not, List, [], ◌∷◌, ltb, length}
+use Rattle.std.specs.Prelude.{◌≡◌, nat_eq, Bool, false, not, List, [], ◌∷◌}
 use Rattle.std.proofs.Math.Path.{refl}
 use Rattle.std.proofs.Math.Bool.{true}
 use Rattle.rules.specs.Lists.{Bytes, any, is_empty}
@@ -41,18 +41,6 @@ unfolding some_match any is_match matches_of is_empty
 some_of e i [] = refl
 some_of e i (zero ∷ ms) = some_of e (suc i) ms
 some_of e i (suc m ∷ ms) = refl
-
-used-length : (ms : List ℕ) → ltb 0 (length (used_matches ms)) ≡ some_match ms
-unfolding used_matches some_match any
-used-length [] = refl
-used-length (x ∷ ms) = go (some_match (x ∷ ms))
-  where
-    go : (b : Bool) → ltb 0 (length {A = ℕ} (elim b [ true ↦ x ∷ ms | false ↦ [] ])) ≡ b
-    go true = lt-ltb 0 (length (x ∷ ms)) (omega arith)
-    go false = refl
-
-pub used-some : (e : ℕ → Expr) (ms : List ℕ) → ltb 0 (length (used_matches ms)) ≡ not (is_empty (matches_of e 0 ms))
-used-some e ms = used-length ms ∙ some_of e 0 ms
 
 -- a scope is the same with them
 pub used-scope : (e : ℕ → Expr) (c q : Bytes) (xs ms ts : List ℕ) (h : ℕ)

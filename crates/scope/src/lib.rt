@@ -37,7 +37,7 @@ pub const TABLES: usize = 16;
 
 // The columns: their labels, what is matched to each (0 nothing, or 1 + the row of an expression), and the tables they
 // come from. The last `hidden` of them are not shown.
-#[derive(Clone, Copy)]
+#[derive(Clone, Copy, Debug, PartialEq, Eq)]
 pub struct Scope {
     pub labels: [u32; COLUMNS],
     pub matches: [u16; COLUMNS],
@@ -88,12 +88,7 @@ impl Scope {
         let mut tables = [0u32; TABLES];
         tables[0] = label(0, name);
         for j in 0..width {
-            let column = column_name(catalog, i, j);
-            let place = Place {
-                address: column.address,
-                length: column.length,
-            };
-            labels[j as usize] = label(1, place);
+            labels[j as usize] = label(1, column_name(catalog, i, j));
         }
         Scope {
             labels: labels,
@@ -115,8 +110,7 @@ impl Scope {
         let view = self.view();
         let mut labels = [0u32; COLUMNS];
         let mut matches = [0u16; COLUMNS];
-        for j in 0..rows.len() {
-            let r = rows[j];
+        for (j, &r) in rows.iter().enumerate() {
             labels[j] = label_of(exprs, &view, r);
             matches[j] = match_number(r);
         }
@@ -151,8 +145,8 @@ impl Scope {
         let w = self.width as usize;
         let t = self.count as usize;
         let n = other.count as usize;
-        for j in 0..other.width as usize {
-            self.labels[w + j] = behind(other.labels[j], self.count);
+        for (j, &x) in other.labels[..other.width as usize].iter().enumerate() {
+            self.labels[w + j] = behind(x, self.count);
         }
         overwrite(&mut self.tables, t, &other.tables[..n]);
         self.width += other.width;
@@ -188,8 +182,8 @@ impl Scope {
             labels.now rows.now result }
     {
         overwrite(&mut self.labels, 0, labels);
-        for j in 0..rows.len() {
-            self.matches[j] = new_match(exprs, &self.matches, j as u32, rows[j]);
+        for (j, &r) in rows.iter().enumerate() {
+            self.matches[j] = new_match(exprs, &self.matches, j as u32, r);
         }
         self.width = rows.len() as u32;
         self.hidden = 0;

@@ -79,8 +79,8 @@ impl View<'_> {
     {
         let ending = ending_of(texts.catalog, name);
         let mut hit = None;
-        for i in 0..self.labels.len() {
-            if is_named(texts, self.labels[i], name, ending) {
+        for (i, &label) in self.labels.iter().enumerate() {
+            if is_named(texts, label, name, ending) {
                 if hit.is_some() {
                     return Err(Reason::AmbiguousColumn);
                 }

@@ -16,7 +16,8 @@ fn has_equal(exprs: &Expressions, rows: &[usize], r: usize) -> bool
     rows.iter().any(|k| equal(exprs, *k, r))
 }
 
-// The rows whose expressions are not among the n kept ones, each once, kept behind them; how many are kept then.
+// The rows whose expressions are not among the n kept ones, each once, kept behind them; how many are kept then. The slice and
+// its count stay two values: a struct of both would serve the two calls of one function.
 pub fn retain(exprs: &Expressions, rows: &[usize], kept: &mut [usize], n: usize) -> usize
     requires { n + length rows.now ≤ length kept.old }
     ensures value { result ≡ n + length

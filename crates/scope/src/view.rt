@@ -3,7 +3,7 @@ ghost use Rattle.std.specs.Prelude.{◌≡◌, ◌<◌, take, length};
 ghost use Rattle.scope.specs.Labels.{position_count};
 
 // The columns' labels, what is matched to each, and the tables. A column's position has 32 bits.
-#[derive(Clone, Copy)]
+#[derive(Clone, Copy, Debug, PartialEq, Eq)]
 pub struct View<'s> {
     pub labels: &'s [u32],
     pub matches: &'s [u16],

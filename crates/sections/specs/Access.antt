@@ -1,16 +1,17 @@
--- Sections as they were read, by numbers: the kinds by name, how many entries a section has, and what the twelve numbers of an
--- entry stand for.
+-- Sections as they were read: the kinds by name, how many entries a section has, and each entry by its twelve numbers.
 use Prim.Native.Nat.{ℕ, zero, suc, ◌+◌, ◌*◌, ◌<◌}
 use native.Mathlib.Omega.{arith}
-use Rattle.std.specs.Prelude.{◌≡◌, List, [], ◌∷◌, length, get_or, drop}
-use Rattle.std.proofs.Math.Path.{refl, ap}
-use Rattle.std.proofs.Common.{sym, ◌∙◌}
+use Rattle.std.specs.Prelude.{◌≡◌, Bool, true, false, List, [], ◌∷◌, length, get_or, drop, Option, Some, None}
+use Rattle.std.proofs.Math.Path.{ap}
+use Rattle.std.proofs.Common.{◌∙◌}
 use Rattle.std.proofs.Math.Option.{some}
 use Rattle.rules.specs.Lists.{Bytes, entry_after}
-use Rattle.ast.specs.Table.{arguments_at, tree_at}
-use Rattle.ast.specs.Names.{name_at}
-use Rattle.entries.specs.Entries as E
-use Rattle.sections.specs.Layout.{start_of, head_at, entry_at, entries_at, section_at}
+use Rattle.numbers.specs.Codes.{coded}
+use Rattle.numbers.specs.Values.{is_one}
+use Rattle.numbers.specs.Datatypes.{datatype_at}
+use Rattle.text.specs.Places.{place_of}
+use Rattle.entries.specs.declared.NewColumn.{NewColumn}
+use Rattle.sections.specs.Layout.{start_of, entry_at, entries_at, section_at}
 use Rattle.sections.specs.Store.{entries-length}
 use Rattle.sections.specs.OneEntry.{entry_start}
 use Rattle.sections.specs.declared.entry.Entry.{Entry}
@@ -53,42 +54,34 @@ abbrev pub column_kind : ℕ
 column_kind = 11
 
 -- NUMBERS
--- the numbers of an entry from i on, and those of entry k of a section
+-- what a number says of nulls
+unfoldable pub null_of : ℕ → Option Bool
+null_of k = coded None (Some true ∷ Some false ∷ []) 1 k
+
+-- what the entry with the numbers from i on says as a new column
+unfoldable pub column_from : List ℕ → ℕ → NewColumn
+column_from parts i = record {
+  datatype = datatype_at (get_or parts (i + 5) 0);
+  key = is_one (get_or parts (i + 6) 0);
+  nullable = null_of (get_or parts (i + 7) 0);
+  unique = is_one (get_or parts (i + 8) 0);
+  index = is_one (get_or parts (i + 9) 0);
+  reference = place_of (get_or parts (i + 10) 0) (get_or parts (i + 11) 0);
+}
+
+-- an entry by its numbers from i on, and entry k of a section
 unfoldable pub numbers_from : List ℕ → ℕ → Entry
 numbers_from parts i = record {
   line = get_or parts i 0;
   expressions = get_or parts (i + 1) 0;
   row = get_or parts (i + 2) 0;
-  address = get_or parts (i + 3) 0;
-  length = get_or parts (i + 4) 0;
-  code = get_or parts (i + 5) 0;
-  key = get_or parts (i + 6) 0;
-  nullable = get_or parts (i + 7) 0;
-  unique = get_or parts (i + 8) 0;
-  index = get_or parts (i + 9) 0;
-  reference = get_or parts (i + 10) 0;
-  extent = get_or parts (i + 11) 0;
+  name = place_of (get_or parts (i + 3) 0) (get_or parts (i + 4) 0);
+  descending = is_one (get_or parts (i + 5) 0);
+  column = column_from parts i;
 }
 
 unfoldable pub numbers_at : List ℕ → ℕ → ℕ → Entry
 numbers_at parts kind k = numbers_from parts (entry_start kind k)
-
--- what an entry's numbers stand for, of the catalog b, the statement q and the rows of the expressions
-unfoldable pub entry_of : Bytes → Bytes → List ℕ → Entry → E.Entry
-entry_of b q cells e = record {
-  line = e.line;
-  head = record {
-    name = name_at b q e.address e.length;
-    reference = name_at b q e.reference e.extent;
-    code = e.code;
-    key = e.key;
-    nullable = e.nullable;
-    unique = e.unique;
-    index = e.index;
-    expressions = e.expressions;
-  };
-  exprs = arguments_at (tree_at b q cells) cells e.expressions e.row;
-}
 
 -- ENTRIES OF A LIST
 -- the entry behind the first k comes first in what is left behind them
@@ -103,10 +96,6 @@ after-drop (suc k) (y ∷ xs) x h = after-drop k xs x h
 
 -- SECTIONS
 module _ (b q : Bytes) (cells parts : List ℕ) where
-  entry-from : (i : ℕ) → entry_at b q cells parts i ≡ entry_of b q cells (numbers_from parts i)
-  unfolding entry_of numbers_from entry_at head_at
-  entry-from i = refl
-
   entries-after : (i n k : ℕ) → k < n
       → entry_after k (entries_at b q cells parts i n) ≡ some (entry_at b q cells parts (i + 12 * k))
   unfolding entries_at entry_after
@@ -120,10 +109,8 @@ module _ (b q : Bytes) (cells parts : List ℕ) where
   unfolding section_at
   section-count kind = entries-length b q cells parts (start_of kind + 1) (get_or parts (start_of kind) 0)
 
-  -- entry k of a section, by its numbers
-  pub section-entry : (kind k : ℕ) (e : Entry) → e ≡ numbers_at parts kind k → k < length (section_at b q cells parts kind)
-      → entry_after k (section_at b q cells parts kind) ≡ some (entry_of b q cells e)
-  unfolding section_at numbers_at entry_start
-  section-entry kind k e h l =
-      entries-after (start_of kind + 1) (get_or parts (start_of kind) 0) k (rw (section-count kind) at l)
-      ∙ ap some (entry-from _ ∙ ap (entry_of b q cells) (sym h))
+  -- entry k of a section
+  pub section-entry : (kind k : ℕ) → k < length (section_at b q cells parts kind)
+      → entry_after k (section_at b q cells parts kind) ≡ some (entry_at b q cells parts (entry_start kind k))
+  unfolding section_at entry_start
+  section-entry kind k l = entries-after (start_of kind + 1) (get_or parts (start_of kind) 0) k (rw (section-count kind) at l)

@@ -5,10 +5,9 @@ use Rattle.std.specs.Prelude.{◌≡◌, true, false, List, [], ◌∷◌, eqb, 
 use Rattle.std.proofs.Math.Path.{refl, ap}
 use borrow.Author.Tests.{eq-eqb, ne_eqb}
 use Rattle.rules.specs.Lists.{Bytes}
-use Rattle.rules.specs.Ast.{Expr, star, nil, cons, list_of}
+use Rattle.rules.specs.Ast.{Expr, Exprs, star, nil, cons, list_of}
 use Rattle.ast.specs.Table.{rows_at, arguments_at, tree_at}
 use Rattle.ast.specs.Operands.{arguments-none, arguments-more, tree-outside, tree-at}
-use Rattle.sections.specs.Access.{entry_of}
 use Rattle.sections.specs.declared.entry.Entry.{Entry}
 
 -- THE FIRST
@@ -33,13 +32,14 @@ module _ (e : Entry) where
 
   -- the expressions: none, or the tree at the first row and others
   module _ (b q : Bytes) (cells : List ℕ) where
-    pub exprs-none : e.expressions ≡ 0 → (entry_of b q cells e).exprs ≡ nil
-    unfolding entry_of
+    abbrev pub exprs_of : Exprs
+    exprs_of = arguments_at (tree_at b q cells) cells e.expressions e.row
+
+    pub exprs-none : e.expressions ≡ 0 → exprs_of ≡ nil
     exprs-none h = arguments-none (tree_at b q cells) cells e.expressions e.row (omega (arith, h))
 
-    pub exprs-some : (e.expressions ≡ 0 → ⊥) → (entry_of b q cells e).exprs ≡ cons (tree_at b q cells (first_row e))
+    pub exprs-some : (e.expressions ≡ 0 → ⊥) → exprs_of ≡ cons (tree_at b q cells (first_row e))
         (arguments_at (tree_at b q cells) cells (e.expressions - 1) (e.row + rows_at cells e.row))
-    unfolding entry_of
     exprs-some h = arguments-more (tree_at b q cells) cells e.expressions e.row (omega (arith, h))
         ∙ rw (first_some h)
 

@@ -31,7 +31,8 @@ use Rattle.numbers.specs.declared.refusals.Reason.TheVariants.{LimitPassed}
 use Rattle.numbers.specs.declared.refusals.Refusal as code
 use Rattle.numbers.specs.Reasons.{reason_of, told}
 use Rattle.read_expression.specs.declared.reading.Cursor.{Cursor}
-use Rattle.sections.specs.declared.EntryEnd.{EntryEnd}
+use Rattle.text.specs.declared.places.Place as places
+use Rattle.sections.specs.declared.Run.{Run}
 
 -- THE RULES
 module _ (kind fuel n : ℕ) (b : Option Bytes) (p : Place) where
@@ -99,32 +100,35 @@ pub record EntryEnds (t : Bytes) (p l c kind n : ℕ) (b : Option Bytes) (cells 
   pub parts_same : parts' ≡ parts
 
 -- what an answer says of the entry that may stand here
-unfoldable pub EntryRead : (t : Bytes) (p l c kind n last len : ℕ) (cells cells' parts parts' : List ℕ) (k : ℕ) → Result (std.Option EntryEnd) code.Refusal → Type 0
-EntryRead t p l c kind n last len cells cells' parts parts' k (Ok (Some e)) =
-    EntryTook t p l c kind n (last_name t last len) cells cells' parts parts' k e.behind.position e.behind.line e.behind.rows (last_name t e.address e.length)
-EntryRead t p l c kind n last len cells cells' parts parts' k (Ok None) = EntryEnds t p l c kind n (last_name t last len) cells cells' parts parts' k
-EntryRead t p l c kind n last len cells cells' parts parts' k (Err w) = (fuel : ℕ) → entries kind (suc fuel) n (last_name t last len) (here t p l c k) ≡ refused (told statement w)
+unfoldable pub EntryRead : (t : Bytes) (p l c kind n : ℕ) (last : std.Option places.Place) (cells cells' parts parts' : List ℕ) (k : ℕ) → Result (std.Option Run) code.Refusal → Type 0
+EntryRead t p l c kind n last cells cells' parts parts' k (Ok (Some e)) =
+    (e.count ≡ n + 1) × EntryTook t p l c kind n (last_name t last) cells cells' parts parts' k e.at.position e.at.line e.at.rows (last_name t e.last)
+EntryRead t p l c kind n last cells cells' parts parts' k (Ok None) = EntryEnds t p l c kind n (last_name t last) cells cells' parts parts' k
+EntryRead t p l c kind n last cells cells' parts parts' k (Err w) = (fuel : ℕ) → entries kind (suc fuel) n (last_name t last) (here t p l c k) ≡ refused (told statement w)
 
 -- the twelve numbers of the entry, by those of its record
 numbers_as : {t : Bytes} {kind : ℕ} {b : Option Bytes} {p : Place} {r : Head} (v : Entered t kind b p r) (l c : ℕ) → entry_numbers l c v.head ≡ l ∷ r.expressions ∷ c ∷ numbers_of r
 unfolding entry_numbers
 numbers_as {t} {kind} {b} {p} {r} v l c = ap (λ xs. l ∷ v.head.expressions ∷ c ∷ xs) v.numbers ∙ ap (λ n. l ∷ n ∷ c ∷ numbers_of r) (sym v.expressions)
 
-module _ {t : Bytes} {p l c kind n : ℕ} {cells parts : List ℕ} (w : EntryReady t p l c kind n cells parts) (last len : ℕ) {said : Result (std.Option Head) code.Refusal}
-    (h : (l' c' k : ℕ) → IsHead t kind (last_name t last len) l (here t p l' c' k) said) where
-  pub entry-end : said ≡ Ok None → (k : ℕ) → EntryRead t p l c kind n last len cells cells parts parts k (Ok None)
+entered-twelve : {t : Bytes} {kind : ℕ} {b : Option Bytes} {p : Place} {r : Head} (v : Entered t kind b p r) (l c : ℕ) → length (l ∷ r.expressions ∷ c ∷ numbers_of r) ≡ 12
+entered-twelve v l c = sym (ap length (numbers_as v l c)) ∙ entry-twelve l c v.head
+
+module _ {t : Bytes} {p l c kind n : ℕ} {cells parts : List ℕ} (w : EntryReady t p l c kind n cells parts) (last : std.Option places.Place) {said : Result (std.Option Head) code.Refusal}
+    (h : (l' c' k : ℕ) → IsHead t kind (last_name t last) l (here t p l' c' k) said) where
+  pub entry-end : said ≡ Ok None → (k : ℕ) → EntryRead t p l c kind n last cells cells parts parts k (Ok None)
   unfolding EntryRead
   entry-end e k = record { is = λ fuel. entries-end kind fuel n _ _ ((h l c k).missing e); cells_same = refl; parts_same = refl }
 
-  pub entry-wrong : (x : code.Refusal) → said ≡ Err x → (k : ℕ) → EntryRead t p l c kind n last len cells cells parts parts k (Err x)
+  pub entry-wrong : (x : code.Refusal) → said ≡ Err x → (k : ℕ) → EntryRead t p l c kind n last cells cells parts parts k (Err x)
   unfolding EntryRead reason_of stop place
   entry-wrong x e k fuel = let y = (h l c k).wrong x e in rw y.0 (entries-wrong kind fuel n _ _ y.1 y.2)
 
   module _ {r : Head} (z : said ≡ Ok (Some r)) where
-    entered : (k : ℕ) → Entered t kind (last_name t last len) (here t p l c k) r
+    entered : (k : ℕ) → Entered t kind (last_name t last) (here t p l c k) r
     entered k = (h l c k).entered r z
 
-    pub entry-limit : most_of kind ≤ n → (k : ℕ) → EntryRead t p l c kind n last len cells cells parts parts k (Err (record { reason = LimitPassed; line = l }))
+    pub entry-limit : most_of kind ≤ n → (k : ℕ) → EntryRead t p l c kind n last cells cells parts parts k (Err (record { reason = LimitPassed; line = l }))
     unfolding EntryRead reason_of stop place
     entry-limit m k fuel = let x = entered k in entries-limit kind fuel n _ _ x.stands x.head x.is m
 
@@ -147,7 +151,7 @@ module _ {t : Bytes} {p l c kind n : ℕ} {cells parts : List ℕ} (w : EntryRea
         read_as k x g = rw (entered k).expressions at g
 
         pub entry-refused : (x : code.Refusal) → ((k : ℕ) → Given (times r.expressions expression) (Rows t c cells cells') t e (l + 1) c k (Err x))
-            → (k : ℕ) → EntryRead t p l c kind n last len cells cells' parts parts k (Err x)
+            → (k : ℕ) → EntryRead t p l c kind n last cells cells' parts parts k (Err x)
         unfolding EntryRead Given
         entry-refused x g k fuel =
             let v = entered k in
@@ -168,30 +172,32 @@ module _ {t : Bytes} {p l c kind n : ℕ} {cells parts : List ℕ} (w : EntryRea
             u = v ∙ ap (λ j. sets parts j (l ∷ r.expressions ∷ c ∷ numbers_of r)) ei
 
             stored : (k : ℕ) → Stored parts' (entry_start kind n) (entry_numbers l c (entered k).head)
-            stored k = rw (u, numbers_as (entered k) l c) (stored-sets parts (entry_start kind n) (l ∷ r.expressions ∷ c ∷ numbers_of r) (entry-room w m refl))
+            stored k = rw (u, numbers_as (entered k) l c) (stored-sets parts (entry_start kind n) (l ∷ r.expressions ∷ c ∷ numbers_of r) (rw (entered-twelve (entered k) l c) (entry-room w m refl)))
 
-            pub entry-took : (k : ℕ) → EntryRead t p l c kind n last len cells cells' parts parts' k (Ok (Some (record { behind = q; address = r.a; length = r.b })))
+            pub entry-took : (k : ℕ) → EntryRead t p l c kind n last cells cells' parts parts' k (Ok (Some (record { at = q; count = n + 1; last = r.name })))
             unfolding EntryRead place
             entry-took k =
                 let d = entered k in
                 let x = took k in
                 let es = x.value in
-                let entry : Entry = record { line = l; head = d.head; exprs = es } in
-                record {
-                  value = entry;
-                  is = λ fuel. entries-on kind fuel n _ _ d.stands d.head d.is m es _ (ap (times d.head.expressions expression) (at_next k) ∙ x.is)
-                      ∙ ap (λ z. prefixed (entry ∷ []) (entries kind fuel (suc n) z (here t q.position q.line q.rows k))) (sym d.last);
-                  position = x.position;
-                  moved = omega (arith, moved, x.moved);
-                  more = x.more;
-                  few = m;
-                  stands = λ cells'' parts'' α β b.
-                      let f : Kept (entry_start kind n) (entry_start kind n + length (entry_numbers l c d.head)) parts' parts'' = rw (entry-twelve l c d.head, start-next) β in
-                      let z' = rows_back x.holds w.cells-room x.position.rows cells'' α b in
-                      let z = times-count d.head.expressions expression _ _ es x.is in
-                      entry-back b t cells'' parts'' (entry_start kind n) l c d.head (d.named b) (d.refers b)
-                      (stored-kept _ _ f (omega arith) (omega arith) (stored k)) es (ap (λ z. arguments_at (tree_at b t cells'') cells'' z c) (sym z)
-                      ∙ z');
-                  cells-kept = rows-kept x.holds;
-                  parts-kept = rw u (kept-sets-behind parts (entry_start kind n) (l ∷ r.expressions ∷ c ∷ numbers_of r) 0 (entry_start kind n) (omega arith));
-                }
+                let entry : Entry = record { line = l; head = d.head; exprs = es } in (
+                  refl,
+                  record {
+                    value = entry;
+                    is = λ fuel. entries-on kind fuel n _ _ d.stands d.head d.is m es _ (ap (times d.head.expressions expression) (at_next k) ∙ x.is)
+                        ∙ ap (λ z. prefixed (entry ∷ []) (entries kind fuel (suc n) z (here t q.position q.line q.rows k))) (sym d.last);
+                    position = x.position;
+                    moved = omega (arith, moved, x.moved);
+                    more = x.more;
+                    few = m;
+                    stands = λ cells'' parts'' α β b.
+                        let f : Kept (entry_start kind n) (entry_start kind n + length (entry_numbers l c d.head)) parts' parts'' = rw (entry-twelve l c d.head, start-next) β in
+                        let z' = rows_back x.holds w.cells-room x.position.rows cells'' α b in
+                        let z = times-count d.head.expressions expression _ _ es x.is in
+                        entry-back b t cells'' parts'' (entry_start kind n) l c d.head (d.named b) (d.refers b)
+                        (stored-kept _ _ f (omega arith) (omega arith) (stored k)) es (ap (λ z. arguments_at (tree_at b t cells'') cells'' z c) (sym z)
+                        ∙ z');
+                    cells-kept = rows-kept x.holds;
+                    parts-kept = rw u (kept-sets-behind parts (entry_start kind n) (l ∷ r.expressions ∷ c ∷ numbers_of r) 0 (entry_start kind n) (omega arith));
+                  },
+                )

@@ -3,6 +3,7 @@ use Prim.Native.Nat.{ℕ, suc, ◌+◌, ◌*◌, ◌-◌, ◌≤◌, ◌<◌}
 use native.Mathlib.Omega.{arith}
 use Rattle.std.proofs.Common.{add-one, ◌∙◌}
 use Rattle.std.specs.Prelude.{◌≡◌, refl, true, false, set, Ok, Err, Some, None}
+use Rattle.std.specs.Prelude as std
 use Rattle.std.proofs.Math.Path.{sym, ap}
 use mathlib.Core.List.{List, [], ◌∷◌, ◌++◌, append-nil}
 use Rattle.std.proofs.Math.Option.{Option, none}
@@ -24,7 +25,8 @@ use Rattle.ast.specs.Table.{row_size, table_size}
 use Rattle.sections.specs.Store.{entries-more}
 use Rattle.sections.specs.OneEntry.{entry_start, EntryReady, EntryTook, EntryRead}
 use Rattle.numbers.specs.declared.refusals.Refusal as code
-use Rattle.sections.specs.declared.EntryEnd.{EntryEnd}
+use Rattle.text.specs.declared.places.Place as places
+use Rattle.sections.specs.declared.Run.{Run}
 
 -- the turns that the rules take from p on
 unfoldable pub turns_at : Bytes → ℕ → ℕ → ℕ
@@ -114,13 +116,13 @@ module _ {t : Bytes} {p₀ c₀ kind : ℕ} {cells₀ parts₀ : List ℕ} {p l 
 
 -- THE LOOP
 -- n entries are read from p₀ on, the last one with this name, and the next may stand at p
-pub record SectionLoop (t : Bytes) (p₀ l₀ c₀ kind : ℕ) (cells₀ parts₀ : List ℕ) (k p l c n last len : ℕ) (cells parts : List ℕ) : Type 0 where
+pub record SectionLoop (t : Bytes) (p₀ l₀ c₀ kind : ℕ) (cells₀ parts₀ : List ℕ) (k p l c n : ℕ) (last : std.Option places.Place) (cells parts : List ℕ) : Type 0 where
   pub value : List Entry
   pub read : EntriesRead t p₀ c₀ kind cells₀ parts₀ p l c n cells parts value
-  pub is : prefixed value (entries kind (turns_at t kind p₀ - n) n (last_name t last len) (here t p l c k)) ≡ section kind (here t p₀ l₀ c₀ k)
+  pub is : prefixed value (entries kind (turns_at t kind p₀ - n) n (last_name t last) (here t p l c k)) ≡ section kind (here t p₀ l₀ c₀ k)
   pub turn : n < turns_at t kind p₀
 
-pub section-begin : (t : Bytes) (p l c kind : ℕ) (cells parts : List ℕ) → Position t p l c → (k : ℕ) → SectionLoop t p l c kind cells parts k p l c 0 0 0 cells parts
+pub section-begin : (t : Bytes) (p l c kind : ℕ) (cells parts : List ℕ) → Position t p l c → (k : ℕ) → SectionLoop t p l c kind cells parts k p l c 0 None cells parts
 unfolding turns_at last_name
 section-begin t p l c kind cells parts w k =
     let z : turns_at t kind p - 0 ≡ turns_at t kind p = omega arith in
@@ -131,8 +133,8 @@ section-begin t p l c kind cells parts w k =
       turn = turns-some kind (length t - p);
     }
 
-module _ {t : Bytes} {p₀ l₀ c₀ kind : ℕ} {cells₀ parts₀ : List ℕ} {p l c n last len : ℕ} {cells parts : List ℕ}
-    (h : (k : ℕ) → SectionLoop t p₀ l₀ c₀ kind cells₀ parts₀ k p l c n last len cells parts) where
+module _ {t : Bytes} {p₀ l₀ c₀ kind : ℕ} {cells₀ parts₀ : List ℕ} {p l c n : ℕ} {last : std.Option places.Place} {cells parts : List ℕ}
+    (h : (k : ℕ) → SectionLoop t p₀ l₀ c₀ kind cells₀ parts₀ k p l c n last cells parts) where
   pub section-ready : kind ≤ 11 → length cells ≡ table_size → length parts ≡ numbers
       → EntryReady t p l c kind n cells parts
   section-ready g a b = record { position = (h 0).read.position; kinds = g; most = (h 0).read.most; cells-room = a; parts-room = b }
@@ -140,18 +142,18 @@ module _ {t : Bytes} {p₀ l₀ c₀ kind : ℕ} {cells₀ parts₀ : List ℕ} 
   left : turns_at t kind p₀ - n ≡ suc (turns_at t kind p₀ - (n + 1))
   left = omega (arith, (h 0).turn)
 
-  rest : (k : ℕ) → prefixed (h k).value (entries kind (suc (turns_at t kind p₀ - (n + 1))) n (last_name t last len) (here t p l c k)) ≡ section kind (here t p₀ l₀ c₀ k)
+  rest : (k : ℕ) → prefixed (h k).value (entries kind (suc (turns_at t kind p₀ - (n + 1))) n (last_name t last) (here t p l c k)) ≡ section kind (here t p₀ l₀ c₀ k)
   rest k = rw left at (h k).is
 
   module _ (cells' parts' : List ℕ) where
-    pub section-refused : (w : code.Refusal) → ((k : ℕ) → EntryRead t p l c kind n last len cells cells' parts parts' k (Err w))
+    pub section-refused : (w : code.Refusal) → ((k : ℕ) → EntryRead t p l c kind n last cells cells' parts parts' k (Err w))
         → (k : ℕ) → Given (section kind) (SectionRead t kind c₀ cells₀ cells' parts₀ parts') t p₀ l₀ c₀ k (Err w)
     unfolding Given EntryRead prefixed
     section-refused w g k = sym (rw (g k (turns_at t kind p₀ - (n + 1))) at (rest k))
 
     -- no entry stands there: their number is stored
     pub section-end : kind ≤ 11 → length parts' ≡ numbers → {s : ℕ} → s ≡ start_of kind
-        → ((k : ℕ) → EntryRead t p l c kind n last len cells cells' parts parts' k (Ok None))
+        → ((k : ℕ) → EntryRead t p l c kind n last cells cells' parts parts' k (Ok None))
         → (k : ℕ) → Given (section kind) (SectionRead t kind c₀ cells₀ cells' parts₀ (set parts' s n)) t p₀ l₀ c₀ k (Ok (record { position = p; line = l; rows = c }))
     unfolding Given EntryRead prefixed
     section-end m f z g k =
@@ -159,37 +161,40 @@ module _ {t : Bytes} {p₀ l₀ c₀ kind : ℕ} {cells₀ parts₀ : List ℕ} 
         let y : ok ((h k).value ++ [], here t p l c k) ≡ section kind (here t p₀ l₀ c₀ k) = (rw (x.is (turns_at t kind p₀ - (n + 1))) at (rest k)) in
         rw (x.cells_same, x.parts_same) (all_read (h k).read (sym y ∙ ap (λ v. ok (v, here t p l c k)) (append-nil (h k).value)) m (ap length (sym x.parts_same) ∙ f) z)
 
-    module _ (e : EntryEnd) (g : (k : ℕ) → EntryRead t p l c kind n last len cells cells' parts parts' k (Ok (Some e))) where
-      took : (k : ℕ) → EntryTook t p l c kind n (last_name t last len) cells cells' parts parts' k e.behind.position e.behind.line e.behind.rows (last_name t e.address e.length)
+    module _ (e : Run) (g : (k : ℕ) → EntryRead t p l c kind n last cells cells' parts parts' k (Ok (Some e))) where
+      took : (k : ℕ) → EntryTook t p l c kind n (last_name t last) cells cells' parts parts' k e.at.position e.at.line e.at.rows (last_name t e.last)
       unfolding EntryRead
-      took k = g k
+      took k = (g k).1
 
-      pub entry-moved : (p < e.behind.position) × (e.behind.position ≤ length t) × (n < most_of kind)
-      entry-moved = ((took 0).moved, (took 0).position.within, (took 0).few)
+      counted : e.count ≡ n + 1
+      unfolding EntryRead
+      counted = (g 0).0
 
-      behind : (k : ℕ) → prefixed ((h k).value ++ ((took k).value ∷ [])) (entries kind (turns_at t kind p₀ - (n + 1)) (n + 1) (last_name t e.address e.length) (here t e.behind.position e.behind.line e.behind.rows k)) ≡ section kind (here t p₀ l₀ c₀ k)
+      pub entry-moved : (p < e.at.position) × (e.at.position ≤ length t)
+      entry-moved = ((took 0).moved, (took 0).position.within)
+
+      behind : (k : ℕ) → prefixed ((h k).value ++ ((took k).value ∷ [])) (entries kind (turns_at t kind p₀ - (n + 1)) (n + 1) (last_name t e.last) (here t e.at.position e.at.line e.at.rows k)) ≡ section kind (here t p₀ l₀ c₀ k)
       behind k =
           let x = rw ((took k).is (turns_at t kind p₀ - (n + 1)), ← add-one n) at (rest k) in
-          sym (prefixed-twice (h k).value ((took k).value ∷ []) (entries kind (turns_at t kind p₀ - (n + 1)) (n + 1) (last_name t e.address e.length) (here t e.behind.position e.behind.line e.behind.rows k))) ∙ x
+          sym (prefixed-twice (h k).value ((took k).value ∷ []) (entries kind (turns_at t kind p₀ - (n + 1)) (n + 1) (last_name t e.last) (here t e.at.position e.at.line e.at.rows k))) ∙ x
 
       -- a clause has one entry
       pub section-once : is_once kind ≡ true → kind ≤ 11 → length parts' ≡ numbers → {s : ℕ} → s ≡ start_of kind
-          → (k : ℕ) → Given (section kind) (SectionRead t kind c₀ cells₀ cells' parts₀ (set parts' s (n + 1))) t p₀ l₀ c₀ k (Ok e.behind)
+          → (k : ℕ) → Given (section kind) (SectionRead t kind c₀ cells₀ cells' parts₀ (set parts' s e.count)) t p₀ l₀ c₀ k (Ok e.at)
       unfolding Given turns_at prefixed entries give
       section-once o m f z k =
           let xs = (h k).value ++ ((took k).value ∷ []) in
           let u : turns_at t kind p₀ ≡ 1 = turns-once kind (length t - p₀) o in
           let v : turns_at t kind p₀ - (n + 1) ≡ 0 = omega (arith, u) in
-          let y : ok (xs ++ [], here t e.behind.position e.behind.line e.behind.rows k) ≡ section kind (here t p₀ l₀ c₀ k) = (rw v at (behind k)) in
-          all_read (one-read (h k).read (took k)) (sym y ∙ ap (λ w. ok (w, here t e.behind.position e.behind.line e.behind.rows k)) (append-nil xs)) m f z
+          let y : ok (xs ++ [], here t e.at.position e.at.line e.at.rows k) ≡ section kind (here t p₀ l₀ c₀ k) = (rw v at (behind k)) in
+          rw counted (all_read (one-read (h k).read (took k)) (sym y ∙ ap (λ w. ok (w, here t e.at.position e.at.line e.at.rows k)) (append-nil xs)) m f z)
 
-      pub section-on : is_once kind ≡ false → (k : ℕ) → SectionLoop t p₀ l₀ c₀ kind cells₀ parts₀ k e.behind.position e.behind.line e.behind.rows (n + 1) e.address e.length cells' parts'
+      pub section-on : is_once kind ≡ false → (k : ℕ) → SectionLoop t p₀ l₀ c₀ kind cells₀ parts₀ k e.at.position e.at.line e.at.rows e.count e.last cells' parts'
       unfolding turns_at
-      section-on o k =
-          let u : turns_at t kind p₀ ≡ suc (length t - p₀) = turns_more kind (length t - p₀) o in
-          record {
-            value = (h k).value ++ ((took k).value ∷ []);
-            read = one-read (h k).read (took k);
-            is = behind k;
-            turn = omega (arith, u, (h 0).read.moved, (took 0).moved, (took 0).position.within);
-          }
+      section-on o k = rw counted (record {
+        value = (h k).value ++ ((took k).value ∷ []);
+        read = one-read (h k).read (took k);
+        is = behind k;
+        turn = let u : turns_at t kind p₀ ≡ suc (length t - p₀) = turns_more kind (length t - p₀) o in
+            omega (arith, u, (h 0).read.moved, (took 0).moved, (took 0).position.within);
+      })

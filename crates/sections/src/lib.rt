@@ -6,32 +6,34 @@ pub mod entry;
 ghost use Rattle.std.specs.Prelude.{◌≡◌, [], ◌∷◌, ℕ, ◌+◌, ◌≤◌, ◌<◌, ◌^◌, length};
 ghost use Rattle.std.proofs.lemmas.List.Edits.{sets};
 ghost use Rattle.read_expression.specs.Reading.{Position, Given};
-ghost use Rattle.entries.specs.Entries.{most_of, is_once, section, some_section};
+ghost use Rattle.numbers.specs.Options.{option_of};
+ghost use Rattle.entries.specs.Entries.{most_of, null_number, is_once, section, some_section};
 ghost use Rattle.entries.specs.Sections.{number_of};
 ghost use Rattle.sections.specs.Layout.{start_of};
 ghost use Rattle.sections.specs.Terms.{SectionRead};
-ghost use Rattle.entries.specs.Heads.{numbers_of};
+ghost use Rattle.entries.specs.Heads.{words_numbers, numbers_of};
 ghost use Rattle.sections.specs.OneEntry.{entry_start, EntryReady, EntryRead};
 ghost use Rattle.ast.specs.Table.{table_size};
 
-use entries::{Head, Section, entry_head};
+use entries::{Head, Section, Words, entry_head};
 use numbers::put_four;
 use numbers::refusals::{Reason, Refusal};
 use read_expression::reading::{Cursor, read_expressions};
+use text::places::Place;
 
-// How many numbers an entry has.
+// How many numbers an entry has: the parts are lent zeroed (reader_read_texts), and 0 is no kind and no type, so entries stay numbers.
 const ENTRY_SIZE: usize = 12;
 
-// Behind an entry that was read: where reading stands, and the address and the length of the entry's name.
-#[derive(Clone, Copy)]
-struct EntryEnd {
-    behind: Cursor,
-    address: u32,
-    length: u32,
+// Where reading a section stands, behind how many entries, and the name of the last one.
+#[derive(Clone, Copy, Debug, PartialEq, Eq)]
+struct Run {
+    at: Cursor,
+    count: u32,
+    last: Option<Place>,
 }
 
 // Where a section starts in the parts, and the most entries that it has.
-#[derive(Clone, Copy)]
+#[derive(Clone, Copy, Debug, PartialEq, Eq)]
 struct Room {
     start: usize,
     most: u32,
@@ -72,37 +74,86 @@ fn entry_start(kind: Section, n: u32) -> usize
     start + 1 + ENTRY_SIZE * (n as usize)
 }
 
+// 0 where nothing is said of nulls, 1 where they are allowed, 2 where they are not.
+#[tactic(auto, unfolding(entries::specs::Entries::null_number))]
+fn null_number(nullable: Option<bool>) -> u32
+    ensures { result ≡ null_number (option_of nullable) }
+{
+    match nullable {
+        None => 0,
+        Some(true) => 1,
+        Some(false) => 2,
+    }
+}
+
+// The length of an entry's name, and what else its record says, in eight places from i on.
+fn put_words(parts: &mut [u32], i: usize, name_length: u32, words: Words)
+    requires { i + 8 ≤ length parts.old }
+    ensures { parts.new ≡ sets parts.old i (name_length ∷ words_numbers words) }
+{
+    match words {
+        Words::Nothing => {
+            put_four(parts, i, name_length, 0, 0, 0);
+            put_four(parts, i + 4, 0, 0, 0, 0);
+        }
+        Words::Descends(descends) => {
+            put_four(parts, i, name_length, u32::from(descends), 0, 0);
+            put_four(parts, i + 4, 0, 0, 0, 0);
+        }
+        Words::Column(column) => {
+            let datatype = u32::from(column.datatype);
+            let nullable = null_number(column.nullable);
+            put_four(
+                parts,
+                i,
+                name_length,
+                datatype,
+                u32::from(column.key),
+                nullable,
+            );
+            let (reference, extent) = Place::numbers(column.reference);
+            let unique = u32::from(column.unique);
+            put_four(
+                parts,
+                i + 4,
+                unique,
+                u32::from(column.index),
+                reference,
+                extent,
+            );
+        }
+    }
+}
+
 // The numbers of an entry, from i on: its line, the row of its first expression, and what its record says.
 fn put_entry(parts: &mut [u32], i: usize, line: u32, row: u32, h: Head)
     requires { i + 12 ≤ length parts.old }
     ensures { parts.new ≡ sets parts.old i (line ∷ h.expressions ∷ row ∷ numbers_of h) }
 {
-    put_four(parts, i, line, h.expressions, row, h.a);
-    put_four(parts, i + 4, h.b, h.code, h.key, h.nullable);
-    put_four(parts, i + 8, h.unique, h.index, h.c, h.d);
+    let (address, length) = Place::numbers(h.name);
+    put_four(parts, i, line, h.expressions, row, address);
+    put_words(parts, i + 4, length, h.words);
 }
 
-// The entry that stands here, if one does, behind n of them, the last one with this name.
+// The entry that stands here, if one does, behind those of a run.
 fn read_entry(
     t: &[u8],
-    at: Cursor,
+    run: Run,
     kind: Section,
-    n: u32,
-    last: u32,
-    len: u32,
     cells: &mut [u32],
     parts: &mut [u32],
-) -> Result<Option<EntryEnd>, Refusal>
-    requires { EntryReady t.now at.position at.line at.rows (number_of kind) n cells.old parts.old }
-    ensures { (k : ℕ) → EntryRead t.now at.position at.line at.rows (number_of kind) n last len cells.old cells.new
-        parts.old parts.new k result }
+) -> Result<Option<Run>, Refusal>
+    requires { EntryReady t.now run.at.position run.at.line run.at.rows (number_of kind) run.count cells.old parts.old }
+    ensures { (k : ℕ) → EntryRead t.now run.at.position run.at.line run.at.rows (number_of kind) run.count run.last
+        cells.old cells.new parts.old parts.new k result }
 {
+    let at = run.at;
     let f = text::fields(t, at.position);
-    let Some(h) = entry_head(t, at, f, kind, last, len)? else {
+    let Some(h) = entry_head(t, at, f, kind, run.last)? else {
         return Ok(None);
     };
     let most = room_of(kind).most;
-    if most <= n {
+    if most <= run.count {
         return Err(Reason::LimitPassed.at(at.line));
     }
     let first = Cursor {
@@ -111,12 +162,12 @@ fn read_entry(
         rows: at.rows,
     };
     let behind = read_expressions(t, first, h.expressions, cells)?;
-    let i = entry_start(kind, n);
+    let i = entry_start(kind, run.count);
     put_entry(parts, i, at.line, at.rows, h);
-    Ok(Some(EntryEnd {
-        behind,
-        address: h.a,
-        length: h.b,
+    Ok(Some(Run {
+        at: behind,
+        count: run.count + 1,
+        last: h.name,
     }))
 }
 
@@ -135,22 +186,20 @@ pub fn read_section(
 {
     let once = is_once(kind);
     let start = room_of(kind).start;
-    let mut behind = at;
-    let mut n: u32 = 0;
-    let mut last: u32 = 0;
-    let mut len: u32 = 0;
-    while let Some(e) = read_entry(t, behind, kind, n, last, len, cells, parts)? {
-        n += 1;
+    let mut run = Run {
+        at,
+        count: 0,
+        last: None,
+    };
+    while let Some(next) = read_entry(t, run, kind, cells, parts)? {
         if once {
-            parts[start] = n;
-            return Ok(e.behind);
+            parts[start] = next.count;
+            return Ok(next.at);
         }
-        behind = e.behind;
-        last = e.address;
-        len = e.length;
+        run = next;
     }
-    parts[start] = n;
-    Ok(behind)
+    parts[start] = run.count;
+    Ok(run.at)
 }
 
 // The same, with one entry at least.

@@ -9,20 +9,21 @@ use Rattle.appends.specs.From.Laid.{stage_of}
 use Rattle.numbers.specs.declared.refusals.Refusal.{Refusal}
 use Rattle.ast.specs.Table.{tree_at}
 use Rattle.scope.specs.Scopes.{scope_of, Valid}
+use Rattle.plan.specs.Pushed.{Kept}
+use Rattle.plan.specs.declared.nodes.Nodes.{Nodes}
 use Rattle.plan.specs.Steps.{Taken, StoppedWith}
 use Rattle.stage.specs.declared.Stage.{Stage}
 
 -- accepted: the scope that is left, and what is appended
-pub record Accepted (c q : Bytes) (cells : List ℕ) (a : Node Built → Answer rules.Stage) (n m k : ℕ) (area nodes : List ℕ)
-    (area' nodes' : List ℕ) (x : Stage) : Type 0 where
+pub record Accepted (c q : Bytes) (cells : List ℕ) (a : Node Built → Answer rules.Stage) (n m : ℕ) (area : List ℕ) (s : Nodes)
+    (area' : List ℕ) (t : Nodes) (x : Stage) : Type 0 where
   pub valid : Valid x.scope
   pub hidden : x.scope.hidden ≤ x.scope.width
-  pub taken : Taken (λ d. stage_of d (scope_of (tree_at c q cells) c q x.scope)) a n m k area nodes x.cell x.node
-      x.used area' nodes'
+  pub taken : Taken (λ d. stage_of d (scope_of (tree_at c q cells) c q x.scope)) a n m area s x.at.cell x.at.node area' t
 
--- the clause a behind n cells, m nodes and k numbers of the nodes
-pub record StageBuilt (c q : Bytes) (cells : List ℕ) (a : Node Built → Answer rules.Stage) (n m k : ℕ)
-    (area nodes area' nodes' : List ℕ) (r : Result Stage Refusal) : Type 0 where
+-- the clause a behind n cells, m nodes and the numbers of s
+pub record StageBuilt (c q : Bytes) (cells : List ℕ) (a : Node Built → Answer rules.Stage) (n m : ℕ) (area : List ℕ) (s : Nodes)
+    (area' : List ℕ) (t : Nodes) (r : Result Stage Refusal) : Type 0 where
   pub kept : length area' ≡ length area
-  pub kept-nodes : length nodes' ≡ length nodes
-  pub is : MatchResult r (Accepted c q cells a n m k area nodes area' nodes') (StoppedWith a n m)
+  pub kept-nodes : Kept s t
+  pub is : MatchResult r (Accepted c q cells a n m area s area' t) (StoppedWith a n m)

@@ -1,5 +1,6 @@
 -- A statement as it was read, by its kind: its own numbers by name, and its sections.
 use Rattle.std.specs.Prelude.{ℕ, suc, ◌≤◌, ◌≡◌, List, [], ◌∷◌, get_or}
+use Rattle.std.specs.Prelude as std
 use Rattle.std.proofs.Common.{arith, ap, ◌∙◌}
 use Rattle.std.proofs.Math.Decide.{dec_lt}
 use Rattle.std.proofs.Math.Path.{sym}
@@ -11,6 +12,7 @@ use Rattle.rules.specs.Ast as Ast
 use Rattle.numbers.specs.Codes.{coded}
 use Rattle.numbers.specs.Values.{is_one}
 use Rattle.numbers.specs.Codes.{coded-map, coded-below, coded-above}
+use Rattle.text.specs.declared.places.Place.{Place}
 use Rattle.entries.specs.Entries.{Entry}
 use Rattle.sections.specs.Layout.{section_at}
 use Rattle.sections.specs.Access.{item_kind, where_kind, group_kind, having_kind, order_kind, offset_kind, limit_kind}
@@ -19,6 +21,11 @@ use Rattle.from.specs.Layout.{froms_at}
 use Rattle.statement.specs.Layout.{select_of, insert_of, update_of, delete_of, create_of, statement_at}
 use Rattle.statement.specs.declared.access.Kind.{Kind}
 use Rattle.statement.specs.declared.access.Kind.TheVariants as K
+
+-- the place of a name that has to be there; of no bytes where there is none
+unfoldable pub name_or : std.Option Place → Place
+name_or std.None = record { address = 0; length = 0 }
+name_or (std.Some p) = p
 
 -- NUMBERS
 module _ (parts : List ℕ) where

@@ -1,9 +1,8 @@
 -- What the entries of a statement stand for, by their numbers (crate sections): the k-th item, group, order key, name, row, set or
 -- column, and a clause.
-use Rattle.std.specs.Prelude.{ℕ, zero, suc, ◌≤◌, ◌<◌, ◌≡◌, Bool, List, [], ◌∷◌, length, get_or, drop}
+use Rattle.std.specs.Prelude.{ℕ, zero, suc, ◌+◌, ◌≤◌, ◌<◌, ◌≡◌, Bool, List, [], ◌∷◌, length, get_or, drop}
 use Rattle.std.specs.Prelude as std
 use Rattle.std.proofs.Common.{arith, ◌∙◌}
-use Rattle.std.proofs.Math.Decide.{dec_lt}
 use Rattle.std.proofs.Math.Path.{refl, sym, ap}
 use Rattle.std.proofs.Math.Bool.{true, false}
 use Rattle.std.proofs.Math.Option.{Option, none, some}
@@ -12,70 +11,34 @@ use borrow.Author.Tests.{eqb-true, eqb-false, eq-eqb, ne_eqb}
 use Rattle.rules.specs.Lists.{Bytes, entry_after, map_option, or_else}
 use Rattle.rules.specs.Lines.{Word}
 use Rattle.rules.specs.Places.{bytes_at, word_at}
-use Rattle.rules.specs.Schema.{string}
 use Rattle.rules.specs.Ast.{Expr, Clause, list_of}
 use Rattle.ast.specs.Table.{arguments_at, tree_at}
-use Rattle.numbers.specs.Values.{is_one}
-use Rattle.ast.specs.Names.{name_at}
-use Rattle.numbers.specs.Codes.{coded-at, coded-below, coded-above}
+use Rattle.ast.specs.Names.{name_at, option_name, name-place}
+use Rattle.numbers.specs.Codes.{coded-map}
+use Rattle.numbers.specs.Options.{option_of}
+use Rattle.numbers.specs.Datatypes.{type_of, datatype-type}
+use Rattle.text.specs.Places.{place_of}
 use Rattle.entries.specs.Entries as E
-use Rattle.sections.specs.Layout.{start_of, section_at}
-use Rattle.sections.specs.Access.{numbers_at, entry_of, after-drop, section-count, section-entry}
-use Rattle.sections.specs.Expressions.{outside_row, first_row, star-outside, first-none, exprs-none, exprs-some}
+use Rattle.sections.specs.Layout.{start_of, head_at, entry_at, section_at}
+use Rattle.sections.specs.OneEntry.{entry_start}
+use Rattle.sections.specs.Access.{null_of, column_from, numbers_from, numbers_at, after-drop, section-count, section-entry}
+use Rattle.sections.specs.Expressions.{outside_row, first_row, star-outside, first-none, exprs_of, exprs-none, exprs-some}
 use Rattle.sections.specs.declared.entry.Entry.{Entry}
+use Rattle.statement.specs.Access.{name_or}
 use Rattle.statement.specs.Layout.{first_or, first_of, word_or, map_entries, to_item, to_group, to_key, to_clause}
 use Rattle.statement.specs.Layout.{to_named, to_names, to_row, to_set, to_null, to_column}
-use Rattle.numbers.specs.Values.{type_at}
 use Rattle.statement.specs.declared.access.Clause as Cl
 
 -- NAMES
--- a name that may be missing: there is none where the length is 0
-pub name-none : (b q : Bytes) (a n : ℕ) → n ≡ 0 → name_at b q a n ≡ none
-unfolding name_at
-name-none b q a zero h = refl
-name-none b q a (suc n) h = absurd (omega arith)
-
-pub name-some : (b q : Bytes) (a n : ℕ) → (n ≡ 0 → ⊥) → name_at b q a n ≡ some (word_at b q a n)
-unfolding name_at
-name-some b q a zero h = absurd (h refl)
-name-some b q a (suc n) h = refl
-
--- the address of an entry's name, 0 where it has none
-unfoldable pub name_start : Entry → ℕ
-name_start e = elim (eqb e.length 0) [ true ↦ 0 | false ↦ e.address ]
-
-pub start_none : (e : Entry) → e.length ≡ 0 → name_start e ≡ 0
-unfolding name_start
-start_none e h = rw (name_start, eq-eqb e.length 0 h)
-
-pub start-some : (e : Entry) → (e.length ≡ 0 → ⊥) → name_start e ≡ e.address
-unfolding name_start
-start-some e h = rw (name_start, ne_eqb e.length 0 h)
-
 -- an entry's name where it has to have one
 abbrev pub word_of : Bytes → Bytes → Entry → Word
-word_of b q e = word_at b q (name_start e) e.length
+word_of b q e = word_at b q (name_or e.name).address (name_or e.name).length
 
-word_none : (b q : Bytes) → word_or none ≡ word_at b q 0 0
-unfolding word_or or_else word_at bytes_at
-word_none b q = refl
-
-word_some : (w : Word) → word_or (some w) ≡ w
-unfolding word_or or_else
-word_some w = refl
-
-module _ (b q : Bytes) (e : Entry) where
-  word-or : word_or (name_at b q e.address e.length) ≡ word_of b q e
-  word-or = go (eqb e.length 0) refl
-    where
-      go : (t : Bool) → eqb e.length 0 ≡ t → word_or (name_at b q e.address e.length) ≡ word_of b q e
-      go true h =
-          let z = eqb-true e.length 0 h in
-          ap word_or (name-none b q e.address e.length z) ∙ word_none b q
-          ∙ rw (start_none e z, z)
-      go false h =
-          let z = eqb-false e.length 0 h in
-          ap word_or (name-some b q e.address e.length z) ∙ word_some _ ∙ rw (start-some e z)
+module _ (b q : Bytes) where
+  word-or : (a n : ℕ) → word_or (name_at b q a n) ≡ word_at b q (name_or (place_of a n)).address (name_or (place_of a n)).length
+  unfolding word_or or_else name_at place_of name_or word_at bytes_at
+  word-or a zero = refl
+  word-or a (suc n) = refl
 
 -- EXPRESSIONS
 module _ (b q : Bytes) (cells : List ℕ) where
@@ -91,11 +54,11 @@ module _ (b q : Bytes) (cells : List ℕ) where
   unfolding given_of
   given-some e h = rw (given_of, ne_eqb e.expressions 0 h)
 
-  first-given : (e : Entry) → first_of (entry_of b q cells e).exprs ≡ given_of e
+  first-given : (e : Entry) → first_of (exprs_of e b q cells) ≡ given_of e
   unfolding first_of
   first-given e = go (eqb e.expressions 0) refl
     where
-      go : (t : Bool) → eqb e.expressions 0 ≡ t → first_of (entry_of b q cells e).exprs ≡ given_of e
+      go : (t : Bool) → eqb e.expressions 0 ≡ t → first_of (exprs_of e b q cells) ≡ given_of e
       go true h =
           let z = eqb-true e.expressions 0 h in
           ap first_of (exprs-none e b q cells z) ∙ sym (given-none e z)
@@ -105,17 +68,22 @@ module _ (b q : Bytes) (cells : List ℕ) where
 
   -- the first expression is the tree at its row, and a star where there is none
   pub first-tree : length cells ≤ outside_row → (e : Entry)
-      → first_or (entry_of b q cells e).exprs ≡ tree_at b q cells (first_row e)
+      → first_or (exprs_of e b q cells) ≡ tree_at b q cells (first_row e)
   unfolding first_or
   first-tree l e = go (eqb e.expressions 0) refl
     where
       go : (t : Bool) → eqb e.expressions 0 ≡ t
-          → first_or (entry_of b q cells e).exprs ≡ tree_at b q cells (first_row e)
+          → first_or (exprs_of e b q cells) ≡ tree_at b q cells (first_row e)
       go true h =
           let z = eqb-true e.expressions 0 h in
           ap first_or (exprs-none e b q cells z)
           ∙ sym (ap (tree_at b q cells) (first-none e z) ∙ star-outside b q cells outside_row l)
       go false h = ap first_or (exprs-some e b q cells (eqb-false e.expressions 0 h))
+
+-- NULLS
+null-is : (k : ℕ) → to_null k ≡ option_of (null_of k)
+unfolding to_null null_of
+null-is k = sym (coded-map (λ (o : std.Option Bool). option_of o) std.None _ 1 k)
 
 -- ENTRIES
 map-after : {A : Type 0} (f : E.Entry → A) (k : ℕ) (xs : List E.Entry) (x : E.Entry) → entry_after k xs ≡ some x
@@ -130,60 +98,114 @@ unfolding map_entries
 map-length f [] = refl
 map-length f (x ∷ xs) = ap suc (map-length f xs)
 
--- entry k of a section, by its numbers e
+-- what the entry with the numbers from i on stands for
+module _ (b q : Bytes) (cells parts : List ℕ) (i : ℕ) where
+  abbrev here : E.Entry
+  here = entry_at b q cells parts i
+
+  abbrev e : Entry
+  e = numbers_from parts i
+
+  named-from : to_named here ≡ record { line = e.line; name = word_of b q e }
+  unfolding to_named entry_at head_at numbers_from
+  named-from = rw (word-or b q (get_or parts (i + 3) 0) (get_or parts (i + 4) 0))
+
+  row-from : to_row here ≡ list_of (exprs_of e b q cells)
+  unfolding to_row entry_at numbers_from
+  row-from = refl
+
+  set-from : to_set here ≡ record { line = e.line; name = word_of b q e; value = given_of b q cells e }
+  unfolding to_set entry_at head_at numbers_from
+  set-from = rw (word-or b q (get_or parts (i + 3) 0) (get_or parts (i + 4) 0), ← first-given b q cells (numbers_from parts i))
+
+  column-from : to_column here ≡ record {
+    line = e.line;
+    name = word_of b q e;
+    type = type_of e.column.datatype;
+    key = e.column.key;
+    nullable = option_of e.column.nullable;
+    unique = e.column.unique;
+    index = e.column.index;
+    default = given_of b q cells e;
+    reference = option_name b q e.column.reference;
+  }
+  unfolding to_column entry_at head_at numbers_from column_from
+  column-from =
+      rw (
+        word-or b q (get_or parts (i + 3) 0) (get_or parts (i + 4) 0),
+        ← first-given b q cells (numbers_from parts i),
+        datatype-type (get_or parts (i + 5) 0),
+        null-is (get_or parts (i + 7) 0),
+        name-place b q (get_or parts (i + 10) 0) (get_or parts (i + 11) 0),
+      )
+
+  module _ (s : length cells ≤ outside_row) where
+    item-from : to_item here ≡ record { line = e.line; expr = tree_at b q cells (first_row e); alias = option_name b q e.name }
+    unfolding to_item entry_at head_at numbers_from
+    item-from = rw (name-place b q (get_or parts (i + 3) 0) (get_or parts (i + 4) 0), ← first-tree b q cells s (numbers_from parts i))
+
+    group-from : to_group here ≡ tree_at b q cells (first_row e)
+    unfolding to_group entry_at numbers_from
+    group-from = first-tree b q cells s (numbers_from parts i)
+
+    key-from : to_key here ≡ record { expr = tree_at b q cells (first_row e); descending = e.descending }
+    unfolding to_key entry_at head_at numbers_from
+    key-from = rw (← first-tree b q cells s (numbers_from parts i))
+
+-- entry k of a section
 module _ (b q : Bytes) (cells parts : List ℕ) (kind k : ℕ) (e : Entry) (h : e ≡ numbers_at parts kind k)
     (l : k < length (section_at b q cells parts kind)) where
   abbrev entries_here : List E.Entry
   entries_here = section_at b q cells parts kind
 
-  at-k : {A : Type 0} (f : E.Entry → A) → entry_after k (map_entries f entries_here) ≡ some (f (entry_of b q cells e))
-  at-k f = map-after f k entries_here (entry_of b q cells e) (section-entry b q cells parts kind k e h l)
+  at-k : {A : Type 0} (f : E.Entry → A) (x : A) → f (entry_at b q cells parts (entry_start kind k)) ≡ x → entry_after k (map_entries f entries_here) ≡ some x
+  at-k f x y = map-after f k entries_here _ (section-entry b q cells parts kind k l) ∙ ap some y
 
   pub named-at : entry_after k (map_entries to_named entries_here) ≡ some (record { line = e.line; name = word_of b q e })
-  unfolding to_named entry_of
-  named-at = at-k to_named ∙ rw (word-or b q e)
+  unfolding numbers_at
+  named-at = rw h (at-k to_named _ (named-from b q cells parts (entry_start kind k)))
 
   pub row_at : entry_after k (map_entries to_row entries_here)
       ≡ some (list_of (arguments_at (tree_at b q cells) cells e.expressions e.row))
-  unfolding to_row entry_of
-  row_at = at-k to_row
+  unfolding numbers_at
+  row_at = rw h (at-k to_row _ (row-from b q cells parts (entry_start kind k)))
 
   pub set_at : entry_after k (map_entries to_set entries_here)
       ≡ some (record { line = e.line; name = word_of b q e; value = given_of b q cells e })
-  unfolding to_set entry_of
-  set_at = at-k to_set ∙ rw (word-or b q e, first-given b q cells e)
+  unfolding numbers_at
+  set_at = rw h (at-k to_set _ (set-from b q cells parts (entry_start kind k)))
 
   pub column-at : entry_after k (map_entries to_column entries_here) ≡ some (record {
     line = e.line;
     name = word_of b q e;
-    type = type_at e.code;
-    key = is_one e.key;
-    nullable = to_null e.nullable;
-    unique = is_one e.unique;
-    index = is_one e.index;
+    type = type_of e.column.datatype;
+    key = e.column.key;
+    nullable = option_of e.column.nullable;
+    unique = e.column.unique;
+    index = e.column.index;
     default = given_of b q cells e;
-    reference = name_at b q e.reference e.extent;
+    reference = option_name b q e.column.reference;
   })
-  unfolding to_column entry_of
-  column-at = at-k to_column ∙ rw (word-or b q e, first-given b q cells e)
+  unfolding numbers_at
+  column-at = rw h (at-k to_column _ (column-from b q cells parts (entry_start kind k)))
 
   module _ (s : length cells ≤ outside_row) where
     pub item-at : entry_after k (map_entries to_item entries_here) ≡ some (record {
       line = e.line;
       expr = tree_at b q cells (first_row e);
-      alias = name_at b q e.address e.length;
+      alias = option_name b q e.name;
     })
-    unfolding to_item entry_of
-    item-at = at-k to_item ∙ rw (first-tree b q cells s e)
+    unfolding numbers_at
+    item-at = rw h (at-k to_item _ (item-from b q cells parts (entry_start kind k) s))
 
     pub group_at : entry_after k (map_entries to_group entries_here) ≡ some (tree_at b q cells (first_row e))
-    unfolding to_group
-    group_at = at-k to_group ∙ rw (first-tree b q cells s e)
+    unfolding numbers_at
+    group_at = rw h (at-k to_group _ (group-from b q cells parts (entry_start kind k) s))
 
     pub key-at : entry_after k (map_entries to_key entries_here)
-        ≡ some (record { expr = tree_at b q cells (first_row e); descending = is_one e.code })
-    unfolding to_key entry_of
-    key-at = at-k to_key ∙ rw (first-tree b q cells s e)
+        ≡ some (record { expr = tree_at b q cells (first_row e); descending = e.descending })
+    unfolding numbers_at
+    key-at = rw h (at-k to_key _ (key-from b q cells parts (entry_start kind k) s))
 
 -- CLAUSES
 no-entries : {A : Type 0} (xs : List A) → length xs ≡ 0 → xs ≡ []
@@ -228,10 +250,10 @@ module _ (parts : List ℕ) (kind : ℕ) where
   clause-by e r n h g m ne = rw (g, h) (clause-some (λ z. ne (m ∙ z)))
 
   module _ (b q : Bytes) (cells : List ℕ) (s : length cells ≤ outside_row) where
-    clause-first : (e : Entry) (ys : List E.Entry)
-        → to_clause (entry_of b q cells e ∷ ys) ≡ clause_of b q cells (std.Some (record { line = e.line; row = first_row e }))
-    unfolding to_clause clause_of entry_of
-    clause-first e ys = ap (λ (x : Expr). some (record { line = e.line; expr = x })) (first-tree b q cells s e)
+    clause-first : (i : ℕ) (ys : List E.Entry) → to_clause (entry_at b q cells parts i ∷ ys)
+        ≡ clause_of b q cells (std.Some (record { line = (numbers_from parts i).line; row = first_row (numbers_from parts i) }))
+    unfolding to_clause clause_of entry_at numbers_from
+    clause-first i ys = ap (λ (x : Expr). some (record { line = get_or parts i 0; expr = x })) (first-tree b q cells s (numbers_from parts i))
 
     clause-missing : get_or parts (start_of kind) 0 ≡ 0
         → to_clause (section_at b q cells parts kind) ≡ clause_of b q cells std.None
@@ -242,11 +264,10 @@ module _ (parts : List ℕ) (kind : ℕ) where
         ≡ clause_of b q cells (std.Some (record { line = (numbers_at parts kind 0).line; row = first_row (numbers_at parts kind 0) }))
     clause-stands n =
         let xs = section_at b q cells parts kind in
-        let e = numbers_at parts kind 0 in
+        let i = entry_start kind 0 in
         let m : 0 < length xs = omega (arith, section-count b q cells parts kind, n) in
-        let f : xs ≡ entry_of b q cells e ∷ drop 1 xs =
-        after-drop 0 xs (entry_of b q cells e) (section-entry b q cells parts kind 0 e refl m) in
-        ap to_clause f ∙ clause-first e (drop 1 xs)
+        let f : xs ≡ entry_at b q cells parts i ∷ drop 1 xs = after-drop 0 xs (entry_at b q cells parts i) (section-entry b q cells parts kind 0 m) in
+        ap to_clause f ∙ (unfold numbers_at in clause-first i (drop 1 xs))
 
     -- the clause, by its numbers
     pub clause-is : (x : std.Option Cl.Clause) → x ≡ clause_at parts kind
@@ -261,26 +282,3 @@ module _ (parts : List ℕ) (kind : ℕ) where
         go false z =
             let n = eqb-false (get_or parts (start_of kind) 0) 0 z in
             clause-stands n ∙ ap (clause_of b q cells) (clause-some n ∙ sym h)
-
--- TYPES
-above : (m k : ℕ) → m ≤ k → (k ≡ m → ⊥) → suc m ≤ k
-above m k h ne = omega arith
-
-pub type-rest : (k : ℕ) → (k ≡ 1 → ⊥) → (k ≡ 2 → ⊥) → (k ≡ 3 → ⊥) → type_at k ≡ string
-unfolding type_at
-type-rest k a b c = elim (dec_lt k 1) [
-  | yes y ↦ coded-below _ _ 1 k y
-  | no y ↦ let four = above 3 k (above 2 k (above 1 k (omega (arith, y)) a) b) c in
-      elim (dec_lt 4 k) [
-        | yes z ↦ coded-above _ _ 1 k z
-        | no z ↦ coded-at _ _ 3 1 k (omega (arith, z, four))
-      ]
-]
-
--- whether a column may be null is said by 1 and 2 alone
-pub null-rest : (k : ℕ) → (k ≡ 1 → ⊥) → (k ≡ 2 → ⊥) → to_null k ≡ none
-unfolding to_null
-null-rest k a b = elim (dec_lt k 1) [
-  | yes y ↦ coded-below _ _ 1 k y
-  | no y ↦ coded-above _ _ 1 k (above 2 k (above 1 k (omega (arith, y)) a) b)
-]

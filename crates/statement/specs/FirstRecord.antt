@@ -1,7 +1,7 @@
--- A statement's first record, as its kind, its name's place and its flag.
-use Prim.Native.Nat.{ℕ, zero, suc, ◌+◌, ◌-◌, ◌≤◌, ◌<◌}
-use Rattle.std.proofs.Common.{arith, sym, ◌∙◌}
-use Rattle.std.specs.Prelude.{◌≡◌, Bool, true, false, List, [], ◌∷◌, length, get_or, take, drop, Some, None}
+-- A statement's first record: its kind, its name's place and its flag.
+use Prim.Native.Nat.{ℕ, zero, suc, ◌+◌, ◌≤◌, ◌<◌}
+use Rattle.std.proofs.Common.{arith, sym, ◌∙◌, inl, inr}
+use Rattle.std.specs.Prelude.{◌≡◌, Bool, true, false, List, [], ◌∷◌, ◌⊎◌, eqb, length, get_or, take, drop, Some, None}
 use Rattle.std.specs.Prelude as std
 use Rattle.std.proofs.Math.Path.{refl, ap}
 use Rattle.std.proofs.Math.Option.{Option, none, some}
@@ -20,29 +20,39 @@ use Rattle.text.specs.Records.{no-field, one_field_lem, two_fields_lem}
 use Rattle.text.specs.declared.Line.{Line}
 use Rattle.text.specs.Fields.{Inside, field-length}
 use Rattle.numbers.specs.Codes.{coded}
-use Rattle.numbers.specs.Values.{is_one}
 use Rattle.read_expression.specs.Reading.{here}
 use Rattle.statement.specs.Kinds.{number_of}
+use Rattle.statement.specs.Access.{name_or}
+use Rattle.statement.specs.declared.access.Kind.{Kind}
 use Rattle.statement.specs.declared.access.Kind.TheVariants as K
+use Rattle.text.specs.declared.places.Place.{Place}
 use Rattle.statement.specs.declared.first.First.{First}
 
 -- the first record of a kind, with this name and flag where it has them
 unfoldable pub head_of : ℕ → Word → Bool → StatementHead
 head_of kind n y = coded other_head (select_head ∷ create_head n ∷ drop_head n y ∷ delete_head n ∷ insert_head n ∷ update_head n ∷ []) 1 kind
 
--- what the numbers say, of the catalog c and the statement t
+-- what it says, of the catalog c and the statement t
 unfoldable pub first_said : Bytes → Bytes → std.Option First → Option StatementHead
 first_said c t None = none
-first_said c t (Some r) = some (head_of (number_of r.kind) (word_at c t r.a r.b) (is_one r.flag))
+first_said c t (Some r) = some (head_of (number_of r.kind) (word_at c t (name_or r.name).address (name_or r.name).length) r.if_exists)
 
-module _ (c t : Bytes) (r : First) where
-  pub said-select : r.kind ≡ K.Select → first_said c t (Some r) ≡ some select_head
-  unfolding first_said head_of coded
-  said-select e = rw e
+-- the number of a kind's keyword
+abbrev pub keyword_of : Kind → ℕ
+keyword_of K.Select = 0
+keyword_of K.Delete = 1
+keyword_of K.Insert = 2
+keyword_of K.Update = 3
+keyword_of K.Create = 4
+keyword_of K.Drop = 5
+keyword_of K.Other = 6
 
-  pub said-other : r.kind ≡ K.Other → first_said c t (Some r) ≡ some other_head
-  unfolding first_said head_of coded
-  said-other e = rw e
+-- a statement of one name
+pub one_name : {k : Kind} → (k ≡ K.Delete) ⊎ ((k ≡ K.Insert) ⊎ ((k ≡ K.Update) ⊎ (k ≡ K.Create))) → (1 ≤ keyword_of k) × (keyword_of k ≤ 4)
+one_name (inl e) = rw e (omega arith, omega arith)
+one_name (inr (inl e)) = rw e (omega arith, omega arith)
+one_name (inr (inr (inl e))) = rw e (omega arith, omega arith)
+one_name (inr (inr (inr e))) = rw e (omega arith, omega arith)
 
 -- NAMES
 module _ (t : Bytes) (a n : ℕ) (i : Inside t a n) where
@@ -54,29 +64,32 @@ module _ (t : Bytes) (a n : ℕ) (i : Inside t a n) where
   unfolding field
   field-none h = name_out _ (ap is_name (field-length t a n i) ∙ h)
 
-  -- the statements of one name, by their keyword's number
-  pub named_none : (k : ℕ) → 1 ≤ k → k ≤ 4 → is_name n ≡ false → apply (nth statement_heads k) (field most_bytes t a n ∷ []) ≡ none
+  -- the statements of one name
+  pub named_none : (k : Kind) → 1 ≤ keyword_of k → keyword_of k ≤ 4 → is_name n ≡ false → apply (nth statement_heads (keyword_of k)) (field most_bytes t a n ∷ []) ≡ none
   unfolding statement_heads nth apply one_field map_option
-  named_none zero l m h = absurd (omega arith)
-  named_none (suc zero) l m h = rw (field-none h)
-  named_none (suc (suc zero)) l m h = rw (field-none h)
-  named_none (suc (suc (suc zero))) l m h = rw (field-none h)
-  named_none (suc (suc (suc (suc zero)))) l m h = rw (field-none h)
-  named_none (suc (suc (suc (suc (suc k))))) l m h = absurd (omega arith)
+  named_none K.Select l m h = absurd (omega arith)
+  named_none K.Delete l m h = rw (field-none h)
+  named_none K.Insert l m h = rw (field-none h)
+  named_none K.Update l m h = rw (field-none h)
+  named_none K.Create l m h = rw (field-none h)
+  named_none K.Drop l m h = absurd (omega arith)
+  named_none K.Other l m h = absurd (omega arith)
 
-  module _ (c : Bytes) (r : First) (ea : r.a ≡ most_bytes + a) (en : r.b ≡ n) where
-    word-is : word_at c t r.a r.b ≡ field most_bytes t a n
+  module _ (c : Bytes) (p : Place) (e : p ≡ record { address = most_bytes + a; length = n }) where
+    word-is : word_at c t p.address p.length ≡ field most_bytes t a n
     unfolding text_of base_address
-    word-is = rw (ea, en) (sym (field-word statement c t a n (omega (arith, i.short, i.inside))))
+    word-is = rw e (sym (field-word statement c t a n (omega (arith, i.short, i.inside))))
 
-    pub named_some : (k : ℕ) → 1 ≤ k → k ≤ 4 → is_name n ≡ true → number_of r.kind ≡ get_or (0 ∷ 4 ∷ 5 ∷ 6 ∷ 2 ∷ []) k 0 → first_said c t (Some r) ≡ apply (nth statement_heads k) (field most_bytes t a n ∷ [])
-    unfolding first_said head_of coded statement_heads nth apply one_field map_option
-    named_some zero l m h e = absurd (omega arith)
-    named_some (suc zero) l m h e = rw (e, word-is, field-name h)
-    named_some (suc (suc zero)) l m h e = rw (e, word-is, field-name h)
-    named_some (suc (suc (suc zero))) l m h e = rw (e, word-is, field-name h)
-    named_some (suc (suc (suc (suc zero)))) l m h e = rw (e, word-is, field-name h)
-    named_some (suc (suc (suc (suc (suc k))))) l m h e = absurd (omega arith)
+    pub named_some : (k : Kind) → 1 ≤ keyword_of k → keyword_of k ≤ 4 → is_name n ≡ true
+        → first_said c t (Some (record { kind = k; name = Some p; if_exists = false })) ≡ apply (nth statement_heads (keyword_of k)) (field most_bytes t a n ∷ [])
+    unfolding first_said name_or head_of coded statement_heads nth apply one_field map_option
+    named_some K.Select l m h = absurd (omega arith)
+    named_some K.Delete l m h = rw (word-is, field-name h)
+    named_some K.Insert l m h = rw (word-is, field-name h)
+    named_some K.Update l m h = rw (word-is, field-name h)
+    named_some K.Create l m h = rw (word-is, field-name h)
+    named_some K.Drop l m h = absurd (omega arith)
+    named_some K.Other l m h = absurd (omega arith)
 
   -- `drop`
   module _ (b m : ℕ) where
@@ -97,17 +110,18 @@ module _ (t : Bytes) (a n : ℕ) (i : Inside t a n) where
       unfolding statement_heads nth apply two_fields both map_option
       drop-unanswered l = let z : word answers (field most_bytes t b m) ≡ none = answer-is ∙ nth-none answers y (unfold answers in l) in rw (field-name h, z)
 
-      answered : y < 2 → word answers (field most_bytes t b m) ≡ some (is_one (1 - y))
+      answered : y < 2 → word answers (field most_bytes t b m) ≡ some (eqb y 0)
       answered l = answer-is ∙ go y l
         where
-          go : (y : ℕ) → y < 2 → nth answers y ≡ some (is_one (1 - y))
-          go zero l = unfold answers nth is_one in refl
-          go (suc zero) l = unfold answers nth is_one in refl
+          go : (y : ℕ) → y < 2 → nth answers y ≡ some (eqb y 0)
+          go zero l = unfold answers nth in refl
+          go (suc zero) l = unfold answers nth in refl
           go (suc (suc y)) l = absurd (omega arith)
 
-      pub drop-some : (c : Bytes) (r : First) → y < 2 → r.kind ≡ K.Drop → r.a ≡ most_bytes + a → r.b ≡ n → r.flag ≡ 1 - y → first_said c t (Some r) ≡ apply (nth statement_heads 5) (field most_bytes t a n ∷ field most_bytes t b m ∷ [])
-      unfolding first_said head_of coded statement_heads nth apply two_fields both map_option
-      drop-some c r l ek ea en ef = rw (ek, word-is c r ea en, ef, field-name h, answered l)
+      pub drop-some : (c : Bytes) (p : Place) → y < 2 → p ≡ record { address = most_bytes + a; length = n }
+          → first_said c t (Some (record { kind = K.Drop; name = Some p; if_exists = eqb y 0 })) ≡ apply (nth statement_heads 5) (field most_bytes t a n ∷ field most_bytes t b m ∷ [])
+      unfolding first_said name_or head_of coded statement_heads nth apply two_fields both map_option
+      drop-some c p l e = rw (word-is c p e, field-name h, answered l)
 
 -- THE RECORD
 unfoldable pub first_words : Bytes
@@ -117,16 +131,17 @@ first-words : keys statement_heads ≡ words_of first_words
 unfolding statement_heads keys words_of push bytes first_words
 first-words = refl
 
-named-not : (k : ℕ) (r : List Word) → 1 ≤ k → k ≤ 4 → (length r ≡ 1 → ⊥) → apply (nth statement_heads k) r ≡ none
+named-not : (k : Kind) (r : List Word) → 1 ≤ keyword_of k → keyword_of k ≤ 4 → (length r ≡ 1 → ⊥) → apply (nth statement_heads (keyword_of k)) r ≡ none
 unfolding statement_heads nth apply map_option
-named-not zero r l m h = absurd (omega arith)
-named-not (suc zero) r l m h = rw (one_field_lem name r h)
-named-not (suc (suc zero)) r l m h = rw (one_field_lem name r h)
-named-not (suc (suc (suc zero))) r l m h = rw (one_field_lem name r h)
-named-not (suc (suc (suc (suc zero)))) r l m h = rw (one_field_lem name r h)
-named-not (suc (suc (suc (suc (suc k))))) r l m h = absurd (omega arith)
+named-not K.Select r l m h = absurd (omega arith)
+named-not K.Delete r l m h = rw (one_field_lem name r h)
+named-not K.Insert r l m h = rw (one_field_lem name r h)
+named-not K.Update r l m h = rw (one_field_lem name r h)
+named-not K.Create r l m h = rw (one_field_lem name r h)
+named-not K.Drop r l m h = absurd (omega arith)
+named-not K.Other r l m h = absurd (omega arith)
 
--- r is the text's first line, and k its keyword's number
+-- r is the text's first line
 module _ (t : Bytes) (r : Line) (f : Fields t 0 r) where
   -- a field lies inside the text
   pub first-inside : (i : ℕ) → length t ≤ most_bytes → i < r.count → Inside t (get_or r.starts i 0) (get_or r.lens i 0)
@@ -135,42 +150,39 @@ module _ (t : Bytes) (r : Line) (f : Fields t 0 r) where
   without : (i : ℕ) → suc i < 10 → (r.count ≡ suc i → ⊥) → length (rest (here t 0 1 0 0)) ≡ i → ⊥
   without = rest-other statement t 0 1 0 0 r f
 
-  module _ (k : ℕ) (h : k ≡ find (words_of first_words) (take (get_or r.lens 0 0) (drop (get_or r.starts 0 0) t))) where
-    first-is : one_of statement_heads (line_here (here t 0 1 0 0)) ≡ apply (nth statement_heads k) (rest (here t 0 1 0 0))
-    first-is = one-of statement t 0 1 0 0 r f statement_heads first_words k first-words h
+  abbrev key : Bytes
+  key = take (get_or r.lens 0 0) (drop (get_or r.starts 0 0) t)
 
-    pub first-none : 7 ≤ k → one_of statement_heads (line_here (here t 0 1 0 0)) ≡ none
-    unfolding apply
-    first-none m = first-is ∙ rw (nth-none statement_heads k (unfold statement_heads in m))
+  first-is : (k : ℕ) → k ≡ find (words_of first_words) key → one_of statement_heads (line_here (here t 0 1 0 0)) ≡ apply (nth statement_heads k) (rest (here t 0 1 0 0))
+  first-is k h = one-of statement t 0 1 0 0 r f statement_heads first_words k first-words h
 
-    pub first-select : k ≡ 0 → r.count ≡ 1 → one_of statement_heads (line_here (here t 0 1 0 0)) ≡ some select_head
-    unfolding statement_heads nth apply no_field map_option
-    first-select z m = first-is ∙ rw (z, rest-none statement t 0 1 0 0 r f m)
+  pub first-none : 7 ≤ find (words_of first_words) key → one_of statement_heads (line_here (here t 0 1 0 0)) ≡ none
+  unfolding apply
+  first-none m = first-is _ refl ∙ rw (nth-none statement_heads (find (words_of first_words) key) (unfold statement_heads in m))
 
-    pub first-select-not : k ≡ 0 → (r.count ≡ 1 → ⊥) → one_of statement_heads (line_here (here t 0 1 0 0)) ≡ none
-    unfolding statement_heads nth apply map_option
-    first-select-not z m = first-is ∙ rw (z, no-field _ (without 0 (omega arith) m))
+  module _ (k : Kind) (h : keyword_of k ≡ find (words_of first_words) key) where
+    -- a statement with no name
+    module _ (z : (k ≡ K.Select) ⊎ (k ≡ K.Other)) where
+      pub first-plain : r.count ≡ 1 → (c : Bytes) → first_said c t (Some (record { kind = k; name = None; if_exists = false })) ≡ one_of statement_heads (line_here (here t 0 1 0 0))
+      unfolding first_said head_of coded statement_heads nth apply no_field map_option
+      first-plain m c = sym (first-is _ h ∙ rw (rest-none statement t 0 1 0 0 r f m) (elim z [ inl e ↦ rw e | inr e ↦ rw e ]))
 
-    pub first-other : k ≡ 6 → r.count ≡ 1 → one_of statement_heads (line_here (here t 0 1 0 0)) ≡ some other_head
-    unfolding statement_heads nth apply no_field map_option
-    first-other z m = first-is ∙ rw (z, rest-none statement t 0 1 0 0 r f m)
+      pub first-plain-not : (r.count ≡ 1 → ⊥) → one_of statement_heads (line_here (here t 0 1 0 0)) ≡ none
+      unfolding statement_heads nth apply map_option
+      first-plain-not m = first-is _ h ∙ elim z [ inl e ↦ rw (e, no-field _ (without 0 (omega arith) m)) | inr e ↦ rw (e, no-field _ (without 0 (omega arith) m)) ]
 
-    pub first-other-not : k ≡ 6 → (r.count ≡ 1 → ⊥) → one_of statement_heads (line_here (here t 0 1 0 0)) ≡ none
-    unfolding statement_heads nth apply map_option
-    first-other-not z m = first-is ∙ rw (z, no-field _ (without 0 (omega arith) m))
-
-    pub first-drop : k ≡ 5 → r.count ≡ 3
+    pub first-drop : k ≡ K.Drop → r.count ≡ 3
         → one_of statement_heads (line_here (here t 0 1 0 0)) ≡ apply (nth statement_heads 5) (field most_bytes t (get_or r.starts 1 0) (get_or r.lens 1 0) ∷ field most_bytes t (get_or r.starts 2 0) (get_or r.lens 2 0) ∷ [])
     unfolding field_of base_address
-    first-drop z m = first-is ∙ rw (z, rest-two statement t 0 1 0 0 r f m)
+    first-drop z m = first-is _ h ∙ rw (z, rest-two statement t 0 1 0 0 r f m)
 
-    pub first-drop-not : k ≡ 5 → (r.count ≡ 3 → ⊥) → one_of statement_heads (line_here (here t 0 1 0 0)) ≡ none
+    pub first-drop-not : k ≡ K.Drop → (r.count ≡ 3 → ⊥) → one_of statement_heads (line_here (here t 0 1 0 0)) ≡ none
     unfolding statement_heads nth apply map_option
-    first-drop-not z m = first-is ∙ rw (z, two_fields_lem name (word answers) _ (without 2 (omega arith) m))
+    first-drop-not z m = first-is _ h ∙ rw (z, two_fields_lem name (word answers) _ (without 2 (omega arith) m))
 
-    pub first-named : r.count ≡ 2 → one_of statement_heads (line_here (here t 0 1 0 0)) ≡ apply (nth statement_heads k) (field most_bytes t (get_or r.starts 1 0) (get_or r.lens 1 0) ∷ [])
+    pub first-named : r.count ≡ 2 → one_of statement_heads (line_here (here t 0 1 0 0)) ≡ apply (nth statement_heads (keyword_of k)) (field most_bytes t (get_or r.starts 1 0) (get_or r.lens 1 0) ∷ [])
     unfolding field_of base_address
-    first-named m = first-is ∙ ap (apply (nth statement_heads k)) (rest-one statement t 0 1 0 0 r f m)
+    first-named m = first-is _ h ∙ ap (apply (nth statement_heads (keyword_of k))) (rest-one statement t 0 1 0 0 r f m)
 
-    pub first-named-not : 1 ≤ k → k ≤ 4 → (r.count ≡ 2 → ⊥) → one_of statement_heads (line_here (here t 0 1 0 0)) ≡ none
-    first-named-not l o m = first-is ∙ named-not k _ l o (without 1 (omega arith) m)
+    pub first-named-not : 1 ≤ keyword_of k → keyword_of k ≤ 4 → (r.count ≡ 2 → ⊥) → one_of statement_heads (line_here (here t 0 1 0 0)) ≡ none
+    first-named-not l o m = first-is _ h ∙ named-not k _ l o (without 1 (omega arith) m)

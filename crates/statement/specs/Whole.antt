@@ -20,7 +20,8 @@ use Rattle.text.specs.Lines.{line_end, line-moves, line-most}
 use Rattle.text.specs.Reading.{place, place-start, place-next}
 use Rattle.text.specs.Answers.{wrong_at, limit_at, bind_ok, bind-no}
 use Rattle.numbers.specs.Codes.{coded-map}
-use Rattle.numbers.specs.Values.{is_one}
+use Rattle.rules.specs.Area.{flag}
+use Rattle.numbers.specs.Values.{is_one, flag-back}
 use Rattle.numbers.specs.Kept.{Kept}
 use Rattle.read_expression.specs.Reading.{here, Position}
 use Rattle.statement.specs.Layout.{statement_at}
@@ -29,6 +30,7 @@ use Rattle.statement.specs.RulesBodies.{records-are, statement-cells}
 use Rattle.statement.specs.Stays.{SectionsStay}
 use Rattle.statement.specs.Kinds.{number_of}
 use Rattle.statement.specs.Access.{kind_number, kind_of}
+use Rattle.statement.specs.Access.{name_or}
 use Rattle.statement.specs.FirstRecord.{head_of, first_said}
 use Rattle.statement.specs.BodyReads.{body_at, BodyTook, BodyBy}
 use Rattle.statement.specs.EndRecord.{ended, WholeRead}
@@ -119,7 +121,7 @@ wrong_first t g short cells froms parts = (λ b. sym (answer-is t short ∙ ap v
 module _ (t : Bytes) (f : First) (g : (c : Bytes) → first_said c t (Some f) ≡ one_of statement_heads (line_here (here t 0 1 0 0))) (short : length t ≤ most_bytes) where
   -- what it says, of the catalog b
   abbrev head : Bytes → StatementHead
-  head b = head_of (number_of f.kind) (word_at b t f.a f.b) (is_one f.flag)
+  head b = head_of (number_of f.kind) (word_at b t (name_or f.name).address (name_or f.name).length) f.if_exists
 
   head-is : (b : Bytes) → one_of statement_heads (line_here (here t 0 1 0 0)) ≡ some (head b)
   unfolding first_said
@@ -135,20 +137,20 @@ module _ (t : Bytes) (f : First) (g : (c : Bytes) → first_said c t (Some f) �
   second-line = record { short = short; within = omega (arith, line-most t 0); line = omega (arith, line-moves t 0 some-text); rows = omega arith }
 
   -- THE NUMBERS
-  module _ (cells' froms' parts parts₁ parts' : List ℕ) (w : parts₁ ≡ sets parts 0 (number_of f.kind ∷ 1 ∷ f.a ∷ f.b ∷ f.flag ∷ [])) (room : 5 ≤ length parts) where
+  module _ (cells' froms' parts parts₁ parts' : List ℕ) (w : parts₁ ≡ sets parts 0 (number_of f.kind ∷ 1 ∷ (name_or f.name).address ∷ (name_or f.name).length ∷ flag f.if_exists ∷ [])) (room : 5 ≤ length parts) where
     module _ (k : Kept 0 8 parts₁ parts') where
-      first : (i : ℕ) → i < 5 → get_or parts' i 0 ≡ get_or (number_of f.kind ∷ 1 ∷ f.a ∷ f.b ∷ f.flag ∷ drop 5 parts) i 0
-      first i l = k.same i (omega arith) (omega arith) ∙ ap (λ s. get_or s i 0) (w ∙ sets-eq (number_of f.kind ∷ 1 ∷ f.a ∷ f.b ∷ f.flag ∷ []) parts 0 room)
+      first : (i : ℕ) → i < 5 → get_or parts' i 0 ≡ get_or (number_of f.kind ∷ 1 ∷ (name_or f.name).address ∷ (name_or f.name).length ∷ flag f.if_exists ∷ drop 5 parts) i 0
+      first i l = k.same i (omega arith) (omega arith) ∙ ap (λ s. get_or s i 0) (w ∙ sets-eq (number_of f.kind ∷ 1 ∷ (name_or f.name).address ∷ (name_or f.name).length ∷ flag f.if_exists ∷ []) parts 0 room)
 
       header_is : (b : Bytes) → statement_at b t cells' froms' parts' ≡ body_at b t cells' froms' parts' (head b) 1
-      header_is b = statement-body b t cells' froms' parts' _ _ _ _ _ (first 0 (omega arith)) (first 1 (omega arith)) (first 2 (omega arith)) (first 3 (omega arith)) (first 4 (omega arith))
+      header_is b = rw (flag-back f.if_exists) at (statement-body b t cells' froms' parts' _ _ _ _ _ (first 0 (omega arith)) (first 1 (omega arith)) (first 2 (omega arith)) (first 3 (omega arith)) (first 4 (omega arith)))
 
       kind-is : kind_number parts' ≡ number_of f.kind
       kind-is = first 0 (omega arith)
 
     module _ (p : ℕ) (line : p ≡ line_end t 0) where
       head-by : (r : Result Cursor code.Refusal) → ((n : Word) (y : Bool) → WholeRead t (head_of (number_of f.kind) n y) p cells' froms' parts₁ parts' r) → (b : Bytes) → WholeRead t (head b) (line_end t 0) cells' froms' parts₁ parts' r
-      head-by r whole b = rw line at (whole (word_at b t f.a f.b) (is_one f.flag))
+      head-by r whole b = rw line at (whole (word_at b t (name_or f.name).address (name_or f.name).length) f.if_exists)
 
       come : (b : Bytes) → statement_records (here t 0 1 0 0) ≡ (sections_of (head b) 1 >>= ended) (here t (line_end t 0) 2 0 0)
       come b = first-right t _ (head-is b)

@@ -1,18 +1,18 @@
 // A statement as it was read: its kind, its own numbers, its clauses, and what its entries say, whatever the slices hold.
 // With the kind the laws of specs/Access.antt give the statement, with an entry those of specs/EntryAccess.antt its k-th parts.
 ghost use Rattle.std.specs.Prelude.{◌≡◌};
-ghost use Rattle.rules.specs.Area.{type_code};
 ghost use Rattle.numbers.specs.Values.{is_one};
-ghost use Rattle.numbers.specs.Values.{type_at};
-ghost use Rattle.entries.specs.Sections.{number_of};
+ghost use Rattle.entries.specs.Sections as sections;
+ghost use Rattle.statement.specs.Kinds.{number_of};
 ghost use Rattle.statement.specs.Access as access;
 ghost use Rattle.statement.specs.EntryAccess as entryAccess;
 
 use entries::Section;
 use numbers::number;
 use sections::entry::{Entry, count, entry_at, first_row};
+use text::places::Place;
 
-// Where the statement's own numbers stand in the parts.
+// Where the statement's own numbers stand in the parts, which are lent zeroed (reader_read_texts) and so stay numbers.
 const KIND: usize = 0;
 
 const LINE: usize = 1;
@@ -44,6 +44,14 @@ pub struct Clause {
     pub row: usize,
 }
 
+impl From<Kind> for u32 {
+    ghost from_gives = { λ kind number. number ≡ number_of kind };
+
+    fn from(kind: Kind) -> u32 {
+        kind as u32
+    }
+}
+
 pub fn kind_of(parts: &[u32]) -> Kind
     ensures { result ≡ access.kind_of (access.kind_number parts.now) }
 {
@@ -67,16 +75,14 @@ pub fn line(parts: &[u32]) -> u32
 }
 
 // The place of the statement's name: the table that it names.
-pub fn name_address(parts: &[u32]) -> u32
-    ensures { result ≡ access.name_address parts.now }
+pub fn name(parts: &[u32]) -> Place
+    ensures address { result.address ≡ access.name_address parts.now }
+    ensures length { result.length ≡ access.name_length parts.now }
 {
-    number(parts, NAME_ADDRESS)
-}
-
-pub fn name_length(parts: &[u32]) -> u32
-    ensures { result ≡ access.name_length parts.now }
-{
-    number(parts, NAME_LENGTH)
+    Place {
+        address: number(parts, NAME_ADDRESS),
+        length: number(parts, NAME_LENGTH),
+    }
 }
 
 // Whether a DROP has IF EXISTS.
@@ -95,7 +101,7 @@ pub fn from_rows(parts: &[u32]) -> u32
 
 // The clause of a kind of section, if there is one.
 pub fn clause_at(parts: &[u32], kind: Section) -> Option<Clause>
-    ensures { result ≡ entryAccess.clause_at parts.now (number_of kind) }
+    ensures { result ≡ entryAccess.clause_at parts.now (sections.number_of kind) }
 {
     if count(parts, kind) == 0 {
         return None;
@@ -107,32 +113,13 @@ pub fn clause_at(parts: &[u32], kind: Section) -> Option<Clause>
     })
 }
 
-// Whether an order key descends.
-pub fn descending(e: Entry) -> bool
-    ensures { result ≡ is_one e.code }
+// The place of a name that has to be there; of no bytes where there is none.
+#[tactic(auto, unfolding(crate::specs::Access::name_or))]
+pub fn name_or(name: Option<Place>) -> Place
+    ensures { result ≡ access.name_or name }
 {
-    e.code == 1
-}
-
-// The address of an entry's name; 0 where it has none.
-pub fn name_start(e: Entry) -> u32
-    ensures { result ≡ entryAccess.name_start e }
-{
-    if e.length == 0 {
-        return 0;
-    }
-    e.address
-}
-
-// The code of a new column's type.
-pub fn type_code(e: Entry) -> u32
-    ensures { result ≡ type_code (type_at e.code) }
-{
-    let k = e.code;
-    match k {
-        1 => 1,
-        2 => 2,
-        3 => 3,
-        _ => 4,
-    }
+    name.unwrap_or(Place {
+        address: 0,
+        length: 0,
+    })
 }

@@ -1,4 +1,5 @@
 pub mod Answers
+pub mod Beside
 pub mod Bytes
 pub mod FewFields
 pub mod Fields

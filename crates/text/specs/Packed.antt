@@ -1,5 +1,5 @@
 -- Short words as numbers, and keywords found by them.
-use Rattle.std.specs.Prelude.{ℕ, zero, suc, ◌+◌, ◌*◌, ◌-◌, ◌≤◌, ◌<◌, ◌≡◌, Bool, true, false, List, [], ◌∷◌, eqb, ltb, nat_eq, cond, Some, None}
+use Rattle.std.specs.Prelude.{ℕ, zero, suc, ◌+◌, ◌*◌, ◌-◌, ◌≤◌, ◌<◌, ◌≡◌, Bool, true, false, List, [], ◌∷◌, ◌++◌, eqb, ltb, nat_eq, cond, Some, None}
 use Rattle.std.specs.Prelude as std
 use Rattle.std.specs.Option.{unwrap_or}
 use Rattle.std.specs.List.{position_or_len}
@@ -9,7 +9,8 @@ use Rattle.std.proofs.lemmas.Bool.{ltb-false}
 use native.Mathlib.Omega.{arith}
 use Rattle.std.proofs.Math.Path.{refl, sym}
 use Rattle.std.proofs.Common.{ap, ◌∙◌, drop_of_length-le}
-use Rattle.std.proofs.Math.ListN.{length, get_or, drop}
+use Rattle.std.proofs.Math.ListN.{length, get_or, take, drop}
+use Rattle.std.proofs.lemmas.List.{take_all, take_at, take-take, get_or-take, get_or-append_right, length-append}
 use borrow.Author.Tests.{eq-eqb, eqb-true, eqb-false, ne_eqb, ltb-true, lt-ltb, le-ltb}
 use Rattle.rules.specs.Lists.{Bytes, same}
 use Rattle.text.specs.Bytes.{step}
@@ -41,9 +42,6 @@ is_word w = elim (are_bytes w) [ true ↦ ltb (number w) bound | false ↦ false
 pub record Packed (x : Bytes) (r : ℕ) : Type 0 where
   pub is : r ≡ short_number x
   pub only : (w : Bytes) → is_word w ≡ true → eqb r (number w) ≡ same w x
-
-pub packed-as : (x y : Bytes) (r : ℕ) → x ≡ y → Packed x r → Packed y r
-packed-as x y r e p = rw e at p
 
 -- NUMBERS
 never : false ≡ true → ⊥
@@ -162,6 +160,39 @@ module _ (x : Bytes) where
       go : (w : Bytes) → (are_bytes w ≡ true) × (number w < bound) → (b : Bool) → same w x ≡ b → eqb 0 (number w) ≡ b
       go w k false f = ne_eqb 0 (number w) (λ e. omega (arith, e, number-some w))
       go w k true f = absurd (omega (arith, ap number (same_true w x f), large, k.1))
+
+  -- the bytes r, the first of x, are left
+  pub record Left (r : Bytes) (v : ℕ) : Type 0 where
+    pub first : r ≡ take (length r) x
+    pub packing : Packing x (length r) v
+
+  pub left-begin : Left x 1
+  left-begin = record { first = sym (take_all (length x) x (omega arith)); packing = packing-begin }
+
+  module _ {r : Bytes} {v : ℕ} (p : Left r v) where
+    pub left-step : (s : Bytes) (b : ℕ) → r ≡ s ++ (b ∷ []) → v < 72057594037927936 → b < 256 → Left s (v * 256 + b)
+    left-step s b e h l =
+        let n : length r ≡ length s + 1 = rw e (length-append s (b ∷ [])) in
+        let k : 0 < length r = omega arith in
+        let i : length r - 1 ≡ length s = omega arith in
+        let z : length s - length s ≡ 0 = omega arith in
+        let a : get_or r (length s) 0 ≡ b =
+        rw e (get_or-append_right s (b ∷ []) (length s) (length s) 0 refl (omega arith) ∙ rw z) in
+        let d : get_or x (length s) 0 ≡ b = sym (get_or-take (length r) x (length s) 0 (omega arith))
+        ∙ ap (λ (y : Bytes). get_or y (length s) 0) (sym p.first) ∙ a in
+        let q : Packing x (length r - 1) (v * 256 + get_or x (length r - 1) 0) =
+        packing-step (length r) v k p.packing h (rw (i, d) l) in
+        record {
+          first = sym (take_at s (b ∷ []) (length s) refl) ∙ ap (take (length s)) (sym e) ∙ ap (take (length s)) p.first
+              ∙ take-take (length s) (length r) x (omega arith);
+          packing = rw (i, d) at q;
+        }
+
+    pub left-end : length r ≡ 0 → Packed x v
+    left-end e = packing-end (length r) v (omega arith) p.packing
+
+    pub left-long : (s : Bytes) (b : ℕ) → r ≡ s ++ (b ∷ []) → 72057594037927936 ≤ v → Packed x 0
+    left-long s b e = packing-long (length r) v (rw e (omega (arith, length-append s (b ∷ [])))) p.packing
 
 -- KEYWORDS
 unfoldable pub numbers : List Bytes → List ℕ

@@ -68,7 +68,7 @@ pub fn line_end(t: &[u8], at: usize) -> usize
 
 // The first ten fields of a line, where each starts and how many bytes it has, and the position behind the line. What the
 // arrays hold from count on means nothing.
-#[derive(Clone, Copy)]
+#[derive(Clone, Copy, Debug, PartialEq, Eq)]
 pub struct Line {
     pub starts: [usize; 12],
     pub lens: [usize; 12],
@@ -227,11 +227,11 @@ pub fn packed(t: &[u8], a: usize, n: usize) -> u64
 {
     let word = part(t, a, n);
     let mut v: u64 = 1;
-    for i in (0..word.len()).rev() {
+    for &b in word.iter().rev() {
         if ROOM <= v {
             return 0;
         }
-        v = v * 256 + word[i] as u64;
+        v = v * 256 + b as u64;
     }
     v
 }

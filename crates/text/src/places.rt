@@ -1,13 +1,14 @@
 // Both texts, and places in them: an address and a length. The catalog's bytes have the addresses from 0 on, the statement's
 // those from 65,536 on.
-ghost use Rattle.std.specs.Prelude.{◌≡◌, ◌+◌, ◌≤◌, length};
+ghost use Rattle.std.specs.Prelude.{◌≡◌, true, false, [], ◌∷◌, ◌+◌, ◌≤◌, length, MatchOption};
 ghost use Rattle.rules.specs.Limits.{most_bytes};
 ghost use Rattle.rules.specs.Lists.{same};
 ghost use Rattle.rules.specs.Places.{bytes_at};
+ghost use Rattle.text.specs.Numbers.{is_name};
 ghost use Rattle.text.specs.Order.{order_of};
 ghost use Rattle.text.specs.Places as places;
 
-use super::{MOST_BYTES, compare, equal, part};
+use super::{MOST_BYTES, compare, equal, is_name, part};
 use std::cmp::Ordering;
 
 #[derive(Clone, Copy, Debug, PartialEq, Eq)]
@@ -16,7 +17,7 @@ pub struct Place {
     pub length: u32,
 }
 
-#[derive(Clone, Copy)]
+#[derive(Clone, Copy, Debug, PartialEq, Eq)]
 pub struct Texts<'t> {
     pub catalog: &'t [u8],
     pub statement: &'t [u8],
@@ -28,6 +29,44 @@ pub fn address(a: usize) -> u32
     ensures { result ≡ most_bytes + a }
 {
     MOST_BYTES + a as u32
+}
+
+// The place of the n bytes at a of the statement, if a name may have n bytes.
+pub fn name_at(a: usize, n: usize) -> Option<Place>
+    requires { (a ≤ 65536) × (n ≤ 65536) }
+    ensures { MatchOption result (is_name n ≡ false) (λ x. (is_name n ≡ true) × (x
+        ≡ record { address = most_bytes + a; length = n })) }
+{
+    if !is_name(n) {
+        return None;
+    }
+    Some(Place {
+        address: address(a),
+        length: n as u32,
+    })
+}
+
+impl Place {
+    // The place of an address and a length; none where the length is 0.
+    #[tactic(auto, unfolding(crate::specs::Places::place_of))]
+    pub fn of_numbers(address: u32, length: u32) -> Option<Place>
+        ensures { result ≡ places.place_of address length }
+    {
+        if length == 0 {
+            return None;
+        }
+        Some(Place { address, length })
+    }
+
+    // The address and the length of a place that may be missing, or zeros.
+    pub fn numbers(place: Option<Place>) -> (u32, u32)
+        ensures { places.option_numbers place ≡ result.0 ∷ result.1 ∷ [] }
+    {
+        match place {
+            Some(place) => (place.address, place.length),
+            None => (0, 0),
+        }
+    }
 }
 
 impl<'t> Texts<'t> {
@@ -47,6 +86,17 @@ impl<'t> Texts<'t> {
         ensures { result ≡ length (bytes_at self.now.catalog.now self.now.statement.now place.address place.length) }
     {
         self.bytes_at(place).len() as u32
+    }
+
+    // The place of those that there are.
+    pub fn clipped(&self, place: Place) -> Place
+        ensures address { result.address ≡ place.address }
+        ensures length { result.length ≡ length (bytes_at self.now.catalog.now self.now.statement.now place.address place.length) }
+    {
+        Place {
+            address: place.address,
+            length: self.length_at(place),
+        }
     }
 
     // Whether they are x.

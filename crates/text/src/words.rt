@@ -3,6 +3,7 @@ ghost use Rattle.std.specs.Prelude.{◌≡◌, ℕ, List, take, drop};
 ghost use Rattle.rules.specs.Lines.{bytes};
 ghost use Rattle.text.specs.Words.{find, words_of};
 ghost use Rattle.text.specs.Packed.{Keywords};
+ghost use Rattle.text.specs.Beside.{beside};
 
 // Expressions that are no literals.
 pub const OP: u64 = 0x1706f;
@@ -92,6 +93,14 @@ pub const ROW: u64 = 0x1776f72;
 pub const SET: u64 = 0x1746573;
 
 pub const COLUMN: u64 = 0x16e6d756c6f63;
+
+// The value beside a word in a table, if the word stands there.
+pub fn beside<T: Copy>(table: &[(&[u8], T)], word: &[u8]) -> Option<T>
+    ensures { result ≡ beside table.now word.now }
+{
+    let entry = table.iter().find(|entry| crate::equal(entry.0, word))?;
+    Some(entry.1)
+}
 
 // Where the n bytes at a stand in a table of keywords' numbers, or how many there are.
 fn place_in(table: &[u64], t: &[u8], a: usize, n: usize) -> usize

@@ -85,7 +85,7 @@ fn answered(w: Result<Value, Reason>) -> Answer
             bits: bits_of(v),
         },
         Err(r) => Answer {
-            refusal: r.number(),
+            refusal: u32::from(r),
             kind: 0,
             bits: 0,
         },

@@ -1,34 +1,36 @@
 -- `column_words`: word by word, what the rules make of them.
-use native.Mathlib.Omega.{arith}
 use mathlib.Core.Path.{refl}
 use Rattle.rules.specs.Lines.{bytes}
-use Rattle.entries.specs.ColumnWords.{words-type, words-key, words-null, words-unique, words-index, words-default, words_right}
+use Rattle.rules.specs.Lists.{map_option}
+use Rattle.rules.specs.Area.{flag}
+use Rattle.entries.specs.ColumnWords.{pk-words, unique-words, index-words, default-words}
+use Rattle.entries.specs.ColumnWords.{no-type, no-key, no-null, no-unique, no-index, no-default, all-words}
 use Rattle.entries.proofs.column_words.Goals as goal
 
-pub returns-then-code-ge4 : goal.returns-then-code-ge4
-unfolding bytes
-returns-then-code-ge4 c = words-type _ _ _ c.which-code.ensures c.if-code-ge4.true refl
+pub returns-in_err-datatype : goal.returns-in_err-datatype
+unfolding map_option
+returns-in_err-datatype c w r n m = no-type _ _ w r _ c.in_err-datatype.ensures c.from_residual.ensures
 
-pub returns-then-key-ge2 : goal.returns-then-key-ge2
-unfolding bytes
-returns-then-key-ge2 c = words-key _ _ _ c.which-code.ensures (omega (arith, c.if-code-ge4.false)) c.which-key.ensures c.if-key-ge2.true refl
+pub returns-in_err-key : goal.returns-in_err-key
+unfolding bytes map_option
+returns-in_err-key c w r n m = no-key _ _ w r _ _ c.in_ok-datatype.ensures (λ o. c.in_err-key.ensures (bytes "pk") o pk-words) c.from_residual-in_err-key.ensures
 
-pub returns-then-nullable-ge3 : goal.returns-then-nullable-ge3
-unfolding bytes
-returns-then-nullable-ge3 c = words-null _ _ _ c.which-code.ensures (omega (arith, c.if-code-ge4.false)) c.which-key.ensures (omega (arith, c.if-key-ge2.false)) c.which-nullable.ensures c.if-nullable-ge3.true refl
+pub returns-in_err-nullable : goal.returns-in_err-nullable
+unfolding bytes map_option
+returns-in_err-nullable c w r n m = no-null _ _ w r _ _ c.in_ok-datatype.ensures _ (λ o. c.in_ok-key.ensures (bytes "pk") o pk-words) c.in_err-nullable.ensures c.from_residual-in_err-nullable.ensures
 
-pub returns-then-unique-ge2 : goal.returns-then-unique-ge2
-unfolding bytes
-returns-then-unique-ge2 c = words-unique _ _ _ c.which-code.ensures (omega (arith, c.if-code-ge4.false)) c.which-key.ensures (omega (arith, c.if-key-ge2.false)) c.which-nullable.ensures (omega (arith, c.if-nullable-ge3.false)) c.which-unique.ensures c.if-unique-ge2.true refl
+pub returns-in_err-unique : goal.returns-in_err-unique
+unfolding bytes map_option
+returns-in_err-unique c w r n m = no-unique _ _ w r _ _ c.in_ok-datatype.ensures _ (λ o. c.in_ok-key.ensures (bytes "pk") o pk-words) _ c.in_ok-nullable.ensures (λ o. c.in_err-unique.ensures (bytes "unique") o unique-words) c.from_residual-in_err-unique.ensures
 
-pub returns-then-index-ge2 : goal.returns-then-index-ge2
-unfolding bytes
-returns-then-index-ge2 c = words-index _ _ _ c.which-code.ensures (omega (arith, c.if-code-ge4.false)) c.which-key.ensures (omega (arith, c.if-key-ge2.false)) c.which-nullable.ensures (omega (arith, c.if-nullable-ge3.false)) c.which-unique.ensures (omega (arith, c.if-unique-ge2.false)) c.which-index.ensures c.if-index-ge2.true refl
+pub returns-in_err-index : goal.returns-in_err-index
+unfolding bytes map_option
+returns-in_err-index c w r n m = no-index _ _ w r _ _ c.in_ok-datatype.ensures _ (λ o. c.in_ok-key.ensures (bytes "pk") o pk-words) _ c.in_ok-nullable.ensures _ (λ o. c.in_ok-unique.ensures (bytes "unique") o unique-words) (λ o. c.in_err-index.ensures (bytes "index") o index-words) c.from_residual-in_err-index.ensures
 
-pub returns-then-default-ge2 : goal.returns-then-default-ge2
-unfolding bytes
-returns-then-default-ge2 c = words-default _ _ _ c.which-code.ensures (omega (arith, c.if-code-ge4.false)) c.which-key.ensures (omega (arith, c.if-key-ge2.false)) c.which-nullable.ensures (omega (arith, c.if-nullable-ge3.false)) c.which-unique.ensures (omega (arith, c.if-unique-ge2.false)) c.which-index.ensures (omega (arith, c.if-index-ge2.false)) c.which-default.ensures c.if-default-ge2.true refl
+pub returns-in_err-default : goal.returns-in_err-default
+unfolding bytes map_option
+returns-in_err-default c w r n m = no-default _ _ w r _ _ c.in_ok-datatype.ensures _ (λ o. c.in_ok-key.ensures (bytes "pk") o pk-words) _ c.in_ok-nullable.ensures _ (λ o. c.in_ok-unique.ensures (bytes "unique") o unique-words) _ (λ o. c.in_ok-index.ensures (bytes "index") o index-words) (λ o. c.in_err-default.ensures (bytes "default") o default-words) c.from_residual-in_err-default.ensures
 
 pub returns : goal.returns
-unfolding bytes
-returns c = words_right _ _ _ c.which-code.ensures (omega (arith, c.if-code-ge4.false)) c.which-key.ensures (omega (arith, c.if-key-ge2.false)) c.which-nullable.ensures (omega (arith, c.if-nullable-ge3.false)) c.which-unique.ensures (omega (arith, c.if-unique-ge2.false)) c.which-index.ensures (omega (arith, c.if-index-ge2.false)) c.which-default.ensures (omega (arith, c.if-default-ge2.false)) (_, refl, refl, refl)
+unfolding bytes map_option flag
+returns c w r n m = all-words _ _ w r _ _ c.in_ok-datatype.ensures _ (λ o. c.in_ok-key.ensures (bytes "pk") o pk-words) _ c.in_ok-nullable.ensures _ (λ o. c.in_ok-unique.ensures (bytes "unique") o unique-words) _ (λ o. c.in_ok-index.ensures (bytes "index") o index-words) _ _ n m _ _ (λ o. c.in_ok-default.ensures (bytes "default") o default-words) c.from.ensures refl

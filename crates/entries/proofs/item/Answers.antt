@@ -1,11 +1,12 @@
 -- `item`: an alias or none.
-use mathlib.Core.Path.{refl}
+use mathlib.Core.Path.{refl, ap}
+use Rattle.std.specs.Prelude.{Some}
 use native.Mathlib.Omega.{arith}
 use Rattle.entries.specs.HeadRecords.{field_at, item-plain, item-named, item-no}
 use Rattle.entries.proofs.item.Goals as goal
 
 pub returns-then-f-eq1 : goal.returns-then-f-eq1
-returns-then-f-eq1 c = item-plain _ _ _ c.requires _ c.if-f-eq1.true (_, refl, c.plain.ensures.0, c.plain.ensures.1)
+returns-then-f-eq1 c = item-plain _ _ _ c.requires _ c.if-f-eq1.true (ap Some c.plain.ensures)
 
 pub returns-then-f-ne2 : goal.returns-then-f-ne2
 returns-then-f-ne2 c = item-no _ _ _ c.requires _ c.if-f-eq1.false c.if-f-ne2.true refl

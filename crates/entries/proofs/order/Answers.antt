@@ -14,4 +14,4 @@ returns-then-k-ge2 c = order-word _ _ _ c.requires _ c.if-f-ne2.false c.which-k.
 
 pub returns : goal.returns
 unfolding bytes
-returns c = order-yes _ _ _ c.requires _ c.if-f-ne2.false c.which-k.ensures (omega (arith, c.if-k-ge2.false)) (_, refl, c.plain.ensures.0, c.plain.ensures.1)
+returns c = order-yes _ _ _ c.requires _ c.if-f-ne2.false c.which-k.ensures (omega (arith, c.if-k-ge2.false)) refl

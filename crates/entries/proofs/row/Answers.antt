@@ -1,5 +1,6 @@
 -- `row`: a count.
-use mathlib.Core.Path.{refl}
+use mathlib.Core.Path.{refl, ap}
+use Rattle.std.specs.Prelude.{Some}
 use native.Mathlib.Omega.{arith}
 use Rattle.text.specs.Numbers.{count_small}
 use Rattle.entries.specs.HeadRecords.{row-no, row-wrong, row-yes}
@@ -15,4 +16,4 @@ pub overflow_cast-v : goal.overflow_cast-v
 overflow_cast-v c = record { fits = omega (arith, count_small _ _ (c.in_ok-v.ensures 0)) }
 
 pub returns : goal.returns
-returns c = row-yes _ _ _ c.requires _ c.if-f-ne2.false _ c.in_ok-v.ensures (_, refl, c.plain.ensures.0, c.plain.ensures.1)
+returns c = row-yes _ _ _ c.requires _ c.if-f-ne2.false _ c.in_ok-v.ensures (ap Some c.plain.ensures)

@@ -7,7 +7,7 @@ use Rattle.from.proofs.close_join.Goals as goal
 
 pub returns-then-on-ne1 : goal.returns-then-on-ne1
 unfolding line_in kind_in on_in
-returns-then-on-ne1 c = bare-closed _ _ _ _ _ _ _ _ c.if-on-ne1.true c.requires.fact_1 _ c.sides-s.ensures _ (rw (c.join_row.ensures, c.kind_by-kind.ensures) at c.put_row.ensures)
+returns-then-on-ne1 c = bare-closed _ _ _ _ _ _ _ _ c.if-on-ne1.true c.requires.fact_1 _ c.sides-s.ensures _ (rw c.kind_by-kind.ensures at c.put_join.ensures)
 
 pub returns-in_err-behind : goal.returns-in_err-behind
 unfolding on_in
@@ -15,4 +15,4 @@ returns-in_err-behind c = let p = err_from_is_err_and c.from_residual.result c.f
 
 pub returns : goal.returns
 unfolding line_in kind_in on_in
-returns c = predicate-closed _ _ _ _ _ _ _ _ (omega arith) _ _ _ c.in_ok-behind.ensures c.requires.fact_2.1 _ c.sides-s.ensures (rw (c.join_row-2.ensures, c.kind_by-kind.ensures) at c.put_row-2.ensures)
+returns c = predicate-closed _ _ _ _ _ _ _ _ (omega arith) _ _ _ c.in_ok-behind.ensures c.requires.fact_2.1 _ c.sides-s.ensures (rw c.kind_by-kind.ensures at c.put_join-2.ensures)

@@ -14,4 +14,4 @@ returns-in-Ok c = planned-answer _ c.build.ensures c.in-Ok.is refl refl refl ref
 
 pub returns-in-Err : goal.returns-in-Err
 unfolding text_number text_of
-returns-in-Err c = building-refused _ _ _ _ _ c.build.ensures c.in-Err.is c.requires.least_area_in_bounds c.number.ensures (rw c.number-in-Err.ensures at c.refuse.ensures)
+returns-in-Err c = building-refused _ _ _ _ _ c.build.ensures c.in-Err.is c.requires.least_area_in_bounds c.from.ensures (rw c.from-in-Err.ensures at c.refuse.ensures)

@@ -10,7 +10,7 @@ use Rattle.planner.proofs.planner_plan.Goals as goal
 
 pub returns-then-area-lt-LEAST_AREA : goal.returns-then-area-lt-LEAST_AREA
 unfolding refusal_number reason_of text_number text_of
-returns-then-area-lt-LEAST_AREA c = entry-short _ _ _ c.if-area-lt-LEAST_AREA.true c.number.ensures c.number-then-area-lt-LEAST_AREA.ensures refl refl
+returns-then-area-lt-LEAST_AREA c = entry-short _ _ _ c.if-area-lt-LEAST_AREA.true c.from.ensures c.from-then-area-lt-LEAST_AREA.ensures refl refl
 
 pub returns-then-numbers_for-le-SMALL_NUMBERS : goal.returns-then-numbers_for-le-SMALL_NUMBERS
 returns-then-numbers_for-le-SMALL_NUMBERS c = entry-long _ _ _ (omega (arith, c.if-area-lt-LEAST_AREA.false)) c.plan_with.ensures

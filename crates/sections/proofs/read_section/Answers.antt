@@ -3,43 +3,39 @@ use native.Mathlib.Omega.{arith}
 use mathlib.Core.Path.{refl, sym, ◌∙◌}
 use Rattle.std.proofs.lemmas.Result.{err_from_is_err_and}
 use Rattle.entries.specs.Sections.{number_of, number-most}
-use Rattle.entries.specs.Sections.{number_of, number-most}
-use Rattle.sections.specs.Kinds.{start-within, entry-within}
+use Rattle.sections.specs.Kinds.{start-within}
 use Rattle.sections.specs.Runs.{section-begin, section-ready, section-refused, section-end, entry-moved, section-once, section-on}
 use Rattle.sections.proofs.read_section.Goals as goal
 
-pub loop-e-init : goal.loop-e-init
-loop-e-init c = (refl, refl, section-begin _ _ _ _ _ _ _ c.requires.fact_1)
+pub loop-next-init : goal.loop-next-init
+loop-next-init c = (refl, refl, section-begin _ _ _ _ _ _ _ c.requires.fact_1)
 
 pub read_entry-requires : goal.read_entry-requires
-read_entry-requires c = section-ready c.loop-e.invariant.2 (number-most c.args.kind) (c.loop-e.invariant.0 ∙ c.requires.fact_2.0) (c.loop-e.invariant.1 ∙ c.requires.fact_2.1)
+read_entry-requires c = section-ready c.loop-next.invariant.2 (number-most c.args.kind) (c.loop-next.invariant.0 ∙ c.requires.fact_2.0) (c.loop-next.invariant.1 ∙ c.requires.fact_2.1)
 
-pub returns-in_err-e : goal.returns-in_err-e
-returns-in_err-e c = let p = err_from_is_err_and c.from_residual.result c.from_residual.ensures.1 in rw (p.1, p.2) (section-refused c.loop-e.invariant.2 _ _ _ c.in_err-e.ensures)
-
-pub overflow_add-n : goal.overflow_add-n
-overflow_add-n c = let m = entry-moved c.loop-e.invariant.2 _ _ _ (λ k. rw c.in-Some.is at (c.in_ok-e.ensures k)) in record { fits = omega (arith, m.2, entry-within (number_of c.args.kind) (number-most c.args.kind) c.loop-e.n m.2) }
+pub returns-in_err-next : goal.returns-in_err-next
+returns-in_err-next c = let p = err_from_is_err_and c.from_residual.result c.from_residual.ensures.1 in rw (p.1, p.2) (section-refused c.loop-next.invariant.2 _ _ _ c.in_err-next.ensures)
 
 pub offset_bounds-parts-start : goal.offset_bounds-parts-start
 offset_bounds-parts-start c = record { fits = omega (arith, start-within (number_of c.args.kind) (number-most c.args.kind), c.room_of-start.ensures.0) }
 
 pub bounds-parts-start : goal.bounds-parts-start
-bounds-parts-start c = omega (arith, start-within (number_of c.args.kind) (number-most c.args.kind), c.room_of-start.ensures.0, (c.read_entry.auto.parts ∙ c.loop-e.invariant.1 ∙ c.requires.fact_2.1))
+bounds-parts-start c = omega (arith, start-within (number_of c.args.kind) (number-most c.args.kind), c.room_of-start.ensures.0, (c.read_entry.auto.parts ∙ c.loop-next.invariant.1 ∙ c.requires.fact_2.1))
 
 pub returns-then-once : goal.returns-then-once
-returns-then-once c = section-once c.loop-e.invariant.2 _ _ _ (λ k. rw c.in-Some.is at (c.in_ok-e.ensures k)) (sym c.is_once-once.ensures ∙ c.if-once.true) (number-most c.args.kind) (c.read_entry.auto.parts ∙ c.loop-e.invariant.1 ∙ c.requires.fact_2.1) c.room_of-start.ensures.0
+returns-then-once c = section-once c.loop-next.invariant.2 _ _ _ (λ k. rw c.in-Some.is at (c.in_ok-next.ensures k)) (sym c.is_once-once.ensures ∙ c.if-once.true) (number-most c.args.kind) (c.read_entry.auto.parts ∙ c.loop-next.invariant.1 ∙ c.requires.fact_2.1) c.room_of-start.ensures.0
 
-pub loop-e-smaller : goal.loop-e-smaller
-loop-e-smaller c = let m = entry-moved c.loop-e.invariant.2 _ _ _ (λ k. rw c.in-Some.is at (c.in_ok-e.ensures k)) in omega (arith, m.0, m.1)
+pub loop-next-smaller : goal.loop-next-smaller
+loop-next-smaller c = let m = entry-moved c.loop-next.invariant.2 _ _ _ (λ k. rw c.in-Some.is at (c.in_ok-next.ensures k)) in omega (arith, m.0, m.1)
 
-pub loop-e-preserved : goal.loop-e-preserved
-loop-e-preserved c = (c.read_entry.auto.cells ∙ c.loop-e.invariant.0, c.read_entry.auto.parts ∙ c.loop-e.invariant.1, section-on c.loop-e.invariant.2 _ _ _ (λ k. rw c.in-Some.is at (c.in_ok-e.ensures k)) (sym c.is_once-once.ensures ∙ c.if-once.false))
+pub loop-next-preserved : goal.loop-next-preserved
+loop-next-preserved c = (c.read_entry.auto.cells ∙ c.loop-next.invariant.0, c.read_entry.auto.parts ∙ c.loop-next.invariant.1, section-on c.loop-next.invariant.2 _ _ _ (λ k. rw c.in-Some.is at (c.in_ok-next.ensures k)) (sym c.is_once-once.ensures ∙ c.if-once.false))
 
 pub offset_bounds-parts-start-2 : goal.offset_bounds-parts-start-2
 offset_bounds-parts-start-2 c = record { fits = omega (arith, start-within (number_of c.args.kind) (number-most c.args.kind), c.room_of-start.ensures.0) }
 
 pub bounds-parts-start-2 : goal.bounds-parts-start-2
-bounds-parts-start-2 c = omega (arith, start-within (number_of c.args.kind) (number-most c.args.kind), c.room_of-start.ensures.0, (c.read_entry.auto.parts ∙ c.loop-e.invariant.1 ∙ c.requires.fact_2.1))
+bounds-parts-start-2 c = omega (arith, start-within (number_of c.args.kind) (number-most c.args.kind), c.room_of-start.ensures.0, (c.read_entry.auto.parts ∙ c.loop-next.invariant.1 ∙ c.requires.fact_2.1))
 
 pub returns : goal.returns
-returns c = section-end c.loop-e.invariant.2 _ _ (number-most c.args.kind) (c.read_entry.auto.parts ∙ c.loop-e.invariant.1 ∙ c.requires.fact_2.1) c.room_of-start.ensures.0 (λ k. rw c.in_default.is at (c.in_ok-e.ensures k))
+returns c = section-end c.loop-next.invariant.2 _ _ (number-most c.args.kind) (c.read_entry.auto.parts ∙ c.loop-next.invariant.1 ∙ c.requires.fact_2.1) c.room_of-start.ensures.0 (λ k. rw c.in_default.is at (c.in_ok-next.ensures k))

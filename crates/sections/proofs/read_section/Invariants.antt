@@ -3,14 +3,13 @@ use Prim.Native.Nat.{ℕ, ◌-◌}
 use mathlib.Core.Path.{◌≡◌}
 use lib.ListN.{length}
 use Rattle.entries.specs.Sections.{number_of}
-use Rattle.entries.specs.Sections.{number_of}
 use Rattle.sections.specs.Runs.{SectionLoop}
 use Rattle.sections.proofs.read_section.Given as goal
 
-abbrev pub invariant-loop-e : goal.invariant-loop-e
-invariant-loop-e l =
-    (length l.cells ≡ length l.initial.cells) × (length l.parts ≡ length l.initial.parts) × ((k : ℕ) → SectionLoop l.t l.fn.at.position l.fn.at.line l.fn.at.rows (number_of l.kind) l.initial.cells l.initial.parts k l.behind.position l.behind.line l.behind.rows l.n l.last l.len l.cells l.parts)
+abbrev pub invariant-loop-next : goal.invariant-loop-next
+invariant-loop-next l =
+    (length l.cells ≡ length l.initial.cells) × (length l.parts ≡ length l.initial.parts) × ((k : ℕ) → SectionLoop l.t l.fn.at.position l.fn.at.line l.fn.at.rows (number_of l.kind) l.initial.cells l.initial.parts k l.run.at.position l.run.at.line l.run.at.rows l.run.count l.run.last l.cells l.parts)
 
-abbrev pub decreases-loop-e : goal.decreases-loop-e
-decreases-loop-e l =
-    length l.t - l.behind.position
+abbrev pub decreases-loop-next : goal.decreases-loop-next
+decreases-loop-next l =
+    length l.t - l.run.at.position

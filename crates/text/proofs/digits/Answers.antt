@@ -1,12 +1,8 @@
 -- `digits`: the digits from here on, behind the number so far, give what all give.
-use native.Mathlib.Omega.{arith}
 use native.Mathlib.Nat.{min-le_left}
-use mathlib.Core.Path.{sym, ◌∙◌, refl}
+use mathlib.Core.Path.{sym, ◌∙◌}
 use Rattle.text.specs.Numbers.{digits_step, digits-wrong, digits-end}
 use Rattle.text.proofs.digits.Goals as goal
-
-pub loop-b-init : goal.loop-b-init
-loop-b-init c = (omega arith, refl)
 
 pub returns-then-not-is_ascii_digit : goal.returns-then-not-is_ascii_digit
 returns-then-not-is_ascii_digit c = sym (digits-wrong _ _ _ _ c.loop-b-test.true (sym c.is_ascii_digit.ensures.value ∙ c.if-not-is_ascii_digit.true)) ∙ c.loop-b.invariant.1

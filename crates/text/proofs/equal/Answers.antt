@@ -1,6 +1,6 @@
 -- `equal`: the bytes from here on are the same.
 use mathlib.Core.Path.{sym}
-use Rattle.text.specs.Order.{alike-begin, alike-step, alike_end, differ-at, same-lengths}
+use Rattle.text.specs.Order.{alike-begin, alike-step, differ-at, same-lengths}
 use Rattle.text.proofs.equal.Goals as goal
 
 pub returns-then-x-y : goal.returns-then-x-y
@@ -14,6 +14,3 @@ returns-then-x-i c = sym (differ-at _ _ _ c.if-x-i.true)
 
 pub loop-i-preserved : goal.loop-i-preserved
 loop-i-preserved c = alike-step _ _ _ c.loop-i-test.true c.loop-i.invariant c.if-x-i.false
-
-pub returns : goal.returns
-returns c = sym (alike_end _ _ _ c.loop-i-test.false c.loop-i.invariant)

@@ -1,17 +1,16 @@
--- `packed`: the bytes from here on are packed.
+-- `packed`: the bytes behind those that are left are packed.
 use native.Mathlib.Omega.{arith}
-use Prim.Native.Nat.{◌-◌}
-use Rattle.text.specs.Packed.{packing-begin, packing-step, packing-end, packing-long, packed-as}
+use Rattle.text.specs.Packed.{left-begin, left-step, left-end, left-long}
 use Rattle.text.proofs.packed.Goals as goal
 
-pub loop-i-init : goal.loop-i-init
-loop-i-init c = packing-begin _
+pub loop-b-init : goal.loop-b-init
+loop-b-init c = rw (c.into_iter-b-iterator.ensures.into_iter_gives, c.rev-b-items.ensures.source, c.iter.ensures.rest, c.part-word.ensures) (left-begin _)
 
 pub returns-then-v-ge-ROOM : goal.returns-then-v-ge-ROOM
-returns-then-v-ge-ROOM c = packed-as _ _ _ c.part-word.ensures (packing-long _ _ _ c.loop-i-test.true c.loop-i.invariant c.if-v-ge-ROOM.true)
+returns-then-v-ge-ROOM c = left-long _ c.loop-b.invariant _ _ c.in-Some.ensures.steps c.if-v-ge-ROOM.true
 
-pub loop-i-preserved : goal.loop-i-preserved
-loop-i-preserved c = packing-step _ _ _ c.loop-i-test.true c.loop-i.invariant c.if-v-ge-ROOM.false (omega (arith, c.type_inv.word (c.loop-i.i - 1)))
+pub loop-b-preserved : goal.loop-b-preserved
+loop-b-preserved c = left-step _ c.loop-b.invariant _ _ c.in-Some.ensures.steps c.if-v-ge-ROOM.false (omega arith)
 
 pub returns : goal.returns
-returns c = packed-as _ _ _ c.part-word.ensures (packing-end _ _ _ c.loop-i-test.false c.loop-i.invariant)
+returns c = left-end _ c.loop-b.invariant c.in-None.ensures.steps.0

@@ -1,6 +1,7 @@
--- `packed`: the bytes from here on are packed.
-use Rattle.text.specs.Packed.{Packing}
+-- `packed`: the bytes behind those that are left are packed.
+use lib.ListN.{take, drop}
+use Rattle.text.specs.Packed.{Left}
 use Rattle.text.proofs.packed.Given as goal
 
-abbrev pub invariant-loop-i : goal.invariant-loop-i
-invariant-loop-i l = Packing l.word l.i l.v
+abbrev pub invariant-loop-b : goal.invariant-loop-b
+invariant-loop-b l = Left (take l.n (drop l.a l.t)) l.b-iterator.iter.rest.now l.v

@@ -1,10 +1,7 @@
 -- `stop_at`: from here on the first such byte is the one that is looked for.
-use mathlib.Core.Path.{refl, sym, ◌∙◌}
+use mathlib.Core.Path.{sym, ◌∙◌}
 use Rattle.text.specs.Bytes.{stop-none, stop-here, stop_step}
 use Rattle.text.proofs.stop_at.Goals as goal
-
-pub loop-i-init : goal.loop-i-init
-loop-i-init c = refl
 
 pub returns-then-b-x : goal.returns-then-b-x
 returns-then-b-x c = sym (stop-here _ _ _ _ c.loop-i-test.true c.then-b-x.either) ∙ c.loop-i.invariant

@@ -1,6 +1,6 @@
 -- `function::takes_star`, by the aggregate and the kind of the record.
 use Rattle.std.proofs.Common.{refl, ◌∙◌}
-use Rattle.ast.specs.Aggregates.{aggregate_of}
+use Rattle.numbers.specs.Aggregates.{aggregate_of}
 use Rattle.ast.specs.Row.{number_of}
 use Rattle.ast.specs.declared.row.Kind.TheVariants as K
 use Rattle.ast.proofs.KindNumbers.{same-kinds}

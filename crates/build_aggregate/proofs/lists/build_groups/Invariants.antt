@@ -6,8 +6,9 @@ use Rattle.build_aggregate.specs.Entries.{RowLoop}
 use Rattle.build_aggregate.specs.Kinds.{groups_listing}
 use Rattle.build_aggregate.proofs.lists.build_groups.Given as goal
 
-abbrev pub invariant-loop-i : goal.invariant-loop-i
-invariant-loop-i l =
-    (l.i ≤ length l.rows) × (l.at.used + length l.rows ≤ length l.initial.nodes) × RowLoop
-    (groups_listing l.exprs.texts.catalog.now l.exprs.texts.statement.now l.exprs.table.now l.scope.labels.now l.scope.matches.now l.scope.tables.now)
-    (tree_at l.exprs.texts.catalog.now l.exprs.texts.statement.now l.exprs.table.now) l.rows l.at.cell l.at.used l.initial.area l.initial.nodes l.i l.m l.area l.nodes
+abbrev pub invariant-loop-r : goal.invariant-loop-r
+invariant-loop-r l = (l.initial.nodes.used + length l.rows ≤ length l.initial.nodes.numbers.now)
+    × RowLoop (groups_listing l.exprs.texts.catalog.now l.exprs.texts.statement.now l.exprs.table.now l.scope.labels.now
+    l.scope.matches.now l.scope.tables.now)
+    (tree_at l.exprs.texts.catalog.now l.exprs.texts.statement.now l.exprs.table.now) l.rows l.cell l.initial.area
+    l.initial.nodes l.r-index l.m l.area l.nodes

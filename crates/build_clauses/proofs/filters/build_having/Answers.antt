@@ -4,7 +4,7 @@ use native.Mathlib.Omega.{arith}
 use Rattle.build_clauses.proofs.filters.build_having.Goals as goal
 
 pub returns-then-not-is_matched : goal.returns-then-not-is_matched
-returns-then-not-is_matched c = having-unmatched _ c.in-Some.is c.is_matched.ensures c.if-not-is_matched.true
+returns-then-not-is_matched c = rw c.at.ensures (having-unmatched _ c.in-Some.is c.is_matched.ensures c.if-not-is_matched.true)
 
 pub build_filter-requires : goal.build_filter-requires
 build_filter-requires c = record { room = clause-room _ _ _ _ c.in-Some.is c.requires.room; follows = c.requires.follows }

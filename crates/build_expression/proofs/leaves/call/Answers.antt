@@ -8,5 +8,5 @@ returns-then-is_root c = λ xs ms ts a n u. begins-root _ _ _ xs ms ts _ n a a u
     c.is_root.ensures ∙ c.if-is_root.true) refl
 
 pub returns : goal.returns
-returns c = λ xs ms ts a n u. begins-unknown _ _ _ xs ms ts _ n a a u c.requires _ (sym
-    c.is_root.ensures ∙ c.if-is_root.false) c.line.ensures refl
+returns c = λ xs ms ts a n u. rw c.at.ensures (begins-unknown _ _ _ xs ms ts _ n a a u c.requires _ (sym
+    c.is_root.ensures ∙ c.if-is_root.false) c.line.ensures refl)

@@ -20,8 +20,8 @@ unfolding number_of
 call-requires c = sym c.kind_of-kind.ensures ∙ ap number_of c.in-Call.is
 
 pub returns-in-Star : goal.returns-in-Star
-returns-in-Star c = begins-star _ _ _ _ _ _ _ _ _ _ c.requires.unmatched _ c.kind_of-kind.ensures _
-    c.in-Star.is c.line.ensures refl
+returns-in-Star c = rw c.at.ensures (begins-star _ _ _ _ _ _ _ _ _ _ c.requires.unmatched _ c.kind_of-kind.ensures _
+    c.in-Star.is c.line.ensures refl)
 
 pub returns-in_ok-column-in-Column : goal.returns-in_ok-column-in-Column
 unfolding qualifier_of

@@ -5,8 +5,8 @@ use Rattle.build_expression.proofs.Literals.{is-literal, is-cell}
 use Rattle.build_expression.proofs.operators.is.Goals as goal
 
 pub returns-then-not-is_null_or_nan : goal.returns-then-not-is_null_or_nan
-returns-then-not-is_null_or_nan c = λ t q. is-stops _ _ _ _ _ _ (is-literal t q _ _ c.literal-literal.ensures (c.is_null_or_nan.ensures t q)
-    ∙ c.if-not-is_null_or_nan.true) c.line.ensures refl
+returns-then-not-is_null_or_nan c = λ t q. rw c.at.ensures (is-stops _ _ _ _ _ _ (is-literal t q _ _ c.literal-literal.ensures (c.is_null_or_nan.ensures t q)
+    ∙ c.if-not-is_null_or_nan.true) c.line.ensures refl)
 
 pub returns : goal.returns
 returns c = λ t q. is-emits _ _ _ _ _ (is-literal t q _ _ c.literal-literal.ensures (c.is_null_or_nan.ensures t q)

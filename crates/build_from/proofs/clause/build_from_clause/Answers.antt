@@ -1,12 +1,8 @@
 -- `clause::build_from_clause`: in each turn the items behind the first i are left.
 use Rattle.std.proofs.lemmas.Result.{err_from_is_err_and}
-use Rattle.build_from.specs.Clause.{empty-room}
 use Rattle.build_from.specs.Parts.{clause-empty, clause-first-room, clause-first-refused, clause-first}
 use Rattle.build_from.specs.Parts.{clause-next-room, clause-next-refused, clause-next, clause-end}
 use Rattle.build_from.proofs.clause.build_from_clause.Goals as goal
-
-pub empty_clause-requires : goal.empty_clause-requires
-empty_clause-requires c = empty-room c.requires
 
 pub returns-then-count-eq0 : goal.returns-then-count-eq0
 returns-then-count-eq0 c = clause-empty _ _ _ _ _ _ c.requires c.items-count.ensures c.if-count-eq0.true c.empty_clause.ensures

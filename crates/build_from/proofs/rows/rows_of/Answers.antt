@@ -1,5 +1,5 @@
 -- `rows::rows_of`, by the row's kind.
-use Rattle.build_from.specs.Rows.{table-row, behind, sides-row, right-row, in-order}
+use Rattle.build_from.specs.Rows.{behind, sides-row, right-row, in-order}
 use mathlib.Core.Path.{refl, sym, ◌∙◌}
 use Rattle.build_from.proofs.rows.rows_of.Goals as goal
 
@@ -8,9 +8,6 @@ overflow_sub-result c = behind _ _ c.kind_of-kind.ensures (in-order c.in-Cross.i
 
 pub overflow_sub-result-in-Right : goal.overflow_sub-result-in-Right
 overflow_sub-result-in-Right c = behind _ _ (sym c.in-Right.is ∙ c.kind_of-kind.ensures) refl
-
-pub returns-in-Table : goal.returns-in-Table
-returns-in-Table c = table-row _ _ c.kind_of-kind.ensures c.in-Table.is
 
 pub returns-in-Cross : goal.returns-in-Cross
 returns-in-Cross c = let p = in-order c.in-Cross.is in sides-row _ _ c.kind_of-kind.ensures p.0 p.1 c.left-l.ensures refl

@@ -4,15 +4,12 @@ use native.Mathlib.Omega.{arith}
 use Rattle.build_from.proofs.tables.build_table.Goals as goal
 
 pub returns-in_default : goal.returns-in_default
-returns-in_default c = table-missing _ _ _ _ _ _ c.requires c.name_address.ensures c.name_length.ensures _ c.get_table-found.ensures
-    c.in_default.is c.line-l.ensures
+returns-in_default c = rw c.at.ensures (table-missing _ _ _ _ _ _ c.requires c.name-name.ensures.address c.name-name.ensures.length _
+    c.get_table-found.ensures c.in_default.is c.line-l.ensures)
 
-pub scan_row-e-requires : goal.scan_row-e-requires
-scan_row-e-requires c = omega (arith, (table-room c.requires).0)
-
-pub overflow_add-result : goal.overflow_add-result
-overflow_add-result c = record { fits = omega (arith, (table-room c.requires).1) }
+pub scan_row-requires : goal.scan_row-requires
+scan_row-requires c = omega (arith, (table-room c.requires).0)
 
 pub returns : goal.returns
-returns c = table-accepted _ _ _ _ _ _ c.requires c.name_address.ensures c.name_length.ensures _ c.get_table-found.ensures
-    c.in-Some.is c.named_scope-s.ensures c.scan_row-e.ensures c.line-l.ensures
+returns c = table-accepted _ _ _ _ _ _ c.requires c.name-name.ensures.address c.name-name.ensures.length _ c.get_table-found.ensures
+    c.in-Some.is c.named_scope-s.ensures c.scan_row.ensures c.line-l.ensures

@@ -10,10 +10,10 @@ pub loop-i-init : goal.loop-i-init
 loop-i-init c = (appending-begin _ _ _ _ (ap (collect_each_rows c.args.exprs.now.texts.catalog.now c.args.exprs.now.texts.statement.now c.args.exprs.now.table.now) (section-entries _ _ _ c.count-n.ensures)) (search rules))
 
 pub collect_at-x-requires : goal.collect_at-x-requires
-collect_at-x-requires c = collect-room _ _ _ _ _ _ _ c.loop-i.invariant _ _ c.loop-i-test.true c.entry_at-e.ensures c.first_row.ensures c.requires
+collect_at-x-requires c = collect-room _ _ _ _ _ _ _ c.loop-i.invariant _ _ c.loop-i-test.true c.entry_at.ensures c.first_row-r.ensures c.requires
 
 pub loop-i-preserved : goal.loop-i-preserved
-loop-i-preserved c = (collect-put _ _ _ _ _ _ _ c.loop-i.invariant _ _ c.loop-i-test.true c.entry_at-e.ensures c.first_row.ensures c.collect_at-x.ensures)
+loop-i-preserved c = (collect-put _ _ _ _ _ _ _ c.loop-i.invariant _ _ c.loop-i-test.true c.entry_at.ensures c.first_row-r.ensures c.collect_at-x.ensures)
 
 pub returns : goal.returns
 returns c = collect-end _ _ _ _ _ _ _ c.loop-i.invariant c.loop-i-test.false

@@ -13,7 +13,7 @@ pub bounds-rows-i : goal.bounds-rows-i
 bounds-rows-i c = row_room _ _ _ _ c.loop-i.invariant c.loop-i-test.true (search rules)
 
 pub loop-i-preserved : goal.loop-i-preserved
-loop-i-preserved c = (row_put _ _ _ _ c.loop-i.invariant _ _ c.loop-i-test.true (search rules) c.entry_at-e.ensures c.first_row.ensures)
+loop-i-preserved c = (row_put _ _ _ _ c.loop-i.invariant _ _ c.loop-i-test.true (search rules) c.entry_at.ensures c.first_row.ensures)
 
 pub returns : goal.returns
 returns c = rows_end _ _ _ _ c.loop-i.invariant c.loop-i-test.false (omega arith)

@@ -14,8 +14,5 @@ loop-k-preserved c = keys-more c.requires c.loop-k.invariant _ c.count-total.ens
     c.entry_at-e.ensures c.first_row.ensures
     c.visit_rows.ensures
 
-pub shape_of-rows : goal.shape_of-rows
-shape_of-rows c = c.loop-k.invariant.appended.all
-
 pub returns : goal.returns
 returns c = keys-end c.requires c.loop-k.invariant _ c.count-total.ensures c.loop-k-test.false

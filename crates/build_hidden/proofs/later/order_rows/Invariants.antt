@@ -3,4 +3,4 @@ use Rattle.build_hidden.specs.Later.{KeysVisiting}
 use Rattle.build_hidden.proofs.later.order_rows.Given as goal
 
 abbrev pub invariant-loop-k : goal.invariant-loop-k
-invariant-loop-k l = KeysVisiting l.cells l.parts l.initial.rows l.n l.rows l.m l.k
+invariant-loop-k l = KeysVisiting l.cells l.parts l.initial.rows l.k l.rows

@@ -7,16 +7,16 @@ use Rattle.ast.specs.Operands.{operands-inside}
 use Rattle.ast.specs.Row.{number_of}
 use Rattle.ast.specs.declared.row.Kind.TheVariants as K
 use Rattle.ast.proofs.KindNumbers.{same-kinds}
-use Rattle.build_hidden.specs.Rows.{first_fits, visiting-begin, visiting-fits, visiting-kept}
+use Rattle.build_hidden.specs.Rows.{first_fits, visiting-begin, visiting-fits}
 use Rattle.build_hidden.specs.Rows.{visiting-end, visiting-stop, visiting-more}
 use Rattle.build_hidden.proofs.walk.+visit_rows.Goals as goal
 
-pub bounds-rows-count : goal.bounds-rows-count
-bounds-rows-count t c = first_fits c.requires
+pub push-requires : goal.push-requires
+push-requires t c = first_fits c.requires
 
 pub returns-then-left-eq0 : goal.returns-then-left-eq0
 unfolding number_of
-returns-then-left-eq0 t c = visiting-end c.requires (visiting-begin _ _ _ _ _ c.requires
+returns-then-left-eq0 t c = visiting-end (visiting-begin _ _ _ c.push.ensures
     (c.eq-any.ensures ∙ same-kinds _ K.Call c.kind_of.ensures refl) c.operands-left.ensures) (omega arith)
 
 pub overflow_add-p : goal.overflow_add-p
@@ -28,33 +28,26 @@ loop-i-init t c = (
   omega arith,
   operands-inside _ _ (λ e. c.if-left-eq0.false (c.operands-left.ensures ∙ e)),
   let z : c.operands-left.result - 0 ≡ c.operands-left.result = omega arith in
-      rw z (visiting-begin _ _ _ _ _ c.requires (c.eq-any.ensures ∙ same-kinds _ K.Call c.kind_of.ensures refl) c.operands-left.ensures),
+      rw z (visiting-begin _ _ _ c.push.ensures (c.eq-any.ensures ∙ same-kinds _ K.Call c.kind_of.ensures refl) c.operands-left.ensures),
 )
 
 pub visit_rows-answer-requires : goal.visit_rows-answer-requires
 visit_rows-answer-requires t c = (
   omega (arith, c, c.loop-i.invariant.0, c.loop-i.invariant.1),
-  visiting-fits c.requires
-      c.loop-i.invariant.2 (omega (arith, c.loop-i-test.true)),
+  visiting-fits c.loop-i.invariant.2 c.requires (omega (arith, c.loop-i-test.true)),
 )
 
-pub shape_of-rows-then-answer-any : goal.shape_of-rows-then-answer-any
-shape_of-rows-then-answer-any t c = c.visit_rows-answer.ensures.appended.all ∙ visiting-kept c.requires c.loop-i.invariant.2
-
 pub returns-then-answer-any : goal.returns-then-answer-any
-returns-then-answer-any t c = visiting-stop c.requires c.loop-i.invariant.2 (omega (arith, c.loop-i-test.true))
+returns-then-answer-any t c = visiting-stop c.loop-i.invariant.2 (omega (arith, c.loop-i-test.true))
     c.visit_rows-answer.ensures c.if-answer-any.true
 
 pub loop-i-preserved : goal.loop-i-preserved
 loop-i-preserved t c = let z : c.operands-left.result - (c.loop-i.i + 1) ≡ c.operands-left.result - c.loop-i.i - 1 = omega arith in rw (z, c.next-p.ensures) (
   omega arith,
   c.loop-i.invariant.1,
-  visiting-more c.requires c.loop-i.invariant.2 (omega (arith, c.loop-i-test.true))
+  visiting-more c.loop-i.invariant.2 (omega (arith, c.loop-i-test.true))
       c.visit_rows-answer.ensures c.if-answer-any.false,
 )
 
-pub shape_of-rows : goal.shape_of-rows
-shape_of-rows t c = visiting-kept c.requires c.loop-i.invariant.2
-
 pub returns : goal.returns
-returns t c = visiting-end c.requires c.loop-i.invariant.2 (omega (arith, c.loop-i-test.false))
+returns t c = visiting-end c.loop-i.invariant.2 (omega (arith, c.loop-i-test.false))

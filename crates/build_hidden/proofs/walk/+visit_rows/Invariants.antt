@@ -12,4 +12,4 @@ decreases-visit_rows l = length l.table.now - l.r
 abbrev pub invariant-loop-i : goal.invariant-loop-i
 invariant-loop-i l =
     (l.r < l.p) × (row_size * l.r < length l.table)
-    × Visiting l.table l.r l.initial.rows l.initial.count l.any l.rows (l.left - l.i) l.p l.count
+    × Visiting l.table l.r l.any l.fn.rows (l.left - l.i) l.p l.rows

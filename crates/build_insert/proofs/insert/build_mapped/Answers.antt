@@ -1,7 +1,6 @@
 -- `insert::build_mapped`: the node of the rows, and the end.
 use Rattle.plan.specs.Emits.{exit}
-use mathlib.Core.Path.{refl}
-use Rattle.build_insert.specs.Inserts.{rows-room, rows_fit, rows-refused, rows-free, rows-most, rows-map, rows-planned}
+use Rattle.build_insert.specs.Inserts.{rows-room, rows_fit, rows-refused, rows-area, rows-most, rows-map, rows-planned}
 use Rattle.build_insert.proofs.insert.build_mapped.Goals as goal
 
 pub build_node-requires : goal.build_node-requires
@@ -9,14 +8,14 @@ build_node-requires c = record { room = rows-room c.requires.free c.requires.ins
 
 pub end_insert-requires : goal.end_insert-requires
 end_insert-requires c = record {
-  free = rows-free c.requires.free c.requires.insert_fits c.build_node.ensures _ c.in_ok-node.was;
-  m_le_most_plan_cells = rows-most c.requires.free c.requires.insert_fits
-      c.build_node.ensures _ c.in_ok-node.was;
-  map_fits = rows-map c.requires.free c.requires.insert_fits c.build_node.ensures _ c.in_ok-node.was refl;
+  area_room = rows-area c.requires.free c.requires.insert_fits c.build_node.ensures _ c.in_ok-cells.was;
+  cells_le_most_plan_cells = rows-most c.requires.free c.requires.insert_fits
+      c.build_node.ensures _ c.in_ok-cells.was;
+  map_fits = rows-map c.requires.free c.requires.insert_fits c.build_node.ensures _ c.in_ok-cells.was;
 }
 
-pub returns-in_err-node : goal.returns-in_err-node
-returns-in_err-node c = rw (exit c.from_residual.result c.from_residual.ensures.1) (rows-refused c.requires.free c.requires.insert_fits c.build_node.ensures c.args.exprs.now.texts.catalog.now c.args.exprs.now.texts.statement.now c.args.name.address c.args.name.length _ c.in_err-node.was)
+pub returns-in_err-cells : goal.returns-in_err-cells
+returns-in_err-cells c = rw (exit c.from_residual.result c.from_residual.ensures.1) (rows-refused c.requires.free c.requires.insert_fits c.build_node.ensures c.args.exprs.now.texts.catalog.now c.args.exprs.now.texts.statement.now c.args.name.address c.args.name.length _ c.in_err-cells.was)
 
 pub returns : goal.returns
-returns c = rows-planned c.requires.free c.requires.insert_fits c.build_node.ensures _ c.in_ok-node.was c.args.exprs.now.texts.catalog.now c.args.exprs.now.texts.statement.now c.args.name.address c.args.name.length c.end_insert.auto.area c.end_insert.ensures
+returns c = rows-planned c.requires.free c.requires.insert_fits c.build_node.ensures _ c.in_ok-cells.was c.args.exprs.now.texts.catalog.now c.args.exprs.now.texts.statement.now c.args.name.address c.args.name.length c.end_insert.auto.area c.end_insert.ensures

@@ -7,16 +7,16 @@ pub loop-v-init : goal.loop-v-init
 loop-v-init c = map-none c.args.exprs.now.texts.catalog.now c.args.exprs.now.texts.statement.now c.args.exprs.now.table.now c.args.parts.now (columns_of c.args.exprs.now.texts.catalog.now c.args.exprs.now.texts.statement.now c.args.tables.now c.args.i) _
 
 pub returns-in_default : goal.returns-in_default
-returns-in_default c = name-unknown c.args.exprs.now.texts.catalog.now c.args.exprs.now.texts.statement.now c.args.exprs.now.table.now c.args.parts.now (columns_of c.args.exprs.now.texts.catalog.now c.args.exprs.now.texts.statement.now c.args.tables.now c.args.i) c.loop-v.invariant _ c.entry_at-e.ensures (omega (
+returns-in_default c = rw c.at.ensures (name-unknown c.args.exprs.now.texts.catalog.now c.args.exprs.now.texts.statement.now c.args.exprs.now.table.now c.args.parts.now (columns_of c.args.exprs.now.texts.catalog.now c.args.exprs.now.texts.statement.now c.args.tables.now c.args.i) c.loop-v.invariant _ c.entry_at-e.ensures (omega (
   arith,
   c.loop-v-test.true,
   c.count-count.ensures c.args.exprs.now.texts.catalog.now c.args.exprs.now.texts.statement.now c.args.exprs.now.table.now,
-)) _ c.name_start.ensures _ c.column_at-found.ensures c.in_default.is
+)) _ c.name_or-name.ensures _ c.column_at-found.ensures c.in_default.is)
 
 pub returns-then-is_mapped : goal.returns-then-is_mapped
-returns-then-is_mapped c = name-repeated c.args.exprs.now.texts.catalog.now c.args.exprs.now.texts.statement.now c.args.exprs.now.table.now c.args.parts.now (columns_of c.args.exprs.now.texts.catalog.now c.args.exprs.now.texts.statement.now c.args.tables.now c.args.i) c.loop-v.invariant _ c.entry_at-e.ensures (omega
+returns-then-is_mapped c = rw c.at-then-is_mapped.ensures (name-repeated c.args.exprs.now.texts.catalog.now c.args.exprs.now.texts.statement.now c.args.exprs.now.table.now c.args.parts.now (columns_of c.args.exprs.now.texts.catalog.now c.args.exprs.now.texts.statement.now c.args.tables.now c.args.i) c.loop-v.invariant _ c.entry_at-e.ensures (omega
     (arith, c.loop-v-test.true, c.count-count.ensures c.args.exprs.now.texts.catalog.now c.args.exprs.now.texts.statement.now c.args.exprs.now.table.now)) _
-    c.name_start.ensures _ c.column_at-found.ensures _ c.in-Some.is _ c.is_mapped.ensures c.if-is_mapped.true
+    c.name_or-name.ensures _ c.column_at-found.ensures _ c.in-Some.is _ c.is_mapped.ensures c.if-is_mapped.true)
 
 pub map_value-requires : goal.map_value-requires
 map_value-requires c = omega (
@@ -31,7 +31,7 @@ map_value-requires c = omega (
 pub loop-v-preserved : goal.loop-v-preserved
 loop-v-preserved c = name-mapped c.args.exprs.now.texts.catalog.now c.args.exprs.now.texts.statement.now c.args.exprs.now.table.now c.args.parts.now (columns_of c.args.exprs.now.texts.catalog.now c.args.exprs.now.texts.statement.now c.args.tables.now c.args.i) c.loop-v.invariant _ c.entry_at-e.ensures (omega
     (arith, c.loop-v-test.true, c.count-count.ensures c.args.exprs.now.texts.catalog.now c.args.exprs.now.texts.statement.now c.args.exprs.now.table.now)) _
-    c.name_start.ensures _ c.column_at-found.ensures _ c.in-Some.is _ c.is_mapped.ensures c.if-is_mapped.false (omega (
+    c.name_or-name.ensures _ c.column_at-found.ensures _ c.in-Some.is _ c.is_mapped.ensures c.if-is_mapped.false (omega (
       arith,
       c.loop-v.invariant.same,
       c.requires,
@@ -41,4 +41,13 @@ loop-v-preserved c = name-mapped c.args.exprs.now.texts.catalog.now c.args.exprs
 
 pub returns : goal.returns
 returns c = map-all c.args.exprs.now.texts.catalog.now c.args.exprs.now.texts.statement.now c.args.exprs.now.table.now c.args.parts.now (columns_of c.args.exprs.now.texts.catalog.now c.args.exprs.now.texts.statement.now c.args.tables.now c.args.i) c.loop-v.invariant _ (c.count-count.ensures c.args.exprs.now.texts.catalog.now c.args.exprs.now.texts.statement.now c.args.exprs.now.table.now) (omega (arith, c.loop-v-test.false))
-    c.loop-v.invariant.few
+    c.loop-v.invariant.few c.requires
+
+pub is_mapped-requires : goal.is_mapped-requires
+is_mapped-requires c = omega (
+  arith,
+  c.loop-v.invariant.same,
+  c.requires,
+  c.loop-v-test.true,
+  c.count-count.ensures c.args.exprs.now.texts.catalog.now c.args.exprs.now.texts.statement.now c.args.exprs.now.table.now,
+)

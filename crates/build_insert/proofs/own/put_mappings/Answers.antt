@@ -1,22 +1,19 @@
 -- `own::put_mappings`: value by value.
 use native.Mathlib.Omega.{arith}
-use Rattle.build_insert.specs.Own.{put-none, put-kept, put-room, put-more, put_all}
+use Rattle.build_insert.specs.Own.{put-none, put-room, put-more, put_all}
 use Rattle.build_insert.proofs.own.put_mappings.Goals as goal
 
 pub loop-v-init : goal.loop-v-init
-loop-v-init c = (omega arith, put-none _ _ _ (omega (arith, c.requires)))
+loop-v-init c = (omega arith, put-none _ _ (omega (arith, c.requires.room)))
 
-pub mapping-j-requires : goal.mapping-j-requires
-mapping-j-requires c = put-room c.loop-v.invariant.1 _ c.loop-v-test.true c.requires
+pub mapping-requires : goal.mapping-requires
+mapping-requires c = put-room c.loop-v.invariant.1 _ c.loop-v-test.true c.requires.room
 
 pub loop-v-preserved : goal.loop-v-preserved
 loop-v-preserved c = (
   omega (arith, c.loop-v-test.true),
-  put-more c.loop-v.invariant.1 _ c.column_of-column.ensures c.mapping-j.ensures,
+  put-more c.loop-v.invariant.1 _ c.column_of-column.ensures c.mapping.ensures,
 )
-
-pub shape_of-nodes : goal.shape_of-nodes
-shape_of-nodes c = put-kept c.loop-v.invariant.1
 
 pub returns : goal.returns
 returns c = put_all c.loop-v.invariant.1 _ c.loop-v.invariant.0 (omega (arith, c.loop-v-test.false))

@@ -4,17 +4,17 @@ use native.Mathlib.Omega.{arith}
 use Rattle.build_insert.specs.Rows.{node-room, node-refused, node_end, node_lists}
 use Rattle.build_insert.proofs.rows.build_node.Goals as goal
 
-pub begin_values-k-requires : goal.begin_values-k-requires
-begin_values-k-requires c = omega (arith, c.requires.rows_fit.numbers)
+pub begin_values-requires : goal.begin_values-requires
+begin_values-requires c = omega (arith, c.requires.rows_fit.numbers)
 
 pub build_rows-requires : goal.build_rows-requires
-build_rows-requires c = record { room = c.requires.room; parts_in_bounds = node-room c.requires.rows_fit c.begin_values-k.ensures }
+build_rows-requires c = record { room = c.requires.room; nodes_room = node-room c.requires.rows_fit c.begin_values.ensures }
 
-pub returns-in_err-rows : goal.returns-in_err-rows
-returns-in_err-rows c = rw (exit c.from_residual.result c.from_residual.ensures.1) (node-refused c.requires.rows_fit c.begin_values-k.ensures c.build_rows.ensures _ c.in_err-rows.was)
+pub returns-in_err-cells : goal.returns-in_err-cells
+returns-in_err-cells c = rw (exit c.from_residual.result c.from_residual.ensures.1) (node-refused c.requires.rows_fit c.begin_values.ensures c.build_rows.ensures _ c.in_err-cells.was)
 
 pub end-requires : goal.end-requires
-end-requires c = node_end c.requires.rows_fit c.begin_values-k.ensures c.build_rows.ensures _ c.in_ok-rows.was
+end-requires c = node_end c.requires.rows_fit c.begin_values.ensures c.build_rows.ensures _ c.in_ok-cells.was
 
 pub returns : goal.returns
-returns c = node_lists c.requires.rows_fit c.begin_values-k.ensures c.build_rows.ensures _ c.in_ok-rows.was c.end.ensures
+returns c = node_lists c.requires.rows_fit c.begin_values.ensures c.build_rows.ensures _ c.in_ok-cells.was c.end.ensures

@@ -1,11 +1,11 @@
 -- `rows::build_rows`: row by row.
 use Rattle.plan.specs.Emits.{exit}
 use native.Mathlib.Omega.{arith}
-use Rattle.build_insert.specs.Rows.{rows_none, rows-kept, rows_all, rows-room, rows-space, rows-stop, rows_more, rows-done}
+use Rattle.build_insert.specs.Rows.{rows_none, rows-kept, rows-room, rows-space, rows-stop, rows_more, rows-done}
 use Rattle.build_insert.proofs.rows.build_rows.Goals as goal
 
 pub loop-i-init : goal.loop-i-init
-loop-i-init c = rows_none _ _ _ _ _ _ _ c.requires.room c.requires.parts_in_bounds
+loop-i-init c = rows_none _ _ _ _ _ _ c.requires.room c.requires.nodes_room
 
 pub build_row-requires : goal.build_row-requires
 build_row-requires c = record {
@@ -15,7 +15,7 @@ build_row-requires c = record {
     c.count-rows.ensures c.args.exprs.now.texts.catalog.now
         c.args.exprs.now.texts.statement.now c.args.exprs.now.table.now,
   ));
-  expressions_in_bounds = rows-space c.loop-i.invariant _ c.entry_at-e.ensures (omega (
+  nodes_room = rows-space c.loop-i.invariant _ c.entry_at-e.ensures (omega (
     arith,
     c.loop-i-test.true,
     c.count-rows.ensures c.args.exprs.now.texts.catalog.now c.args.exprs.now.texts.statement.now c.args.exprs.now.table.now,
@@ -40,9 +40,6 @@ loop-i-preserved c = rows_more c.loop-i.invariant _ c.entry_at-e.ensures (omega 
 
 pub shape_of-area : goal.shape_of-area
 shape_of-area c = rows-kept c.loop-i.invariant
-
-pub shape_of-nodes : goal.shape_of-nodes
-shape_of-nodes c = rows_all c.loop-i.invariant
 
 pub returns : goal.returns
 returns c = rows-done c.loop-i.invariant _ (c.count-rows.ensures c.args.exprs.now.texts.catalog.now c.args.exprs.now.texts.statement.now

@@ -4,11 +4,11 @@ use native.Mathlib.Omega.{arith}
 use Rattle.build_insert.specs.Values.{value-refused, value-some, value-done}
 use Rattle.build_insert.proofs.rows.build_value.Goals as goal
 
-pub overflow_sub-cell : goal.overflow_sub-cell
-overflow_sub-cell c = omega (arith, value-some c.build_expression.ensures _ c.in_ok-cell.was)
+pub overflow_sub-next : goal.overflow_sub-next
+overflow_sub-next c = omega (arith, value-some c.build_expression.ensures _ c.in_ok-next.was)
 
-pub returns-in_err-cell : goal.returns-in_err-cell
-returns-in_err-cell c = rw (exit c.from_residual.result c.from_residual.ensures.1) (value-refused c.build_expression.ensures _ c.in_err-cell.was)
+pub returns-in_err-next : goal.returns-in_err-next
+returns-in_err-next c = rw (exit c.from_residual.result c.from_residual.ensures.1) (value-refused c.build_expression.ensures _ c.in_err-next.was)
 
 pub returns : goal.returns
-returns c = value-done c.build_expression.ensures _ c.in_ok-cell.was c.push-used.ensures
+returns c = value-done c.build_expression.ensures _ c.in_ok-next.was c.push.ensures

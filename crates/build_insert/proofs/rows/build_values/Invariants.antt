@@ -5,4 +5,4 @@ use Rattle.build_insert.proofs.rows.build_values.Given as goal
 
 abbrev pub invariant-loop : goal.invariant-loop
 invariant-loop l =
-    ValuesSoFar l.exprs.texts.catalog.now l.exprs.texts.statement.now l.exprs.table.now l.values l.r l.fn.at.cell l.initial.area l.fn.at.used l.initial.nodes (l.values - l.counter) l.p l.built.cell l.built.used l.area l.nodes
+    ValuesSoFar l.exprs.texts.catalog.now l.exprs.texts.statement.now l.exprs.table.now l.values l.r l.cell l.initial.area l.initial.nodes (l.values - l.counter) l.row l.built l.area l.nodes

@@ -1,10 +1,6 @@
 -- `projected::project_scope`: the labels of the items, and what is matched to them.
-use Rattle.build_project.specs.Labels.{rows-length}
 use Rattle.build_project.specs.Projected.{matched-fit, plain-fit, matched-projected, plain-projected}
 use Rattle.build_project.proofs.projected.project_scope.Goals as goal
-
-pub slice_bounds-project_items-end : goal.slice_bounds-project_items-end
-slice_bounds-project_items-end c = rows-length c.args.parts.now c.args.items.now c.item_rows.ensures
 
 pub project_items-requires : goal.project_items-requires
 project_items-requires c = matched-fit c.requires.items_ready (λ e. rw c.view.ensures.matches at (c.is_matched.ensures e)) c.requires.labels_value c.if-is_matched.true c.item_rows.ensures

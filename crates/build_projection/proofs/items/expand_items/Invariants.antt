@@ -3,4 +3,4 @@ use Rattle.build_projection.specs.Listing.{Listing}
 use Rattle.build_projection.proofs.items.expand_items.Given as goal
 
 abbrev pub invariant-loop-k : goal.invariant-loop-k
-invariant-loop-k l = Listing l.initial.cells l.parts l.tables l.labels l.expand l.k l.n l.s l.cells l.items
+invariant-loop-k l = Listing l.initial.cells l.parts l.tables l.labels l.expand l.k l.listed.count l.listed.starred l.cells l.items

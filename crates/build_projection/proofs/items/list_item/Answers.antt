@@ -4,13 +4,13 @@ use Rattle.build_projection.specs.Steps.{entry-limit, entry_listed, star-limit, 
 use Rattle.build_projection.proofs.items.list_item.Goals as goal
 
 pub returns-then-n-ge-COLUMNS : goal.returns-then-n-ge-COLUMNS
-returns-then-n-ge-COLUMNS c = rw c.in-None.is (entry-limit _ _ _ _ _ _ _ _ c.if-n-ge-COLUMNS.true)
+returns-then-n-ge-COLUMNS c = rw (c.in-None.is, c.at.ensures) (entry-limit _ _ _ _ _ _ _ c.if-n-ge-COLUMNS.true)
 
-pub returns-then-left-labels : goal.returns-then-left-labels
-returns-then-left-labels c = rw c.in-Some.is (star-limit _ _ _ _ _ _ _ _ _ (omega arith))
+pub returns-then-n-w : goal.returns-then-n-w
+returns-then-n-w c = rw (c.in-Some.is, c.at-then-n-w.ensures) (star-limit _ _ _ _ _ _ _ _ (omega arith))
 
 pub returns-else-n-ge-COLUMNS : goal.returns-else-n-ge-COLUMNS
-returns-else-n-ge-COLUMNS c = rw c.in-None.is (entry_listed _ _ _ _ _ _ _ _ (omega arith))
+returns-else-n-ge-COLUMNS c = rw c.in-None.is (entry_listed _ _ _ _ _ _ _ (omega arith))
 
-pub returns-else-left-labels : goal.returns-else-left-labels
-returns-else-left-labels c = rw c.in-Some.is (star-listed _ _ _ _ _ _ _ _ _ _ _ (omega arith) c.put_columns.ensures c.put_rows.ensures)
+pub returns-else-n-w : goal.returns-else-n-w
+returns-else-n-w c = rw c.in-Some.is (star-listed _ _ _ _ _ _ _ _ _ _ (omega arith) c.put_columns.ensures c.put_rows.ensures)

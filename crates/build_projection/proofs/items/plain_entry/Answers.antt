@@ -2,8 +2,8 @@
 use Rattle.build_projection.specs.Items.{plain-aliased, plain-free}
 use Rattle.build_projection.proofs.items.plain_entry.Goals as goal
 
-pub returns-then-e-ne0 : goal.returns-then-e-ne0
-returns-then-e-ne0 c = plain-aliased _ _ _ _ c.entry_at-e.ensures c.if-e-ne0.true
+pub returns-in-Some : goal.returns-in-Some
+returns-in-Some c = plain-aliased _ _ _ _ c.entry_at-e.ensures c.in-Some.is
 
-pub returns : goal.returns
-returns c = plain-free _ _ _ _ c.entry_at-e.ensures _ _ c.first_row.ensures c.star_at.ensures c.if-e-ne0.false
+pub returns-in-None : goal.returns-in-None
+returns-in-None c = plain-free _ _ _ _ c.entry_at-e.ensures _ _ c.first_row.ensures c.star_at.ensures c.in-None.is

@@ -9,14 +9,14 @@ use Rattle.build_projection.proofs.projection.put_item.Goals as goal
 pub build_item-requires : goal.build_item-requires
 build_item-requires c = rw (c.item_row-row.ensures, ← item-tree c.args.exprs.now.texts.catalog.now c.args.exprs.now.texts.statement.now c.args.exprs.now.table.now c.args.parts.now c.args.x) c.requires.room
 
-pub overflow_sub-built : goal.overflow_sub-built
-overflow_sub-built c = let l = put_some _ _ c.item_row-row.ensures c.in_ok-built.ensures in omega arith
+pub overflow_sub-next : goal.overflow_sub-next
+overflow_sub-next c = let l = put_some _ _ c.item_row-row.ensures c.in_ok-next.ensures in omega arith
 
-pub returns-in_err-built : goal.returns-in_err-built
-returns-in_err-built c = let p = err_from_is_err_and c.from_residual.result c.from_residual.ensures.1 in rw (p.1, p.2)
-    (put_refused _ _ c.item_row-row.ensures c.in_err-built.ensures _ _ _)
+pub returns-in_err-next : goal.returns-in_err-next
+returns-in_err-next c = let p = err_from_is_err_and c.from_residual.result c.from_residual.ensures.1 in rw (p.1, p.2)
+    (put_refused _ _ c.item_row-row.ensures c.in_err-next.ensures _)
 
 pub returns : goal.returns
-returns c = put-done _ _ c.item_row-row.ensures c.in_ok-built.ensures
-    (c.item-used.ensures (item_of c.args.exprs.now.texts.catalog.now c.args.exprs.now.texts.statement.now c.args.exprs.now.table.now c.args.parts.now c.args.x).alias
+returns c = put-done _ _ c.item_row-row.ensures c.in_ok-next.ensures
+    (c.item.ensures (item_of c.args.exprs.now.texts.catalog.now c.args.exprs.now.texts.statement.now c.args.exprs.now.table.now c.args.parts.now c.args.x).alias
     (rw c.alias_at-alias.ensures (alias-span c.args.exprs.now.texts.catalog.now c.args.exprs.now.texts.statement.now c.args.exprs.now.table.now c.args.parts.now c.args.x)))

@@ -1,7 +1,7 @@
 -- `projection::put_items`: the cells, parts and labels of the items so far, and the items that are left.
 use Rattle.std.proofs.lemmas.Result.{err_from_is_err_and}
 use native.Mathlib.Omega.{arith}
-use mathlib.Core.Path.{refl, sym, ◌∙◌}
+use mathlib.Core.Path.{refl}
 use lib.ListN.{length-map}
 use Rattle.numbers.specs.Kept.{kept-all, kept-part}
 use Rattle.scope.specs.Copies.{copying-begin, copying-map, stored}
@@ -15,38 +15,26 @@ loop-i-init c = (pushing-begin _ _ _ c.requires.items_fit, copying-begin _ c.req
 pub put_item-requires : goal.put_item-requires
 put_item-requires c = record { room = room-here c.loop-i.invariant.0 c.loop-i-test.true; item_size_in_bounds = space-here c.loop-i.invariant.0 c.loop-i-test.true }
 
-pub returns-in_err-part : goal.returns-in_err-part
-returns-in_err-part c = let p = err_from_is_err_and c.from_residual.result c.from_residual.ensures.1 in rw (p.1, p.2)
+pub returns-in_err-next : goal.returns-in_err-next
+returns-in_err-next c = let p = err_from_is_err_and c.from_residual.result c.from_residual.ensures.1 in rw (p.1, p.2)
     (record {
       items_put = pushing-refused c.loop-i.invariant.0 c.loop-i-test.true
-          (used-put c.args.scope.now.matches.now c.used-used.ensures.matches (rw (c.used-used.ensures.labels, c.used-used.ensures.tables) at c.in_err-part.ensures));
+          (used-put c.args.scope.now.matches.now c.used-used.ensures.matches (rw (c.used-used.ensures.labels, c.used-used.ensures.tables) at c.in_err-next.ensures));
       labelled = record { is = tt; kept = kept-part _ _ c.loop-i.invariant.2 c.loop-i.invariant.0.within (omega arith) };
     })
 
 pub item_label-requires : goal.item_label-requires
-item_label-requires c = record { used_value = c.used-used.ensures.matches; item_stands = stands-put (cells-before c.loop-i.invariant.0) (used-put c.args.scope.now.matches.now c.used-used.ensures.matches (rw (c.used-used.ensures.labels, c.used-used.ensures.tables) at c.in_ok-part.ensures)) }
-
-pub bounds-projected-i : goal.bounds-projected-i
-bounds-projected-i c = omega (arith, c.requires.items_fit.few, c.loop-i-test.true, c.loop-i.invariant.1.room)
+item_label-requires c = record { used_value = c.used-used.ensures.matches; item_stands = stands-put (cells-before c.loop-i.invariant.0) (used-put c.args.scope.now.matches.now c.used-used.ensures.matches (rw (c.used-used.ensures.labels, c.used-used.ensures.tables) at c.in_ok-next.ensures)) }
 
 pub loop-i-preserved : goal.loop-i-preserved
 loop-i-preserved c = (
-  pushing-more c.loop-i.invariant.0 c.loop-i-test.true (used-put c.args.scope.now.matches.now c.used-used.ensures.matches (rw (c.used-used.ensures.labels, c.used-used.ensures.tables) at c.in_ok-part.ensures)) c.put_item.auto.area,
+  pushing-more c.loop-i.invariant.0 c.loop-i-test.true (used-put c.args.scope.now.matches.now c.used-used.ensures.matches (rw (c.used-used.ensures.labels, c.used-used.ensures.tables) at c.in_ok-next.ensures)) c.put_item.auto.area,
   copying-map (label_number c.args.exprs.now.texts.catalog.now c.args.exprs.now.texts.statement.now c.args.exprs.now.table.now c.args.parts.now
       c.args.scope.now.labels.now c.args.scope.now.matches.now
       c.args.scope.now.tables.now) c.args.items.now _ c.loop-i.invariant.1 (omega (arith, c.requires.items_fit.few, c.loop-i-test.true))
       c.loop-i-test.true c.item_label.ensures,
   kept_next _ c.loop-i.invariant.2,
 )
-
-pub shape_of-area : goal.shape_of-area
-shape_of-area c = c.loop-i.invariant.0.area-kept
-
-pub shape_of-nodes : goal.shape_of-nodes
-shape_of-nodes c = c.loop-i.invariant.0.nodes-kept
-
-pub shape_of-projected : goal.shape_of-projected
-shape_of-projected c = c.loop-i.invariant.1.room ∙ sym c.requires.projected_len
 
 pub returns : goal.returns
 returns c = record {

@@ -1,5 +1,4 @@
 -- `create::build_create_table`: no key, two, or one.
-use native.Mathlib.Omega.{arith}
 use mathlib.Core.Path.{refl}
 use Rattle.rules.specs.Refusals.{no_primary_key, multiple_primary_keys}
 use Rattle.numbers.specs.Reasons.{named}
@@ -9,23 +8,15 @@ use Rattle.build_statement.proofs.create.build_create_table.Goals as goal
 
 pub returns-in_default : goal.returns-in_default
 unfolding named
-returns-in_default c = not-planned no_primary_key _ _ _ refl refl c.line.ensures
-    (no_key c.args.exprs.now.texts.catalog.now c.args.exprs.now.texts.statement.now c.args.exprs.now.table.now c.args.parts.now (c.key_column.ensures c.args.exprs.now.texts.catalog.now c.args.exprs.now.texts.statement.now c.args.exprs.now.table.now) c.in_default.is)
-
-pub overflow_add-key : goal.overflow_add-key
-overflow_add-key c = omega (
-  arith,
-  (c.key_column.ensures c.args.exprs.now.texts.catalog.now c.args.exprs.now.texts.statement.now c.args.exprs.now.table.now).inside _
-      c.in-Some.is,
-  c.requires.few_columns,
-)
+returns-in_default c = rw c.at.ensures (not-planned no_primary_key _ _ _ refl refl c.line.ensures
+    (no_key c.args.exprs.now.texts.catalog.now c.args.exprs.now.texts.statement.now c.args.exprs.now.table.now c.args.parts.now (c.key_column.ensures c.args.exprs.now.texts.catalog.now c.args.exprs.now.texts.statement.now c.args.exprs.now.table.now) c.in_default.is))
 
 pub returns-in-Some-key_column : goal.returns-in-Some-key_column
 unfolding named
-returns-in-Some-key_column c = not-planned multiple_primary_keys _ _ _ refl refl refl
+returns-in-Some-key_column c = rw c.at-in-Some-key_column.ensures (not-planned multiple_primary_keys _ _ _ refl refl refl
     (second_key c.args.exprs.now.texts.catalog.now c.args.exprs.now.texts.statement.now c.args.exprs.now.table.now c.args.parts.now (c.key_column.ensures c.args.exprs.now.texts.catalog.now c.args.exprs.now.texts.statement.now c.args.exprs.now.table.now) _ c.in-Some.is
     (c.key_column-2.ensures c.args.exprs.now.texts.catalog.now c.args.exprs.now.texts.statement.now c.args.exprs.now.table.now) _ _ c.in-Some-key_column.is
-    c.entry_at.ensures)
+    c.entry_at-second.ensures))
 
 pub returns : goal.returns
 returns c = plans-same (one_key c.args.exprs.now.texts.catalog.now c.args.exprs.now.texts.statement.now c.args.exprs.now.table.now c.args.parts.now

@@ -5,28 +5,27 @@ use Rattle.build_statement.specs.Columns.{so-far-none, in_use, still, so-far-ste
 use Rattle.build_statement.proofs.create.columns.Goals as goal
 
 pub loop-i-init : goal.loop-i-init
-loop-i-init c = so-far-none c.args.exprs.now.texts.catalog.now c.args.exprs.now.texts.statement.now c.args.exprs.now.table.now c.args.parts.now _ _ (omega
-    (arith, c.requires))
+loop-i-init c = so-far-none c.args.exprs.now.texts.catalog.now c.args.exprs.now.texts.statement.now c.args.exprs.now.table.now c.args.parts.now _ (omega (arith, c.requires))
 
 pub column-requires : goal.column-requires
 column-requires c = omega (
   arith,
   c.requires,
   in_use c.args.exprs.now.texts.catalog.now c.args.exprs.now.texts.statement.now c.args.exprs.now.table.now c.args.parts.now c.loop-i.invariant,
-  still c.args.exprs.now.texts.catalog.now c.args.exprs.now.texts.statement.now c.args.exprs.now.table.now c.args.parts.now c.loop-i.invariant,
+  (still c.args.exprs.now.texts.catalog.now c.args.exprs.now.texts.statement.now c.args.exprs.now.table.now c.args.parts.now c.loop-i.invariant).all,
   c.loop-i-test.true,
   c.count-count.ensures c.args.exprs.now.texts.catalog.now c.args.exprs.now.texts.statement.now c.args.exprs.now.table.now,
 )
 
-pub returns-in_err-j : goal.returns-in_err-j
-returns-in_err-j c = rw (exit c.from_residual.result c.from_residual.ensures.1) (so-far-stop c.args.exprs.now.texts.catalog.now c.args.exprs.now.texts.statement.now c.args.exprs.now.table.now c.args.parts.now c.loop-i.invariant _
+pub returns-in_err-column : goal.returns-in_err-column
+returns-in_err-column c = rw (exit c.from_residual.result c.from_residual.ensures.1) (so-far-stop c.args.exprs.now.texts.catalog.now c.args.exprs.now.texts.statement.now c.args.exprs.now.table.now c.args.parts.now c.loop-i.invariant _
     c.entry_at-e.ensures
     (omega (
       arith,
       c.loop-i-test.true,
       c.count-count.ensures c.args.exprs.now.texts.catalog.now c.args.exprs.now.texts.statement.now c.args.exprs.now.table.now,
     ))
-    c.column.ensures _ c.in_err-j.was)
+    c.column.ensures _ c.in_err-column.was)
 
 pub loop-i-preserved : goal.loop-i-preserved
 loop-i-preserved c = so-far-step c.args.exprs.now.texts.catalog.now c.args.exprs.now.texts.statement.now c.args.exprs.now.table.now c.args.parts.now c.loop-i.invariant _
@@ -36,10 +35,7 @@ loop-i-preserved c = so-far-step c.args.exprs.now.texts.catalog.now c.args.exprs
       c.loop-i-test.true,
       c.count-count.ensures c.args.exprs.now.texts.catalog.now c.args.exprs.now.texts.statement.now c.args.exprs.now.table.now,
     ))
-    c.column.ensures _ c.in_ok-j.was
-
-pub shape_of-nodes : goal.shape_of-nodes
-shape_of-nodes c = still c.args.exprs.now.texts.catalog.now c.args.exprs.now.texts.statement.now c.args.exprs.now.table.now c.args.parts.now c.loop-i.invariant
+    c.column.ensures c.in_ok-column.was
 
 pub returns : goal.returns
 returns c = so-far-all c.args.exprs.now.texts.catalog.now c.args.exprs.now.texts.statement.now c.args.exprs.now.table.now c.args.parts.now c.loop-i.invariant

@@ -1,9 +1,13 @@
 -- `create::reference`: none, or its name's place.
-use Rattle.build_statement.specs.Create.{reference-none, reference-some}
+use mathlib.Core.Path.{◌∙◌}
+use Rattle.std.specs.Prelude.{Some}
+use Rattle.build_statement.specs.Create.{place_of}
 use Rattle.build_statement.proofs.create.reference.Goals as goal
 
-pub returns-then-e-eq0 : goal.returns-then-e-eq0
-returns-then-e-eq0 c = reference-none c.args.texts.now.catalog.now c.args.texts.now.statement.now c.args.e c.if-e-eq0.true
+pub returns-in_err-name : goal.returns-in_err-name
+unfolding place_of
+returns-in_err-name c = c.from_residual.ensures ∙ rw c.in_err-name.was
 
 pub returns : goal.returns
-returns c = reference-some c.args.texts.now.catalog.now c.args.texts.now.statement.now c.args.e c.if-e-eq0.false c.length_at.ensures
+unfolding place_of
+returns c = rw c.in_ok-name.was (λ i. Some (record { address = c.clipped.ensures.address i; length = c.clipped.ensures.length i }))

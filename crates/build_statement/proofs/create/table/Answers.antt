@@ -5,19 +5,20 @@ use Rattle.build_statement.specs.Create.{word-span}
 use Rattle.build_statement.proofs.create.table.Goals as goal
 
 pub columns-requires : goal.columns-requires
-columns-requires c = omega (
-  arith,
-  c.requires,
-  head-in-use c.args.exprs.now.texts.catalog.now c.args.exprs.now.texts.statement.now c.args.exprs.now.table.now c.args.parts.now _ _ (c.count-count.ensures c.args.exprs.now.texts.catalog.now c.args.exprs.now.texts.statement.now c.args.exprs.now.table.now)
-      (c.create-k.ensures (word c.args.exprs.now.texts.catalog.now c.args.exprs.now.texts.statement.now c.args.exprs.now.table.now c.args.parts.now)
-      (word-span c.args.exprs.now.texts.catalog.now c.args.exprs.now.texts.statement.now c.args.parts.now _ _ _ c.name_address-a.ensures
-      c.name_length.ensures c.length_at.ensures)),
-  c.create-k.auto.nodes,
-)
+columns-requires c =
+    let a = c.create.ensures (word c.args.exprs.now.texts.catalog.now c.args.exprs.now.texts.statement.now c.args.exprs.now.table.now c.args.parts.now)
+    (word-span c.args.exprs.now.texts.catalog.now c.args.exprs.now.texts.statement.now c.args.parts.now c.name.ensures.address
+    c.name.ensures.length c.clipped-name.ensures.address c.clipped-name.ensures.length) in
+    omega (
+      arith,
+      c.requires,
+      head-in-use c.args.exprs.now.texts.catalog.now c.args.exprs.now.texts.statement.now c.args.exprs.now.table.now c.args.parts.now _ _ (c.count-count.ensures c.args.exprs.now.texts.catalog.now c.args.exprs.now.texts.statement.now c.args.exprs.now.table.now) a,
+      a.kept.all,
+    )
 
 pub returns : goal.returns
 returns c = table-pushes c.args.exprs.now.texts.catalog.now c.args.exprs.now.texts.statement.now c.args.exprs.now.table.now c.args.parts.now _ _ (c.count-count.ensures c.args.exprs.now.texts.catalog.now c.args.exprs.now.texts.statement.now c.args.exprs.now.table.now)
-    (c.create-k.ensures (word c.args.exprs.now.texts.catalog.now c.args.exprs.now.texts.statement.now c.args.exprs.now.table.now c.args.parts.now)
-    (word-span c.args.exprs.now.texts.catalog.now c.args.exprs.now.texts.statement.now c.args.parts.now _ _ _ c.name_address-a.ensures
-    c.name_length.ensures c.length_at.ensures))
+    (c.create.ensures (word c.args.exprs.now.texts.catalog.now c.args.exprs.now.texts.statement.now c.args.exprs.now.table.now c.args.parts.now)
+    (word-span c.args.exprs.now.texts.catalog.now c.args.exprs.now.texts.statement.now c.args.parts.now c.name.ensures.address
+    c.name.ensures.length c.clipped-name.ensures.address c.clipped-name.ensures.length))
     c.columns.ensures

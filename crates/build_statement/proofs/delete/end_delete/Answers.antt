@@ -1,12 +1,24 @@
 -- `delete::end_delete`: the scan, the own numbers and the end.
+use native.Mathlib.Omega.{arith}
+use Rattle.build_statement.specs.Scans.{root-is, root-most}
 use Rattle.build_statement.specs.Deletes.{delete-own-room, delete-room, delete-ends}
 use Rattle.build_statement.proofs.delete.end_delete.Goals as goal
 
-pub delete-e-requires : goal.delete-e-requires
-delete-e-requires c = delete-own-room _ _ c.args.tables.now c.args.i _ _ _ _ c.requires.free c.length_at.ensures c.scan-k.ensures
+pub scan-requires : goal.scan-requires
+scan-requires c = record {
+  room = omega (arith, c.requires.free.none, c.requires.free.nodes_room);
+  root = omega (arith, root-most _ _ c.checked_sub.ensures, c.requires.cells_le_most_plan_cells);
+}
+
+pub delete-requires : goal.delete-requires
+delete-requires c = delete-own-room _ _ c.args.tables.now c.args.i _ _ _ c.requires.free c.clipped-name.ensures.address
+    c.clipped-name.ensures.length c.scan.ensures
 
 pub finish-requires : goal.finish-requires
-finish-requires c = delete-room _ _ _ _ _ _ _ _ c.requires.free c.length_at.ensures c.scan-k.ensures _ c.key-key.ensures c.delete-e.ensures c.requires.m_le_most_plan_cells
+finish-requires c = delete-room _ _ c.args.tables.now c.args.i _ _ _ c.requires.free c.clipped-name.ensures.address
+    c.clipped-name.ensures.length c.scan.ensures c.key.ensures c.delete.ensures c.requires.cells_le_most_plan_cells
 
 pub returns : goal.returns
-returns c = delete-ends _ _ _ _ _ _ _ _ c.requires.free c.length_at.ensures c.scan-k.ensures _ c.key-key.ensures c.delete-e.ensures c.requires.m_le_most_plan_cells c.finish.ensures
+returns c = delete-ends _ _ c.args.tables.now c.args.i _ _ _ c.requires.free c.clipped-name.ensures.address
+    c.clipped-name.ensures.length c.scan.ensures c.key.ensures c.delete.ensures _ (root-is _ _ c.checked_sub.ensures)
+    c.requires.cells_le_most_plan_cells c.finish.ensures

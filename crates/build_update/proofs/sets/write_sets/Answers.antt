@@ -2,17 +2,17 @@
 use native.Mathlib.Omega.{arith}
 use Rattle.plan.specs.Emits.{exit}
 use Rattle.build_update.specs.SoFar.{set_here_lem, sets-length, so-far-none, so-far-step, so-far-stop, so-far-all}
-use Rattle.build_update.specs.SoFar.{area-kept, nodes-kept, number-room, set_room}
+use Rattle.build_update.specs.SoFar.{area-kept, number-room, set_room}
 use Rattle.build_update.proofs.sets.write_sets.Goals as goal
 
 pub loop-v-init : goal.loop-v-init
-loop-v-init c = λ h. so-far-none _ _ _ _ _ _ _ (omega (arith, c.requires.parts_in_bounds))
+loop-v-init c = λ h. so-far-none _ _ _ _ _ _ (omega (arith, c.requires.nodes_room))
 
 pub write_set-requires : goal.write_set-requires
 write_set-requires c = record {
   room = set_room _ _ _ (c.loop-v.invariant 0) _ (set_here_lem c.args.exprs.now.texts.catalog.now c.args.exprs.now.texts.statement.now c.args.exprs.now.table.now c.args.parts.now _ _ c.entry_at-e.ensures
       (omega (arith, c.loop-v-test.true, c.count-sets.ensures c.args.exprs.now.texts.catalog.now c.args.exprs.now.texts.statement.now c.args.exprs.now.table.now))) c.requires.room;
-  set_size_in_bounds = number-room _ _ _ (c.loop-v.invariant 0) c.requires.parts_in_bounds
+  nodes_room = number-room _ _ _ (c.loop-v.invariant 0) c.requires.nodes_room
       (omega (arith, c.loop-v-test.true, c.count-sets.ensures c.args.exprs.now.texts.catalog.now c.args.exprs.now.texts.statement.now c.args.exprs.now.table.now, sets-length c.args.exprs.now.texts.catalog.now c.args.exprs.now.texts.statement.now c.args.exprs.now.table.now c.args.parts.now));
 }
 
@@ -28,9 +28,6 @@ loop-v-preserved c = λ h. so-far-step _ _ _ (c.loop-v.invariant h) _ (set_here_
 
 pub shape_of-area : goal.shape_of-area
 shape_of-area c = area-kept _ _ _ (c.loop-v.invariant 0)
-
-pub shape_of-nodes : goal.shape_of-nodes
-shape_of-nodes c = nodes-kept _ _ _ (c.loop-v.invariant 0)
 
 pub returns : goal.returns
 returns c = λ h. so-far-all _ _ _ (c.loop-v.invariant h)

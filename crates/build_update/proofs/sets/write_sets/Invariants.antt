@@ -8,4 +8,4 @@ use Rattle.build_update.proofs.sets.write_sets.Given as goal
 abbrev pub invariant-loop-v : goal.invariant-loop-v
 invariant-loop-v l =
     (h : ℕ) → SoFar (scope_at l.exprs.texts.catalog.now l.exprs.texts.statement.now l.exprs.table.now l.scope.labels.now l.scope.matches.now l.scope.tables.now h)
-    (table_at l.exprs.texts.catalog.now l.exprs.texts.statement.now l.tables l.i).columns (sets_at l.exprs.texts.catalog.now l.exprs.texts.statement.now l.exprs.table.now l.parts) l.fn.at.cell l.fn.at.used l.initial.area l.initial.nodes l.v l.written.cell l.written.used l.area l.nodes
+    (table_at l.exprs.texts.catalog.now l.exprs.texts.statement.now l.tables l.i).columns (sets_at l.exprs.texts.catalog.now l.exprs.texts.statement.now l.exprs.table.now l.parts) l.cell l.initial.area l.initial.nodes l.v l.written l.area l.nodes

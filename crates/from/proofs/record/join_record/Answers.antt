@@ -1,9 +1,8 @@
 -- `join_record`: two words, or none.
 use native.Mathlib.Omega.{arith}
 use Rattle.std.specs.Prelude.{◌<◌}
-use mathlib.Core.Path.{refl}
 use Rattle.rules.specs.Lines.{bytes}
-use Rattle.from.specs.Fields.{no_row, join-words, predicate-words, join-none, predicate-none, join-some, flag-zero}
+use Rattle.from.specs.Fields.{no_row, join-words, predicate-words, join-none, predicate-none, join-some}
 use Rattle.from.proofs.record.join_record.Goals as goal
 use Rattle.from.proofs.record.join_record.Goals.{in-0, in-1, in-2, in-3}
 
@@ -19,10 +18,9 @@ pub returns : goal.returns
 unfolding bytes
 returns c =
     let o : c.which-o.result < 2 = omega (arith, c.if-o-ge2.false) in
-    let z = flag-zero c.which-o.result o in
     elim c.match-which.branch [
-      | in-0 w ↦ join-some _ _ _ _ _ _ _ join-words c.which.ensures _ _ predicate-words c.which-o.ensures _ _ (omega (arith, w.in-0.is)) o (rw (w.kind-is, w.in-0.is, z) refl) refl
-      | in-1 w ↦ join-some _ _ _ _ _ _ _ join-words c.which.ensures _ _ predicate-words c.which-o.ensures _ _ (omega (arith, w.in-1.is)) o (rw (w.kind-is, w.in-1.is, z) refl) refl
-      | in-2 w ↦ join-some _ _ _ _ _ _ _ join-words c.which.ensures _ _ predicate-words c.which-o.ensures _ _ (omega (arith, w.in-2.is)) o (rw (w.kind-is, w.in-2.is, z) refl) refl
-      | in-3 w ↦ join-some _ _ _ _ _ _ _ join-words c.which.ensures _ _ predicate-words c.which-o.ensures _ _ (omega (arith, w.in-3.is)) o (rw (w.kind-is, w.in-3.is, z) refl) refl
+      | in-0 w ↦ join-some _ _ _ _ _ _ _ join-words c.which.ensures _ _ predicate-words c.which-o.ensures _ _ (omega (arith, w.in-0.is)) o (rw (w.kind-is, w.in-0.is))
+      | in-1 w ↦ join-some _ _ _ _ _ _ _ join-words c.which.ensures _ _ predicate-words c.which-o.ensures _ _ (omega (arith, w.in-1.is)) o (rw (w.kind-is, w.in-1.is))
+      | in-2 w ↦ join-some _ _ _ _ _ _ _ join-words c.which.ensures _ _ predicate-words c.which-o.ensures _ _ (omega (arith, w.in-2.is)) o (rw (w.kind-is, w.in-2.is))
+      | in-3 w ↦ join-some _ _ _ _ _ _ _ join-words c.which.ensures _ _ predicate-words c.which-o.ensures _ _ (omega (arith, w.in-3.is)) o (rw (w.kind-is, w.in-3.is))
     ]

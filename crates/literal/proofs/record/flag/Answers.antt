@@ -1,13 +1,15 @@
 -- `flag`: `t` or `f`.
-use Rattle.std.proofs.Common.{refl, arith}
+use Rattle.std.proofs.Common.{refl}
 use Rattle.rules.specs.Lines.{bytes}
-use Rattle.literal.specs.Records.{no-literal-as, flag-words, flag-none, flag-some}
+use Rattle.rules.specs.Reader.{flags}
+use Rattle.numbers.specs.Flags.{byte_flag}
+use Rattle.literal.specs.Records.{no-literal-as, flag-none, flag-some}
 use Rattle.literal.proofs.record.flag.Goals as goal
 
-pub returns-then-k-ge2 : goal.returns-then-k-ge2
-unfolding bytes
-returns-then-k-ge2 c = λ base. no-literal-as _ _ (flag-none base _ _ _ _ _ flag-words c.which-k.ensures c.if-k-ge2.true)
+pub returns-in_err-set : goal.returns-in_err-set
+unfolding flags bytes
+returns-in_err-set c = λ base. rw c.from_residual.ensures (no-literal-as _ _ (flag-none base _ _ _ _ refl (rw c.part.ensures at c.beside.ensures) c.in_err-set.was))
 
 pub returns : goal.returns
-unfolding bytes
-returns c = λ base. flag-some base _ _ _ _ _ flag-words c.which-k.ensures _ (omega arith) (refl, refl, refl)
+unfolding flags bytes
+returns c = λ base. flag-some base _ _ _ _ refl (rw c.part.ensures at c.beside.ensures) _ _ c.in_ok-set.was (refl, byte_flag _, refl)

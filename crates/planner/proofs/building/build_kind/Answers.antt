@@ -39,4 +39,4 @@ pub returns-in-Update : goal.returns-in-Update
 returns-in-Update c = plans-as (update-built _ _ _ _ _ (sym c.in-Update.is ∙ c.kind_of-kind.ensures) _) c.build_update.ensures
 
 pub returns-in-Other : goal.returns-in-Other
-returns-in-Other c = other-plans _ _ _ _ _ _ (sym c.in-Other.is ∙ c.kind_of-kind.ensures) c.line.ensures
+returns-in-Other c = rw c.at.ensures (other-plans _ _ _ _ _ _ (sym c.in-Other.is ∙ c.kind_of-kind.ensures) c.line.ensures)

@@ -11,7 +11,7 @@ use Rattle.read_texts.proofs.line.put_refusal.Goals as goal
 
 pub returns-clause-line : goal.returns-clause-line
 unfolding fields_of bytes
-returns-clause-line c = lines_same (line c.bytes.ensures (fields-then c.number-2.ensures (fields-then c.field.ensures c.number-3.ensures)) c.byte.ensures)
+returns-clause-line c = lines_same (line c.bytes.ensures (fields-then c.number.ensures (fields-then c.field.ensures c.number-2.ensures)) c.byte.ensures)
     (λ d q. cc)
 
 pub returns-clause-short : goal.returns-clause-short
@@ -19,6 +19,6 @@ unfolding line_of fields_of bytes
 returns-clause-short c = four_few _ _ _ _ (omega (
   arith,
   text_few c.args.w.text,
-  decimal_few (refusal_number (reason_of c.args.w.reason)) (omega (arith, c.number.ensures, c.number.type_inv)),
+  decimal_few (refusal_number (reason_of c.args.w.reason)) (omega (arith, c.from.ensures, c.from.type_inv)),
   decimal_few c.args.w.line (search rules),
 ))

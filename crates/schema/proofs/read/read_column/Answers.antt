@@ -2,6 +2,7 @@
 use native.Mathlib.Omega.{arith}
 use mathlib.Core.Path.{refl, ap, ◌∙◌}
 use Rattle.std.specs.Prelude.{Ok}
+use Rattle.rules.specs.Area.{flag}
 use Rattle.std.proofs.lemmas.Result.{err_from_is_err_and}
 use Rattle.schema.proofs.ColumnReads.{column-end, column-wrong, column-next, column-limit, column-default, column-room, column-read}
 use Rattle.schema.proofs.read.read_column.Goals as goal
@@ -28,4 +29,5 @@ pub put_given-requires : goal.put_given-requires
 put_given-requires c = omega (arith, column-room c.requires c.column_record.ensures (c.in_ok-c.was ∙ ap Ok c.in-Some.is) c.if-index-ge-MOST_TABLE_COLUMNS.false _ c.default_record.ensures c.in-Some-default_record.is, c.put_four.auto.s)
 
 pub returns : goal.returns
-returns c = column-read c.requires c.column_record.ensures (c.in_ok-c.was ∙ ap Ok c.in-Some.is) c.if-index-ge-MOST_TABLE_COLUMNS.false _ c.default_record.ensures c.in-Some-default_record.is refl c.put_four.ensures c.put_four.auto.s c.put_given.ensures c.fields-f.ensures.next
+unfolding flag
+returns c = column-read c.requires c.column_record.ensures (c.in_ok-c.was ∙ ap Ok c.in-Some.is) c.if-index-ge-MOST_TABLE_COLUMNS.false _ c.default_record.ensures c.in-Some-default_record.is refl (rw (c.from-datatype.ensures, c.from-nullable.ensures) at c.put_four.ensures) c.put_four.auto.s c.put_given.ensures c.fields-f.ensures.next

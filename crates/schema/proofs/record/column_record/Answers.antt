@@ -34,4 +34,4 @@ overflow_cast-result-2 c = record { fits = omega (arith, field-most _ _ _ c.fiel
 
 pub returns : goal.returns
 unfolding bytes
-returns c = column-right _ _ _ _ c.fields-f.ensures c.holds.ensures c.if-not-holds.false c.if-f-ne4.false (sym c.is_name.ensures ∙ c.if-not-is_name.false) c.datatype-k.ensures c.if-k-ge4.false c.nullable-u.ensures c.requires c.if-u-ge2.false
+returns c = rw c.of_number.ensures (column-right _ _ _ _ c.fields-f.ensures c.holds.ensures c.if-not-holds.false c.if-f-ne4.false (sym c.is_name.ensures ∙ c.if-not-is_name.false) c.datatype-k.ensures c.if-k-ge4.false c.nullable-u.ensures c.requires c.if-u-ge2.false)

@@ -9,7 +9,7 @@ loop-j-init c = storing-begin _ _ _ refl
 
 pub loop-j-preserved : goal.loop-j-preserved
 loop-j-preserved c = storing-more _ _ _ c.loop-j.invariant (omega (arith, c.min-width.ensures)) c.column_count-count.ensures
-    (omega (arith, c.min-width.ensures)) c.column_name-column.ensures c.label-in-loop-j.ensures
+    (omega (arith, c.min-width.ensures)) c.column_name.ensures c.label-in-loop-j.ensures
 
 pub returns : goal.returns
 returns c = storing-end _ refl c.loop-j.invariant c.column_count-count.ensures c.min-width.ensures (omega arith) c.loop-j-test.false

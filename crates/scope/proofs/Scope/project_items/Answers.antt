@@ -7,9 +7,6 @@ use Rattle.scope.specs.NewMatch.{storing-begin, storing-more}
 use Rattle.scope.specs.Items.{items-projected}
 use Rattle.scope.proofs.Scope.project_items.Goals as goal
 
-pub overwrite-requires : goal.overwrite-requires
-overwrite-requires c = omega (arith, c.requires.same, c.requires.few, c.requires.valid.labels-room)
-
 pub loop-j-init : goal.loop-j-init
 loop-j-init c = (refl, refl, refl, storing-begin _ _ c.requires.valid.matches-room)
 

@@ -1,16 +1,7 @@
 -- `retain::retain`: the rows so far are kept, each expression once.
-use native.Mathlib.Omega.{arith}
 use Rattle.scope.specs.Retain.{retain-skip, retain-keep, retain-count, retain-rows}
 use Rattle.scope.proofs.retain.retain.Goals as goal
 use Rattle.scope.proofs.retain.retain.Goals.{then-not-has_equal, else-not-has_equal}
-
-pub slice_bounds-has_equal-end : goal.slice_bounds-has_equal-end
-slice_bounds-has_equal-end c = let l = c.loop-r in
-    omega (arith, l.invariant.0, l.invariant.1.room, l.invariant.1.few, c.loop-r-test.true)
-
-pub bounds-kept-k : goal.bounds-kept-k
-bounds-kept-k c = let l = c.loop-r in
-    omega (arith, l.invariant.0, l.invariant.1.room, l.invariant.1.few, c.loop-r-test.true)
 
 pub loop-r-preserved : goal.loop-r-preserved
 loop-r-preserved c = let l = c.loop-r in (

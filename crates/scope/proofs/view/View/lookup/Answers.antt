@@ -9,9 +9,6 @@ use Rattle.scope.proofs.view.View.lookup.Goals as goal
 pub returns-then-self-eq0 : goal.returns-then-self-eq0
 returns-then-self-eq0 c = looked-empty _ _ _ _ _ _ (qualifier_of _ _ _) c.if-self-eq0.true
 
-pub lookup_qualified-requires : goal.lookup_qualified-requires
-lookup_qualified-requires c = omega (arith, c.if-self-eq0.false)
-
 pub returns-in-None : goal.returns-in-None
 unfolding word_at
 returns-in-None c = under-nothing c.in-None.is

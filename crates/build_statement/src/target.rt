@@ -1,0 +1,54 @@
+// The table that a statement names, and the filter of a DELETE or an UPDATE over it.
+ghost use Rattle.schema.specs.Layout.{catalog_at};
+ghost use Rattle.build_statement.specs.Tables.{TablePosition};
+ghost use Rattle.build_statement.specs.Targets.{TargetReady, TargetBuilt};
+
+use crate::clause::build_where;
+use ast::Expressions;
+use entries::Section;
+use numbers::refusals::{Reason, Refusal};
+use schema::get_table;
+use scope::Scope;
+use statement::access;
+use text::places::{Place, Texts};
+
+// A table by its name's place and its position in the catalog, its scope, and the next cell behind its filter's.
+#[derive(Clone, Copy, Debug, PartialEq, Eq)]
+pub struct Target {
+    pub name: Place,
+    pub table: u32,
+    pub scope: Scope,
+    pub cells: u32,
+}
+
+// The position of the table of a name; refused at a line where there is none.
+pub fn find_table(texts: &Texts, tables: &[u32], name: Place, line: u32) -> Result<u32, Refusal>
+    ensures { TablePosition texts.now.catalog.now texts.now.statement.now tables.now name.address name.length line result }
+{
+    get_table(texts, tables, name).ok_or(Reason::UnknownTable.at(line))
+}
+
+// The statement's table, and the cells of its filter: the plan's first ones.
+pub fn build_target(
+    exprs: &Expressions,
+    tables: &[u32],
+    parts: &[u32],
+    area: &mut [u32],
+) -> Result<Target, Refusal>
+    requires { TargetReady exprs.now.texts.catalog.now exprs.now.texts.statement.now tables.now exprs.now.table.now
+        parts.now area.old }
+    ensures { TargetBuilt exprs.now.texts.catalog.now exprs.now.texts.statement.now tables.now exprs.now.table.now
+        parts.now area.old area.new result }
+{
+    let name = access::name(parts);
+    let table = find_table(&exprs.texts, tables, name, access::line(parts))?;
+    let scope = Scope::from_table(tables, table, name);
+    let clause = access::clause_at(parts, Section::Where);
+    let cells = build_where(exprs, clause, &scope.view(), area)?;
+    Ok(Target {
+        name,
+        table,
+        scope,
+        cells,
+    })
+}
