@@ -10,7 +10,7 @@ use Rattle.std.proofs.Math.Option.{Option, none, some}
 use Rattle.std.proofs.lemmas.Bool.{lt-leb}
 use Rattle.std.proofs.lemmas.Option.{none-some}
 use Rattle.rules.specs.Lists.{Bytes, same, map_option}
-use Rattle.rules.specs.Lines.{Word, bytes, decimal}
+use Rattle.rules.specs.Lines.{bytes, decimal}
 use Rattle.rules.specs.Lines as rules
 use Rattle.text.specs.Lines.{line_end, field, fields_from, line_of, kept_fields, Fields}
 use Rattle.text.specs.declared.Line.{Line}

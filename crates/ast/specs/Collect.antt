@@ -2,7 +2,7 @@
 --
 -- The rows are found by the same recursion as `tree_at`; Trees has the law that the trees at them are what the rules'
 -- `collect` gives (`collect-trees`), and that they lie inside the table (`rows_Inside`).
-use Rattle.std.specs.Prelude.{ℕ, zero, suc, ◌+◌, true, false, List, [], ◌∷◌, ◌++◌, ltb, length, Option, Some, None}
+use Rattle.std.specs.Prelude.{ℕ, zero, suc, ◌+◌, true, false, List, [], ◌∷◌, ◌++◌, length}
 use Rattle.rules.specs.Lists.{Bytes}
 use Rattle.ast.specs.Table.{rows_at, root_at}
 use Rattle.ast.specs.Behind.{behind}
@@ -21,8 +21,3 @@ collect_by g c q t r =
 
 unfoldable pub collect_rows : Bytes → Bytes → List ℕ → ℕ → List ℕ
 collect_rows c q t r = behind (λ g. collect_by g c q t) [] (length t) r
-
--- the answer of rows written behind n others into as many places
-unfoldable pub collected : ℕ → ℕ → List ℕ → Option ℕ
-collected places n [] = Some n
-collected places n (r ∷ rs) = elim (ltb n places) [ true ↦ collected places (suc n) rs | false ↦ None ]

@@ -6,5 +6,6 @@ pub mod Row
 pub mod Aggregates
 pub mod Walk
 pub mod Visits
+pub mod Listed
 pub mod Collect
 pub mod Names

@@ -2,6 +2,7 @@
 #![tactic(auto)]
 
 pub mod aggregates;
+pub mod buffer;
 pub mod equality;
 pub mod row;
 pub mod rows;

@@ -1,14 +1,15 @@
 // Walks over the expressions of the table (ast.rs, walk, contains, collect), for the aggregate functions.
-ghost use Rattle.std.specs.Prelude.{◌≡◌, length};
-ghost use Rattle.std.proofs.lemmas.List.Edits.{sets};
+ghost use Rattle.std.specs.Prelude.{◌≡◌};
 ghost use Rattle.rules.specs.BuildAggregate.{walk_free, contains};
 ghost use Rattle.ast.specs.Table.{root_at};
 ghost use Rattle.ast.specs.Expressions.{tree_in};
 ghost use Rattle.ast.specs.Walk.{is_aggregate_call};
-ghost use Rattle.ast.specs.Collect.{collect_rows, collected};
+ghost use Rattle.ast.specs.Collect.{collect_rows};
+ghost use Rattle.ast.specs.Listed.{ListedWithin};
 
 use crate::Expressions;
 use crate::aggregates::is_aggregate;
+use crate::buffer::Rows;
 use crate::row::{Kind, kind_of, name};
 use crate::rows::{next, operands};
 
@@ -53,30 +54,23 @@ pub fn contains(exprs: &Expressions, r: usize) -> bool
     !walk_free(exprs, r)
 }
 
-// The rows of the aggregate calls in the tree at a row, left to right and not into one, written behind `count` others:
-// how many there are then, or none where the next has no room. (Rows and count stay two values: what it gives is the count.)
-pub fn collect(exprs: &Expressions, r: usize, rows: &mut [usize], count: usize) -> Option<usize>
-    ensures value { result ≡ collected (length rows.old) count (collect_rows exprs.now.texts.catalog.now
-        exprs.now.texts.statement.now exprs.now.table.now r) }
-    ensures rows_after { rows.new ≡ sets rows.old count (collect_rows exprs.now.texts.catalog.now
-        exprs.now.texts.statement.now exprs.now.table.now r) }
+// The rows of the aggregate calls in the tree at a row, left to right and not into one, listed behind others; none where the
+// next has no room.
+pub fn collect(exprs: &Expressions, r: usize, rows: &mut Rows) -> Option<()>
+    ensures { ListedWithin (collect_rows exprs.now.texts.catalog.now exprs.now.texts.statement.now exprs.now.table.now r)
+        rows.old result rows.new }
 {
     if is_aggregate_call(exprs, r) {
-        if count < rows.len() {
-            rows[count] = r;
-            return Some(count + 1);
-        }
-        return None;
+        return rows.try_push(r);
     }
     let operands = operands(exprs.table, r);
     if operands == 0 {
-        return Some(count);
+        return Some(());
     }
     let mut p = r + 1;
-    let mut n = count;
     for _ in 0..operands {
-        n = collect(exprs, p, rows, n)?;
+        collect(exprs, p, rows)?;
         p = next(exprs.table, p);
     }
-    Some(n)
+    Some(())
 }

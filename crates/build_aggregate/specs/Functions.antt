@@ -14,7 +14,7 @@ use Rattle.rules.specs.Schema.{bool}
 use Rattle.rules.specs.Ast.{Expr, star, column, literal, call, unary, binary, is, nil, cons, size, size_all}
 use Rattle.rules.specs.Views.{as_star, as_call}
 use Rattle.rules.specs.Plan.{Aggregate, avg, count, max, min, sum}
-use Rattle.rules.specs.Cells.{Cell, cells}
+use Rattle.rules.specs.Cells.{Cell}
 use Rattle.rules.specs.Cells as C
 use Rattle.rules.specs.Scope.{Scope}
 use Rattle.rules.specs.BuildAggregate.{aggregates, contains, is_count, build_function}

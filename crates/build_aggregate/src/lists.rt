@@ -27,7 +27,7 @@ fn add_group(
     cell: u32,
 ) -> Result<u32, Refusal>
     requires room { Room cell (3 * size (tree_in exprs.now r)) area.old }
-    requires k_in_bounds { nodes.old.used + 1 ≤ length nodes.old.numbers.now }
+    requires nodes_room { nodes.old.used + 1 ≤ length nodes.old.numbers.now }
     ensures { Adds (groups_listing exprs.now.texts.catalog.now exprs.now.texts.statement.now exprs.now.table.now
         scope.now.labels.now scope.now.matches.now scope.now.tables.now)
         (tree_in exprs.now r)
@@ -48,7 +48,7 @@ fn add_function(
     cell: u32,
 ) -> Result<u32, Refusal>
     requires room { Room cell (3 * size (tree_in exprs.now r)) area.old }
-    requires function_size_in_bounds { nodes.old.used + function_size ≤ length nodes.old.numbers.now }
+    requires nodes_room { nodes.old.used + function_size ≤ length nodes.old.numbers.now }
     ensures { Adds (functions_listing exprs.now.texts.catalog.now exprs.now.texts.statement.now exprs.now.table.now
         scope.now.labels.now scope.now.matches.now scope.now.tables.now)
         (tree_in exprs.now r)
@@ -72,7 +72,7 @@ pub fn build_groups(
     cell: u32,
 ) -> Result<u32, Refusal>
     requires room { Room cell (3 * total (λ r. size (tree_in exprs.now r)) rows.now) area.old }
-    requires rows_in_bounds { nodes.old.used + length rows.now ≤ length nodes.old.numbers.now }
+    requires nodes_room { nodes.old.used + length rows.now ≤ length nodes.old.numbers.now }
     ensures { AddsAll (groups_listing exprs.now.texts.catalog.now exprs.now.texts.statement.now exprs.now.table.now
         scope.now.labels.now scope.now.matches.now scope.now.tables.now)
         (tree_in exprs.now) rows.now
@@ -96,7 +96,7 @@ pub fn build_functions(
     cell: u32,
 ) -> Result<u32, Refusal>
     requires room { Room cell (3 * total (λ r. size (tree_in exprs.now r)) rows.now) area.old }
-    requires rows_in_bounds { nodes.old.used + function_size * length rows.now ≤ length nodes.old.numbers.now }
+    requires nodes_room { nodes.old.used + function_size * length rows.now ≤ length nodes.old.numbers.now }
     ensures { AddsAll (functions_listing exprs.now.texts.catalog.now exprs.now.texts.statement.now exprs.now.table.now
         scope.now.labels.now scope.now.matches.now scope.now.tables.now)
         (tree_in exprs.now) rows.now

@@ -39,7 +39,7 @@ pub fn build_node(
 ) -> Result<u32, Refusal>
     requires room { Room cell (3 * (total (λ r. size (tree_in exprs.now r)) groups.now
         + total (λ r. size (tree_in exprs.now r)) functions.now)) area.old }
-    requires functions_in_bounds { record_end nodes.old.used (length groups.now) (length functions.now)
+    requires nodes_room { record_end nodes.old.used (length groups.now) (length functions.now)
         ≤ length nodes.old.numbers.now }
     requires nodes_len_bound { length nodes.old.numbers.now ≤ nodes_size }
     ensures { NodeBuilt exprs.now.texts.catalog.now exprs.now.texts.statement.now exprs.now.table.now

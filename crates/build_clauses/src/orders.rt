@@ -32,7 +32,7 @@ fn put_key(
     cell: u32,
 ) -> Result<u32, Refusal>
     requires room { Room cell (3 * size (tree_in exprs.now (first_row e))) area.old }
-    requires key_size_in_bounds { nodes.old.used + key_size ≤ length nodes.old.numbers.now }
+    requires nodes_room { nodes.old.used + key_size ≤ length nodes.old.numbers.now }
     ensures { KeyPut exprs.now.texts.catalog.now exprs.now.texts.statement.now exprs.now.table.now
         scope.now.labels.now scope.now.matches.now scope.now.tables.now
         e cell area.old nodes.old area.new nodes.new result }
@@ -55,7 +55,7 @@ fn put_keys(
     requires cells_len { length exprs.now.table.now ≡ table_size }
     requires room { Room cell (3 * keys_size (keys_at exprs.now.texts.catalog.now exprs.now.texts.statement.now
         exprs.now.table.now parts.now)) area.old }
-    requires parts_in_bounds { nodes.old.used + key_size * length (keys_at exprs.now.texts.catalog.now
+    requires nodes_room { nodes.old.used + key_size * length (keys_at exprs.now.texts.catalog.now
         exprs.now.texts.statement.now exprs.now.table.now parts.now)
         ≤ length nodes.old.numbers.now }
     ensures { KeysPut exprs.now.texts.catalog.now exprs.now.texts.statement.now exprs.now.table.now parts.now

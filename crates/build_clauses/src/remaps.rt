@@ -14,7 +14,7 @@ use scope::hidden::hidden_target;
 // A target for each column.
 fn push_targets(width: u32, hidden: u32, nodes: &mut Nodes)
     requires hidden_le_width { hidden ≤ width }
-    requires width_in_bounds { nodes.old.used + width ≤ length nodes.old.numbers.now }
+    requires nodes_room { nodes.old.used + width ≤ length nodes.old.numbers.now }
     ensures { Pushed (target_numbers width hidden) nodes.old nodes.new }
 {
     for i in 0..width {

@@ -1,5 +1,5 @@
 // The cells of operators behind those of their operands. The last cell of an operand is its root.
-ghost use Rattle.std.specs.Prelude.{◌≡◌, ◌<◌, Ok};
+ghost use Rattle.std.specs.Prelude.{◌<◌, Ok};
 ghost use Rattle.rules.specs.Lists.{Bytes};
 ghost use Rattle.numbers.specs.Operators.{unary_operator};
 ghost use Rattle.ast.specs.Table.{binary_at};

@@ -1,7 +1,6 @@
 // A table of FROM: its scope under its alias or its name, and its scan.
-ghost use Rattle.std.specs.Prelude.{◌+◌, ◌≤◌, length, []};
+ghost use Rattle.std.specs.Prelude.{◌+◌, ◌≤◌, length};
 ghost use Rattle.plan.specs.Layout.{scan_size};
-ghost use Rattle.from.specs.Access as access;
 ghost use Rattle.build_from.specs.Sources.{ItemRoom, Builds};
 ghost use Rattle.build_from.specs.Tables.{table_row, FromNamed, Scanned};
 

@@ -21,12 +21,13 @@ use Rattle.appends.specs.From.Laid.{stage_of, StageLaid}
 use Rattle.appends.specs.Select.Groups.{groups_none}
 use Rattle.numbers.specs.declared.refusals.Refusal.{Refusal}
 use Rattle.ast.specs.Table.{tree_at}
+use Rattle.ast.specs.Listed.{rows_in, Listed, listed-first}
+use Rattle.ast.specs.declared.buffer.Rows.{Rows}
 use Rattle.scope.specs.Scopes.{scope_of, Valid, labels_of, table_numbers}
 use Rattle.scope.specs.Aggregates.{retain-groups, retain-functions}
 use Rattle.scope.specs.AddAggregates.{AggregatesAdded, added-functions}
 use Rattle.scope.specs.declared.Scope.{Scope}
 use Rattle.sections.specs.Access.{group_kind}
-use Rattle.plan.specs.Appended.{Appended}
 use Rattle.plan.specs.Emits.{Written}
 use Rattle.plan.specs.Pushed.{kept-all}
 use Rattle.plan.specs.declared.nodes.Nodes.{Nodes}
@@ -197,22 +198,22 @@ module _ {c q : Bytes} {cells parts : List ℕ} {s : Scope} {n m : ℕ} {area : 
   pub functions-fit : length (function_rows c q cells parts) ≤ most_cells
   functions-fit = omega (arith, functions-number, h.few-functions)
 
-  module _ {g f : ℕ} {gs₀ gs fs₀ fs : List ℕ} (a : Appended (section_rows parts group_kind) 0 gs₀ g gs)
-      (b : Appended (function_rows c q cells parts) 0 fs₀ f fs) where
-    pub none-stage : g + f ≡ 0
+  module _ {g₀ g f₀ f : Rows} (y : g₀.used ≡ 0) (a : Listed (section_rows parts group_kind) g₀ g)
+      (z : f₀.used ≡ 0) (b : Listed (function_rows c q cells parts) f₀ f) where
+    pub none-stage : g.used + f.used ≡ 0
         → GroupsBuilt c q cells s (groups_at c q cells parts) (functions_at c q cells parts) n m area u area u
         (Ok (record { scope = s; at = record { cell = n; node = m } }))
     none-stage e = record {
       stage = none-built c q cells s _ _ n m area u h.valid h.hidden
-          (omega (arith, h.nodes-room)) (omega (arith, e, a.next, b.next, groups-number, functions-number));
-      same = λ z. refl;
+          (omega (arith, h.nodes-room)) (omega (arith, e, y, a.used, z, b.used, groups-number, functions-number));
+      same = λ v. refl;
     }
 
-    groups-are : take g gs ≡ section_rows parts group_kind
-    groups-are = a.numbers
+    groups-are : rows_in g ≡ section_rows parts group_kind
+    groups-are = listed-first y a
 
-    functions-are : take f fs ≡ function_rows c q cells parts
-    functions-are = b.numbers
+    functions-are : rows_in f ≡ function_rows c q cells parts
+    functions-are = listed-first z b
 
     total-groups : total (λ r. size (tree_at c q cells r)) (section_rows parts group_kind) ≡ total size (groups_at c q cells parts)
     total-groups = sym (total-map size (tree_at c q cells) (section_rows parts group_kind)) ∙ ap (total size) group-rows
@@ -222,11 +223,11 @@ module _ {c q : Bytes} {cells parts : List ℕ} {s : Scope} {n m : ℕ} {area : 
     total-functions =
         sym (total-map size (tree_at c q cells) (function_rows c q cells parts)) ∙ ap (total size) rows-of-functions
 
-    pub some-ready : (g + f ≡ 0 → ⊥) → AggregateReady c q cells s (take g gs) (take f fs) n m area u
+    pub some-ready : (g.used + f.used ≡ 0 → ⊥) → AggregateReady c q cells s (rows_in g) (rows_in f) n m area u
     some-ready e = rw (groups-are, functions-are) (record {
       valid = h.valid;
       table = h.table;
-      some-rows = omega (arith, e, a.next, b.next);
+      some-rows = omega (arith, e, y, a.used, z, b.used);
       few-groups = groups-fit;
       few-functions = functions-fit;
       room = rw (total-groups, total-functions) h.room;
@@ -236,12 +237,12 @@ module _ {c q : Bytes} {cells parts : List ℕ} {s : Scope} {n m : ℕ} {area : 
       in_use = h.in_use;
     })
 
-    pub some-stage : {area' : List ℕ} {v : Nodes} {r : Result Stage Refusal} → (g + f ≡ 0 → ⊥)
-        → StageBuilt c q cells (groups_stage c q cells s (map (tree_at c q cells) (take g gs))
-        (map (tree_at c q cells) (take f fs))) n m area u area' v r
+    pub some-stage : {area' : List ℕ} {v : Nodes} {r : Result Stage Refusal} → (g.used + f.used ≡ 0 → ⊥)
+        → StageBuilt c q cells (groups_stage c q cells s (map (tree_at c q cells) (rows_in g))
+        (map (tree_at c q cells) (rows_in f))) n m area u area' v r
         → GroupsBuilt c q cells s (groups_at c q cells parts) (functions_at c q cells parts) n m area u area' v r
     some-stage e x = record {
       stage = rw (groups-are, functions-are, group-rows, rows-of-functions) at x;
-      same = λ z. absurd (false≢true (sym z ∙ aggregated-some (groups_at c q cells parts) (functions_at c q cells parts)
-          (omega (arith, e, a.next, b.next, groups-number, functions-number))));
+      same = λ v. absurd (false≢true (sym v ∙ aggregated-some (groups_at c q cells parts) (functions_at c q cells parts)
+          (omega (arith, e, y, a.used, z, b.used, groups-number, functions-number))));
     }

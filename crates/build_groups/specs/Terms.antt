@@ -1,15 +1,15 @@
 -- What the stage of groups and aggregates needs, and the rows that it retains.
 use Rattle.std.specs.Prelude.{ℕ, ◌+◌, ◌*◌, ◌-◌, ◌≤◌, ◌<◌, ◌≡◌, Bool, true, false, List, [], ◌∷◌, ◌++◌, length, take, drop}
 use Rattle.std.proofs.Common.{arith, sym, ap, ◌∙◌, length-append, length-drop, length-take-le, take_all, take_at, drop_at}
-use Rattle.std.proofs.lemmas.List.Edits.{sets}
-use Rattle.std.proofs.Math.Seq.{length-sets}
 use Rattle.rules.specs.Limits.{most_columns, most_entries, most_cells}
 use Rattle.rules.specs.Lists.{Bytes}
 use Rattle.rules.specs.Ast.{Expr, size}
 use Rattle.rules.specs.Sizes.{total}
 use Rattle.ast.specs.Table.{table_size, tree_at}
 use Rattle.scope.specs.Scopes.{Valid}
-use Rattle.scope.specs.Retain.{has_equal, retained, retained-length, kept-rows}
+use Rattle.ast.specs.Listed.{rows_in, Listed, listed-all, listed-rows, listed-first}
+use Rattle.ast.specs.declared.buffer.Rows.{Rows}
+use Rattle.scope.specs.Retain.{has_equal, retained, retained-length}
 use Rattle.scope.specs.AddAggregates.{Aggregable}
 use Rattle.scope.specs.declared.Scope.{Scope}
 use Rattle.plan.specs.Layout.{nodes_size}
@@ -87,36 +87,21 @@ module _ {e : ℕ → Expr} {gs fs rows : List ℕ} {g : ℕ} (k : RowsKept e gs
   kept-functions = rows-from g rows ∙ ap (drop g) k.rows-are ∙ drop_at (retained_groups e gs) (retained_functions e gs fs) g (sym k.groups-number)
 
 -- retained one after the other
-pub second-room : (e : ℕ → Expr) (gs fs kept : List ℕ) {kept₁ : List ℕ} {g : ℕ}
-    → length gs + length fs ≤ length kept
-    → g ≡ 0 + length (retained e (take 0 kept) gs) → kept₁ ≡ sets kept 0 (retained e (take 0 kept) gs)
-    → g + length fs ≤ length kept₁
-second-room e gs fs kept h eg e₁ =
-    let l : length (sets kept 0 (retained e (take 0 kept) gs)) ≡ length kept =
-    length-sets kept 0 (retained e (take 0 kept) gs) in
-    omega (arith, eg, ap length e₁, l, retained-length e (take 0 kept) gs)
+module _ (e : ℕ → Expr) (gs fs : List ℕ) {s s₁ : Rows} (z : s.used ≡ 0) (a : Listed (retained e (rows_in s) gs) s s₁) where
+  kept-first : rows_in s₁ ≡ retained_groups e gs
+  kept-first = listed-first z a ∙ ap (λ n. retained e (take n s.places.now) gs) z
 
-pub retained-both : (e : ℕ → Expr) (gs fs kept : List ℕ) {kept₁ kept₂ : List ℕ} {g f : ℕ}
-    → length gs + length fs ≤ length kept
-    → g ≡ 0 + length (retained e (take 0 kept) gs) → kept₁ ≡ sets kept 0 (retained e (take 0 kept) gs)
-    → f ≡ g + length (retained e (take g kept₁) fs) → kept₂ ≡ sets kept₁ g (retained e (take g kept₁) fs)
-    → (f ≤ length kept₂) × RowsKept e gs fs (take f kept₂) g
-retained-both e gs fs kept {kept₁} {kept₂} {g} {f} h eg e₁ ef e₂ =
-    let l₁ : length kept₁ ≡ length kept = ap length e₁ ∙ length-sets kept 0 (retained e (take 0 kept) gs) in
-    let l₂ : length kept₂ ≡ length kept = ap length e₂ ∙ length-sets kept₁ g (retained e (take g kept₁) fs) ∙ l₁ in
-    let ig : g ≡ length (retained e [] gs) = omega (arith, eg) in
-    let a : take g kept₁ ≡ retained e [] gs =
-    rw (e₁, eg) (kept-rows kept (retained e [] gs) 0 (omega (arith, retained-length e [] gs))) in
-    let jf : f ≡ g + length (retained e (retained e [] gs) fs) = rw a at ef in
-    let b : kept₂ ≡ sets kept₁ g (retained e (retained e [] gs) fs) = rw a at e₂ in
-    let m : g + length (retained e (retained e [] gs) fs) ≤ length kept =
-    omega (arith, ig, retained-length e [] gs, retained-length e (retained e [] gs) fs) in (
-      omega (arith, jf, l₂, m),
-      record {
-        groups-number = ig;
-        rows-are = rw (jf, b) (kept-rows kept₁ (retained e (retained e [] gs) fs) g (omega (arith, m, l₁)) ∙ rw a);
-      },
-    )
+  groups-first : s₁.used ≡ length (retained_groups e gs)
+  groups-first = omega (arith, rw z at a.used)
+
+  pub second-room : length gs + length fs ≤ length s.places.now → s₁.used + length fs ≤ length s₁.places.now
+  second-room h = omega (arith, h, groups-first, retained-length e [] gs, listed-all a)
+
+  pub retained-both : {s₂ : Rows} → Listed (retained e (rows_in s₁) fs) s₁ s₂ → RowsKept e gs fs (rows_in s₂) s₁.used
+  retained-both b = record {
+    groups-number = groups-first;
+    rows-are = listed-rows b ∙ rw kept-first;
+  }
 
 -- over the rows that are kept, the groups' first
 pub record KeptReady (c q : Bytes) (cells : List ℕ) (s : Scope) (rows : List ℕ) (g n m : ℕ) (area : List ℕ) (u : Nodes)

@@ -1,11 +1,12 @@
 // The aggregate stage over the rows of its groups and functions (planner.rs, build_aggregate).
-ghost use Rattle.std.specs.Prelude.{ℕ, ◌+◌, ◌≤◌, List, map, length, take};
+ghost use Rattle.std.specs.Prelude.{ℕ, List, map};
 ghost use Rattle.ast.specs.Expressions.{tree_in};
 ghost use Rattle.stage.specs.Stages.{StageBuilt};
 ghost use Rattle.build_groups.specs.Terms.{AggregateReady, KeptReady, RowsKept};
 ghost use Rattle.build_groups.specs.Stages.{groups_stage, StageOver};
 
 use ast::Expressions;
+use ast::buffer::Rows;
 use ast::rows::STATEMENT_ROWS;
 use build_aggregate::node::build_node;
 use numbers::refusals::Refusal;
@@ -19,29 +20,6 @@ use stage::Stage;
 pub const GROUPS: usize = 64;
 
 pub const FUNCTIONS: usize = STATEMENT_ROWS as usize;
-
-// How many rows are retained: of groups, and in all.
-#[derive(Clone, Copy, Debug, PartialEq, Eq)]
-struct Kept {
-    groups: usize,
-    all: usize,
-}
-
-// The rows of the groups, each expression once, then those of the functions.
-fn retain_rows(
-    exprs: &Expressions,
-    groups: &[usize],
-    functions: &[usize],
-    kept: &mut [usize],
-) -> Kept
-    requires { length groups.now + length functions.now ≤ length kept.old }
-    ensures { (result.all ≤ length kept.new)
-        × RowsKept (tree_in exprs.now) groups.now functions.now (take result.all kept.new) result.groups }
-{
-    let g = retain(exprs, groups, kept, 0);
-    let f = retain(exprs, functions, kept, g);
-    Kept { groups: g, all: f }
-}
 
 // The aggregate node over the node before it, by the rows that are retained, those of groups first, and its scope.
 fn build_retained(
@@ -97,15 +75,13 @@ pub fn build_aggregate(
         (map (tree_in exprs.now) groups.now) (map (tree_in exprs.now) functions.now))
         at.cell at.node area.old nodes.old area.new nodes.new result }
 {
-    let mut kept = [0usize; GROUPS + FUNCTIONS];
-    let rows = retain_rows(exprs, groups, functions, &mut kept);
-    build_retained(
-        exprs,
-        &kept[..rows.all],
-        rows.groups,
-        scope,
-        area,
-        nodes,
-        at,
-    )
+    let mut places = [0usize; GROUPS + FUNCTIONS];
+    let mut kept = Rows {
+        places: &mut places,
+        used: 0,
+    };
+    retain(exprs, groups, &mut kept);
+    let kept_groups = kept.used;
+    retain(exprs, functions, &mut kept);
+    build_retained(exprs, kept.seen(), kept_groups, scope, area, nodes, at)
 }

@@ -10,6 +10,7 @@ ghost use Rattle.build_groups.specs.Stages.{GroupsBuilt};
 
 use aggregate::{FUNCTIONS, GROUPS, build_aggregate};
 use ast::Expressions;
+use ast::buffer::Rows;
 use numbers::refusals::Refusal;
 use plan::nodes::Nodes;
 use plan::steps::Step;
@@ -33,12 +34,28 @@ pub fn build_groups(
         (functions_at exprs.now.texts.catalog.now exprs.now.texts.statement.now exprs.now.table.now parts.now)
         at.cell at.node area.old nodes.old area.new nodes.new result }
 {
-    let mut groups = [0usize; GROUPS];
-    let g = group_rows(parts, &mut groups);
-    let mut functions = [0usize; FUNCTIONS];
-    let f = function_rows(exprs, parts, &mut functions);
-    if g + f == 0 {
+    let mut places = [0usize; GROUPS];
+    let mut groups = Rows {
+        places: &mut places,
+        used: 0,
+    };
+    group_rows(parts, &mut groups);
+    let mut places = [0usize; FUNCTIONS];
+    let mut functions = Rows {
+        places: &mut places,
+        used: 0,
+    };
+    function_rows(exprs, parts, &mut functions);
+    if groups.used + functions.used == 0 {
         return Ok(Stage { scope, at });
     }
-    build_aggregate(exprs, &groups[..g], &functions[..f], scope, area, nodes, at)
+    build_aggregate(
+        exprs,
+        groups.seen(),
+        functions.seen(),
+        scope,
+        area,
+        nodes,
+        at,
+    )
 }

@@ -21,8 +21,9 @@ use Rattle.statement.specs.Access.{select_at}
 use Rattle.statement.specs.EntryAccess.{clause_at, clause_of, clause-is, key-at, map-length}
 use Rattle.statement.specs.declared.access.Clause as Cl
 use Rattle.build_hidden.specs.Visits.{hidden_by, hidden-append, trees_at}
-use Rattle.build_hidden.specs.Rows.{Listed, listed-none, listed-on, RowsFit, RowsVisited}
-use Rattle.build_hidden.specs.declared.walk.Rows.{Rows}
+use Rattle.ast.specs.Listed.{Listed, listed-none, listed-all, listed-on}
+use Rattle.ast.specs.declared.buffer.Rows.{Rows}
+use Rattle.build_hidden.specs.Rows.{RowsFit, RowsVisited}
 
 -- the order keys, and their expressions
 module _ (c q : Bytes) (cells parts : List ℕ) where
@@ -101,8 +102,8 @@ module _ {cells parts : List ℕ} {s : Rows} {k : ℕ} {s' : Rows} (f : KeysFit 
         arith,
         f.fits,
         v.most f.c f.q,
-        v.listed.appended.next,
-        v.listed.appended.all,
+        v.listed.used,
+        listed-all v.listed,
         next-size f.c f.q,
       );
     }
@@ -179,7 +180,7 @@ module _ {cells parts : List ℕ} {s : Rows} (f : LaterFit cells parts s) {x : O
         c = f.c;
         q = f.q;
         table = f.table;
-        fits = omega (arith, f.fits [], some_size, o.most f.c f.q, o.listed.appended.next, o.listed.appended.all);
+        fits = omega (arith, f.fits [], some_size, o.most f.c f.q, o.listed.used, listed-all o.listed);
       }
 
       pub some-visited : {s₂ : Rows} → KeysVisited cells parts s₁ s₂ → LaterVisited cells parts s s₂

@@ -6,20 +6,9 @@ use Rattle.rules.specs.Lists.{Bytes}
 use Rattle.rules.specs.Ast.{Expr, star, column, literal, call, unary, binary, is, size, size_all}
 use Rattle.ast.specs.Table.{rows_at, arguments_at, tree_at}
 use Rattle.ast.specs.Operands.{operands_of, kind_at, operands_at, operands-at, tree-at, arguments-more}
-use Rattle.plan.specs.Appended.{Appended, appended-none, appended-on}
-use Rattle.build_hidden.specs.declared.walk.Rows.{Rows}
+use Rattle.ast.specs.Listed.{Listed, listed-all, listed-on}
+use Rattle.ast.specs.declared.buffer.Rows.{Rows}
 use Rattle.build_hidden.specs.Visits.{Walks, Walking, walking-begin, walking-end, walking-stop, walking-more}
-
--- xs stand behind the rows of s, in the same lent slice
-pub record Listed (xs : List ℕ) (s t : Rows) : Type 0 where
-  pub same : t.places.ghost_name ≡ s.places.ghost_name
-  pub appended : Appended xs s.used s.places.now t.used t.places.now
-
-pub listed-none : (s : Rows) → s.used ≤ length s.places.now → Listed [] s s
-listed-none s h = record { same = refl; appended = appended-none s.used s.places.now h }
-
-pub listed-on : {xs ys : List ℕ} {s t u : Rows} → Listed xs s t → Listed ys t u → Listed (xs ++ ys) s u
-listed-on a b = record { same = b.same ∙ a.same; appended = appended-on a.appended b.appended }
 
 -- there is room behind the rows of s for as many as the tree at row r has cells, by some texts
 pub record RowsFit (t : List ℕ) (r : ℕ) (s : Rows) : Type 0 where
@@ -89,8 +78,8 @@ module _ {t : List ℕ} {r : ℕ} {any : Bool} {s : Rows} {k p : ℕ} {s' : Rows
       arith,
       f.fits,
       v.most f.c f.q,
-      v.listed.appended.next,
-      v.listed.appended.all,
+      v.listed.used,
+      listed-all v.listed,
       size-first (tree_at f.c f.q t) t k p l,
     );
   }

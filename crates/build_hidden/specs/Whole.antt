@@ -5,7 +5,7 @@ use Rattle.rules.specs.Limits.{most_cells}
 use Rattle.rules.specs.Lists.{Bytes}
 use Rattle.scope.specs.declared.Scope.{Scope}
 use Rattle.build_hidden.specs.Terms.{Hideable}
-use Rattle.build_hidden.specs.declared.walk.Rows.{Rows}
+use Rattle.ast.specs.declared.buffer.Rows.{Rows}
 use Rattle.build_hidden.specs.Later.{LaterFit}
 
 -- there are places for all rows

@@ -1,7 +1,8 @@
 // The rows that are visited for HAVING and ORDER BY, in turn.
 ghost use Rattle.build_hidden.specs.Later.{KeysFit, KeysVisited, LaterFit, LaterVisited};
 
-use super::walk::{Rows, visit_rows};
+use super::walk::visit_rows;
+use ast::buffer::Rows;
 use entries::Section;
 use sections::entry::{count, entry_at, first_row};
 use statement::access::clause_at;

@@ -9,13 +9,13 @@ mod hide; // hide.rt: the columns of all rows
 ghost use Rattle.build_hidden.specs.Terms.{Hideable, HiddenBuilt};
 
 use ast::Expressions;
+use ast::buffer::Rows;
 use ast::rows::STATEMENT_ROWS;
 use hide::hide_rows;
 use later::later_rows;
 use numbers::refusals::Refusal;
 use scope::Scope;
 use scope::view::View;
-use walk::Rows;
 
 // The child with the columns of the parent that are passed on hidden to it. The parent's position
 // of each goes into `positions`. Refused where the child is full, at the line of the record that calls for one more.

@@ -1,35 +1,10 @@
 // The walk for hidden columns over the table (ast.rs, walk). Its visitor always answers true, so which records are
 // visited does not depend on what is hidden.
-ghost use Rattle.std.specs.Prelude.{◌≡◌, [], ◌∷◌, ◌+◌, ◌≤◌, take, length};
-ghost use Rattle.build_hidden.specs.Rows.{Listed, RowsFit, RowsVisited};
+ghost use Rattle.build_hidden.specs.Rows.{RowsFit, RowsVisited};
 
+use ast::buffer::Rows;
 use ast::row::{Kind, kind_of};
 use ast::rows::{next, operands};
-
-// A lent slice, and how many rows stand in it.
-#[derive(Drop)]
-pub struct Rows<'r> {
-    pub places: &'r mut [usize],
-    pub used: usize,
-}
-
-impl<'r> Rows<'r> {
-    fn push(&mut self, r: usize)
-        requires { self.old.used + 1 ≤ length self.old.places.now }
-        ensures { Listed (r ∷ []) self.old self.new }
-    {
-        self.places[self.used] = r;
-        self.used += 1;
-    }
-
-    // Those that stand in it.
-    pub fn seen(&self) -> &[usize]
-        requires { self.now.used ≤ length self.now.places.now }
-        ensures { result.now ≡ take self.now.used self.now.places.now }
-    {
-        &self.places[..self.used]
-    }
-}
 
 // The rows visited from row r on, behind others; the walk's answer. An operator's operands are walked until one walk answers
 // false, a function's arguments until one answers true.

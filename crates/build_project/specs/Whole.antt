@@ -42,7 +42,7 @@ use Rattle.plan.specs.Steps.{refused-at, refused-on, stands_one, stage-lies, ste
 use Rattle.stage.specs.Stages.{StageBuilt}
 use Rattle.build_expression.specs.Builds.{scope_at}
 use Rattle.build_projection.specs.Items.{item_of}
-use Rattle.build_projection.specs.Pushes.{items_size, ItemsFit, ItemsPut}
+use Rattle.build_projection.specs.Pushes.{items_size, ItemsPut}
 use Rattle.build_projection.specs.Pushes as pushes
 use Rattle.build_project.specs.Ready.{ProjectionReady}
 use Rattle.build_project.specs.Hidden.{column_parts, positions_of, hidden-emits}

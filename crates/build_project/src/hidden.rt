@@ -18,7 +18,7 @@ use scope::{COLUMNS, Scope};
 // The columns at some positions: their cells from the first on, and their parts of a record.
 fn put_columns(positions: &[u32], area: &mut [u32], nodes: &mut Nodes, first: u32)
     requires room { Room first (length positions.now) area.old }
-    requires positions_in_bounds { nodes.old.used + item_size * length positions.now ≤ length nodes.old.numbers.now }
+    requires nodes_room { nodes.old.used + item_size * length positions.now ≤ length nodes.old.numbers.now }
     ensures { ColumnsPut positions.now first area.old area.new nodes.old nodes.new }
 {
     for (i, &x) in positions.iter().enumerate() {

@@ -71,7 +71,7 @@ starred-rows c q x parts r zero h = refl
 starred-rows c q x parts r (suc w) h =
     rw (item-starred c q x parts r h, starred-rows c q x parts (suc r) w (omega arith))
 
-up_to-length : (r w : ℕ) → length (up_to r w) ≡ w
+pub up_to-length : (r w : ℕ) → length (up_to r w) ≡ w
 unfolding up_to
 up_to-length r zero = refl
 up_to-length r (suc w) = ap suc (up_to-length (suc r) w)

@@ -4,7 +4,7 @@ use native.Mathlib.Omega.{arith}
 use Rattle.std.proofs.Math.Path.{◌≡◌, refl}
 use Rattle.std.proofs.Common.{◌∙◌}
 use Rattle.std.specs.Prelude as std
-use Rattle.std.specs.Prelude.{Bool, List, [], ◌∷◌, length, set}
+use Rattle.std.specs.Prelude.{List, [], ◌∷◌, length, set}
 use Rattle.std.proofs.Math.ListN.{length-set}
 use Rattle.std.proofs.lemmas.List.Edits.{sets}
 use Rattle.rules.specs.Refusals.{limit_passed}

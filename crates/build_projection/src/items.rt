@@ -1,7 +1,6 @@
 // The items of a SELECT, each star replaced by FROM's columns (planner.rs, build_select). An item is a number: that of
 // its entry, or the row of a starred column, which is behind the statement's rows.
 ghost use Rattle.std.specs.Prelude.{◌≡◌, [], ◌∷◌, ◌+◌, ◌≤◌, ◌<◌, length};
-ghost use Rattle.std.proofs.lemmas.List.Edits.{sets};
 ghost use Rattle.rules.specs.Limits.{most_columns};
 ghost use Rattle.rules.specs.Lists.{Bytes};
 ghost use Rattle.rules.specs.Views.{as_star};
@@ -73,13 +72,13 @@ fn plain_star(cells: &[u32], parts: &[u32]) -> Option<u32>
     None
 }
 
-// The w numbers from first on, in the places from n on.
-fn put_rows(items: &mut [u32], n: usize, first: u32, w: usize)
-    requires { (n + w ≤ length items.old) × (first + w ≤ statement_rows + starred_rows) }
-    ensures { items.new ≡ sets items.old n (up_to first w) }
+// Numbers from first on, in each place.
+fn put_rows(items: &mut [u32], first: u32)
+    requires { first + length items.old ≤ statement_rows + starred_rows }
+    ensures { items.new ≡ up_to first (length items.old) }
 {
-    for j in 0..w {
-        items[n + j] = first + j as u32;
+    for i in 0..items.len() {
+        items[i] = first + i as u32;
     }
 }
 
@@ -116,7 +115,7 @@ fn list_item(
                 return Err(Reason::LimitPassed.at(line));
             }
             put_columns(cells, tables, labels, listed.starred, line);
-            put_rows(items, n, STATEMENT_ROWS + listed.starred, w);
+            put_rows(&mut items[n..n + w], STATEMENT_ROWS + listed.starred);
             Ok(Listed {
                 count: listed.count + w as u32,
                 starred: listed.starred + w as u32,

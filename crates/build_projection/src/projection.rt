@@ -63,7 +63,7 @@ fn put_item(
 ) -> Result<u32, Refusal>
     requires room { Room cell (3 * size (item_of exprs.now.texts.catalog.now exprs.now.texts.statement.now
         exprs.now.table.now parts.now x).expr) area.old }
-    requires item_size_in_bounds { nodes.old.used + item_size ≤ length nodes.old.numbers.now }
+    requires nodes_room { nodes.old.used + item_size ≤ length nodes.old.numbers.now }
     ensures { ItemPut exprs.now.texts.catalog.now exprs.now.texts.statement.now exprs.now.table.now parts.now
         scope.now.labels.now scope.now.matches.now scope.now.tables.now
         x cell area.old area.new nodes.old nodes.new result }

@@ -165,16 +165,16 @@ missing_at e = absurd (let z : ◌≡◌ {A = ℕ} 0 1 = cc in omega arith)
 
 -- REFERENCES
 -- the place of the name of the table that a column refers to
-unfoldable pub place_of : Bytes → Bytes → std.Option Place → std.Option Place
-place_of c q std.None = std.None
-place_of c q (std.Some p) = std.Some (record { address = p.address; length = length (bytes_at c q p.address p.length) })
+unfoldable pub clipped_place : Bytes → Bytes → std.Option Place → std.Option Place
+clipped_place c q std.None = std.None
+clipped_place c q (std.Some p) = std.Some (record { address = p.address; length = length (bytes_at c q p.address p.length) })
 
 abbrev pub reference_of : Bytes → Bytes → given.NewColumn → std.Option Place
-reference_of c q n = place_of c q n.reference
+reference_of c q n = clipped_place c q n.reference
 
 module _ (c q : Bytes) where
-  pub reference-span : (o : std.Option Place) {p : std.Option Place} → p ≡ place_of c q o → option_span (option_name c q o) ≡ option_numbers p
-  unfolding option_span span word_at option_name place_of
+  pub reference-span : (o : std.Option Place) {p : std.Option Place} → p ≡ clipped_place c q o → option_span (option_name c q o) ≡ option_numbers p
+  unfolding option_span span word_at option_name clipped_place
   reference-span std.None f = rw f
   reference-span (std.Some x) f = rw f
 

@@ -1,5 +1,5 @@
 -- The table of a DELETE or an UPDATE, its scope and its filter, from what was looked up and what was built.
-use Rattle.std.specs.Prelude.{ℕ, ◌+◌, ◌*◌, ◌≤◌, ◌≡◌, refl, List, ◌++◌, length, take, Result, Ok, Err}
+use Rattle.std.specs.Prelude.{ℕ, ◌*◌, ◌≤◌, ◌≡◌, refl, List, length, take, Result, Ok, Err}
 use Rattle.std.proofs.Common.{sym, ap, ◌∙◌}
 use Rattle.rules.specs.Refusals.{Answer, ok, refused, ◌>>=◌}
 use Rattle.rules.specs.Limits.{most_cells, least_area}

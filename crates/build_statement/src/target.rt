@@ -1,5 +1,4 @@
 // The table that a statement names, and the filter of a DELETE or an UPDATE over it.
-ghost use Rattle.schema.specs.Layout.{catalog_at};
 ghost use Rattle.build_statement.specs.Tables.{TablePosition};
 ghost use Rattle.build_statement.specs.Targets.{TargetReady, TargetBuilt};
 

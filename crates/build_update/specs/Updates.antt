@@ -11,7 +11,6 @@ use Rattle.rules.specs.Lists.{Bytes}
 use Rattle.rules.specs.Places.{bytes_at}
 use Rattle.rules.specs.Schema.{Column, Table, named_by}
 use Rattle.rules.specs.Limits.{most_cells, most_entries}
-use Rattle.rules.specs.Ast.{Expr}
 use Rattle.rules.specs.Ast as Ast
 use Rattle.rules.specs.Plan.{Built, Node}
 use Rattle.rules.specs.Plan as P

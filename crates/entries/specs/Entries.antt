@@ -35,9 +35,6 @@ pub record Entry : Type 0 where
 
 -- KINDS OF SECTIONS
 -- 0 item, 1 where, 2 group, 3 having, 4 order, 5 offset, 6 limit; 7 columns, 8 name, 9 row; 10 set; 11 column
-unfoldable pub keywords : Bytes
-keywords = bytes "item where group having order offset limit columns name row set column "
-
 unfoldable pub keyword_of : ℕ → Bytes
 keyword_of k =
     get_or

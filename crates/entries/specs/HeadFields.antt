@@ -23,7 +23,6 @@ use Rattle.entries.specs.Entries.{EntryHead, keyword_of, plain_head, named_head,
 use Rattle.entries.specs.Heads.{head_numbers, last_name, words_numbers, saying, Entered, IsHead}
 use Rattle.entries.specs.declared.Head.{Head}
 use Rattle.entries.specs.declared.Words.{Words}
-use Rattle.entries.specs.declared.Words.TheVariants.{Nothing}
 use Rattle.numbers.specs.declared.refusals.Reason.TheVariants.{WrongRecord}
 use Rattle.numbers.specs.declared.refusals.Refusal as code
 
@@ -102,7 +101,7 @@ unfolding HeadIs
 head-none t o r e s = rw e s
 
 -- no names
-pub head_plain : (t : Bytes) (h : EntryHead) (r : std.Option Head) (w : Words) → h.name ≡ none → h.reference ≡ none → r ≡ Some (saying h.expressions None w)
+pub head_plain : (t : Bytes) (h : EntryHead) (r : std.Option Head) (w : std.Option Words) → h.name ≡ none → h.reference ≡ none → r ≡ Some (saying h.expressions None w)
     → h.code ∷ h.key ∷ h.nullable ∷ h.unique ∷ h.index ∷ 0 ∷ 0 ∷ [] ≡ words_numbers w → h.expressions ≤ suc most_cells → HeadIs t (some h) r
 unfolding HeadIs option_span NameFits
 head_plain t h r w e f g s l = (
@@ -119,7 +118,7 @@ head_plain t h r w e f g s l = (
 
 -- a name
 pub head-name : (t : Bytes) (a n e : ℕ) (r : std.Option Head) → Inside t a n → is_name n ≡ true → e ≤ 1
-    → r ≡ Some (saying e (Some (record { address = most_bytes + a; length = n })) Nothing) → HeadIs t (name_head e (field most_bytes t a n)) r
+    → r ≡ Some (saying e (Some (record { address = most_bytes + a; length = n })) None) → HeadIs t (name_head e (field most_bytes t a n)) r
 unfolding name_head map_option named_head HeadIs option_span NameFits words_numbers
 head-name t a n e r i h l g = rw (field-named t a n i h) ((
   _,

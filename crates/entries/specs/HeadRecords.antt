@@ -1,18 +1,18 @@
 -- The records of clauses, items, order keys, names and rows, by the number of their fields.
-use Rattle.std.specs.Prelude.{ℕ, zero, suc, ◌+◌, ◌≤◌, ◌<◌, ◌≡◌, true, false, List, [], ◌∷◌, eqb, length, take, drop, None, Some}
+use Rattle.std.specs.Prelude.{ℕ, suc, ◌+◌, ◌≤◌, ◌<◌, ◌≡◌, Bool, List, [], ◌∷◌, length, take, drop, None, Some}
 use Rattle.std.specs.Prelude as std
 use Rattle.std.proofs.Common.{arith, ◌∙◌}
-use Rattle.std.proofs.Math.Path.{refl, sym, ap}
+use Rattle.std.proofs.Math.Path.{refl, sym}
 use Rattle.std.proofs.Math.Option.{Option, none, some}
 use Rattle.std.proofs.Math.ListN.{get_or}
 use Rattle.rules.specs.Limits.{most_bytes}
+use Rattle.numbers.specs.Options.{option_of}
 use Rattle.rules.specs.Refusals.{statement}
 use Rattle.rules.specs.Lists.{Bytes, map_option}
-use Rattle.rules.specs.Lines.{Word, bytes}
+use Rattle.rules.specs.Lines.{Word}
 use Rattle.rules.specs.Reader.{base_address, name, word, count_field, no_field, one_field, optional_name}
 use Rattle.rules.specs.ReadStatement.{directions}
 use Rattle.text.specs.Lines.{field, kept_fields}
-use Rattle.text.specs.Words.{find, words_of, push, keys, nth, named_by, nth-none}
 use Rattle.text.specs.Numbers.{count_small}
 use Rattle.text.specs.Reading.{field_of, rest-none, rest-one, rest-two, rest-other}
 use Rattle.text.specs.Records.{no-field, one_field_lem, optional-name}
@@ -22,7 +22,7 @@ use Rattle.entries.specs.Entries.{EntryHead, plain_head, named_head, order_head,
 use Rattle.entries.specs.Heads.{words_numbers, saying}
 use Rattle.entries.specs.HeadFields.{LineAt, HeadIs, HeadIsHere, clause_fields, name_head, head-is-as, head-none, head_plain}
 use Rattle.entries.specs.declared.Head.{Head}
-use Rattle.entries.specs.declared.Words.TheVariants.{Nothing, Descends}
+use Rattle.entries.specs.declared.Words.TheVariants.{Descends}
 
 -- WHAT THE FIELDS SAY
 item-fields : (w : Word) → fields_of 0 none (w ∷ []) ≡ name_head 1 w
@@ -44,10 +44,6 @@ name-fields w = refl
 row-fields : (w : Word) → fields_of 9 none (w ∷ []) ≡ map_option plain_head (count_field w)
 unfolding fields_of one_field
 row-fields w = refl
-
-direction-words : keys directions ≡ words_of (bytes "asc desc ")
-unfolding directions keys words_of push bytes
-direction-words = refl
 
 -- RECORDS BY THE NUMBER OF THEIR FIELDS
 module _ (t : Bytes) (p : ℕ) (f : Line) (g : LineAt t p f) where
@@ -80,15 +76,15 @@ module _ (t : Bytes) (p : ℕ) (f : Line) (g : LineAt t p f) where
 
   module _ (r : std.Option Head) where
     -- clauses
-    pub clause-yes : (e : ℕ) → f.count ≡ 1 → e ≤ 1 → r ≡ Some (saying e None Nothing) → HeadIsHere t p (clause_fields e) r
-    clause-yes e n l s = with_none r (clause_fields e) n (unfold clause_fields no_field map_option plain_head words_numbers in head_plain t (plain_head e) r Nothing refl refl s refl (omega (arith, l)))
+    pub clause-yes : (e : ℕ) → f.count ≡ 1 → e ≤ 1 → r ≡ Some (saying e None None) → HeadIsHere t p (clause_fields e) r
+    clause-yes e n l s = with_none r (clause_fields e) n (unfold clause_fields no_field map_option plain_head words_numbers in head_plain t (plain_head e) r None refl refl s refl (omega (arith, l)))
 
     pub clause-no : (e : ℕ) → (f.count ≡ 1 → ⊥) → r ≡ None → HeadIsHere t p (clause_fields e) r
     clause-no e n s = without r (clause_fields e) 0 0 (omega arith) (omega arith) n n (λ ws x y. unfold clause_fields map_option in rw (no-field ws x)) s
 
     -- items
-    pub item-plain : f.count ≡ 1 → r ≡ Some (saying 1 None Nothing) → HeadIsHere t p (fields_of 0 none) r
-    item-plain n s = with_none r (fields_of 0 none) n (unfold fields_of optional_name map_option named_head words_numbers in head_plain t (named_head 1 none) r Nothing refl refl s refl (omega arith))
+    pub item-plain : f.count ≡ 1 → r ≡ Some (saying 1 None None) → HeadIsHere t p (fields_of 0 none) r
+    item-plain n s = with_none r (fields_of 0 none) n (unfold fields_of optional_name map_option named_head words_numbers in head_plain t (named_head 1 none) r None refl refl s refl (omega arith))
 
     pub item-named : f.count ≡ 2 → HeadIs t (name_head 1 first) r → HeadIsHere t p (fields_of 0 none) r
     item-named n s = with-one r (fields_of 0 none) n (head-is-as t _ _ r (item-fields first) s)
@@ -100,21 +96,12 @@ module _ (t : Bytes) (p : ℕ) (f : Line) (g : LineAt t p f) where
     pub order-no : (f.count ≡ 2 → ⊥) → r ≡ None → HeadIsHere t p (fields_of 4 none) r
     order-no n s = without r (fields_of 4 none) 1 1 (omega arith) (omega arith) n n (λ ws x y. unfold fields_of map_option in rw (one_field_lem (word directions) ws x)) s
 
-    module _ (n : f.count ≡ 2) {k : ℕ} (e : k ≡ find (words_of (bytes "asc desc ")) (take (get_or f.lens 1 0) (drop (get_or f.starts 1 0) t))) where
-      direction-is : word directions first ≡ nth directions k
-      unfolding word field
-      direction-is = named_by directions (bytes "asc desc ") _ k direction-words e
+    module _ (n : f.count ≡ 2) (v : std.Option Bool) (e : option_of v ≡ word directions first) where
+      pub order-word : v ≡ None → r ≡ None → HeadIsHere t p (fields_of 4 none) r
+      order-word q s = with-one r (fields_of 4 none) n (head-none t _ r (order-fields first ∙ rw (← e, q) (unfold map_option in refl)) s)
 
-      pub order-word : 2 ≤ k → r ≡ None → HeadIsHere t p (fields_of 4 none) r
-      order-word l s = with-one r (fields_of 4 none) n (head-none t _ r (order-fields first ∙ rw (direction-is ∙ nth-none directions k (unfold directions in l)) (unfold map_option in refl)) s)
-
-      pub order-yes : k < 2 → r ≡ Some (saying 1 None (Descends (eqb k 1))) → HeadIsHere t p (fields_of 4 none) r
-      order-yes l s = with-one r (fields_of 4 none) n (head-is-as t _ (map_option order_head (nth directions k)) r (order-fields first ∙ ap (map_option order_head) direction-is) (go k l s))
-        where
-          go : (k : ℕ) → k < 2 → r ≡ Some (saying 1 None (Descends (eqb k 1))) → HeadIs t (map_option order_head (nth directions k)) r
-          go zero l s = unfold nth directions map_option order_head words_numbers in head_plain t (order_head false) r (Descends false) refl refl s refl (omega arith)
-          go (suc zero) l s = unfold nth directions map_option order_head words_numbers in head_plain t (order_head true) r (Descends true) refl refl s refl (omega arith)
-          go (suc (suc k)) l s = absurd (omega arith)
+      pub order-yes : (d : Bool) → v ≡ Some d → r ≡ Some (saying 1 None (Some (Descends d))) → HeadIsHere t p (fields_of 4 none) r
+      order-yes d q s = with-one r (fields_of 4 none) n (head-is-as t _ (some (order_head d)) r (order-fields first ∙ rw (← e, q) (unfold map_option in refl)) (unfold order_head words_numbers in head_plain t (order_head d) r (Some (Descends d)) refl refl s refl (omega arith)))
 
     -- names
     pub name-no : (f.count ≡ 2 → ⊥) → r ≡ None → HeadIsHere t p (fields_of 8 none) r
@@ -135,5 +122,5 @@ module _ (t : Bytes) (p : ℕ) (f : Line) (g : LineAt t p f) where
       pub row-wrong : ((o : ℕ) → none ≡ count_field (record { bytes = take (get_or f.lens 1 0) (drop (get_or f.starts 1 0) t); start = o })) → r ≡ None → HeadIsHere t p (fields_of 9 none) r
       row-wrong e s = with-one r (fields_of 9 none) n (head-none t _ r (row-fields first ∙ rw (counted none e) (unfold map_option in refl)) s)
 
-      pub row-yes : (k : ℕ) → ((o : ℕ) → some k ≡ count_field (record { bytes = take (get_or f.lens 1 0) (drop (get_or f.starts 1 0) t); start = o })) → r ≡ Some (saying k None Nothing) → HeadIsHere t p (fields_of 9 none) r
-      row-yes k e s = with-one r (fields_of 9 none) n (head-is-as t _ (some (plain_head k)) r (row-fields first ∙ rw (counted (some k) e) (unfold map_option in refl)) (unfold plain_head words_numbers in head_plain t (plain_head k) r Nothing refl refl s refl (count_small _ k (e 0))))
+      pub row-yes : (k : ℕ) → ((o : ℕ) → some k ≡ count_field (record { bytes = take (get_or f.lens 1 0) (drop (get_or f.starts 1 0) t); start = o })) → r ≡ Some (saying k None None) → HeadIsHere t p (fields_of 9 none) r
+      row-yes k e s = with-one r (fields_of 9 none) n (head-is-as t _ (some (plain_head k)) r (row-fields first ∙ rw (counted (some k) e) (unfold map_option in refl)) (unfold plain_head words_numbers in head_plain t (plain_head k) r None refl refl s refl (count_small _ k (e 0))))

@@ -28,17 +28,17 @@ last_name t None = none
 last_name t (Some p) = some (take p.length (drop (p.address - most_bytes) t))
 
 -- the numbers of what a record says beside its name: code, key, nullable, unique, index, reference
-unfoldable pub words_numbers : Words → List ℕ
-words_numbers W.Nothing = 0 ∷ 0 ∷ 0 ∷ 0 ∷ 0 ∷ 0 ∷ 0 ∷ []
-words_numbers (W.Descends d) = flag d ∷ 0 ∷ 0 ∷ 0 ∷ 0 ∷ 0 ∷ 0 ∷ []
-words_numbers (W.Column c) =
+unfoldable pub words_numbers : std.Option Words → List ℕ
+words_numbers None = 0 ∷ 0 ∷ 0 ∷ 0 ∷ 0 ∷ 0 ∷ 0 ∷ []
+words_numbers (Some (W.Descends d)) = flag d ∷ 0 ∷ 0 ∷ 0 ∷ 0 ∷ 0 ∷ 0 ∷ []
+words_numbers (Some (W.Column c)) =
     type_code (type_of c.datatype) ∷ flag c.key ∷ null_number (option_of c.nullable) ∷ flag c.unique ∷ flag c.index ∷ option_numbers c.reference
 
 abbrev pub numbers_of : Head → List ℕ
 numbers_of r = option_numbers r.name ++ words_numbers r.words
 
 -- a record that says this
-abbrev pub saying : ℕ → std.Option places.Place → Words → Head
+abbrev pub saying : ℕ → std.Option places.Place → std.Option Words → Head
 saying e n w = record { expressions = e; name = n; words = w }
 
 -- a record of this kind, which stands here behind an entry named b

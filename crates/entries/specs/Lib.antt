@@ -1,6 +1,8 @@
 pub mod Entries
+pub mod Keywords
 pub mod Sections
 pub mod Heads
+pub mod Tables
 pub mod HeadFields
 pub mod HeadKinds
 pub mod HeadRecords

@@ -7,12 +7,11 @@ use Rattle.std.proofs.Math.Path.{refl}
 use Rattle.std.proofs.Math.Bool.{true, false}
 use Rattle.std.proofs.Math.Option.{Option, none, some}
 use Rattle.rules.specs.Limits.{most_bytes}
-use Rattle.rules.specs.Lists.{Bytes, map_option}
+use Rattle.rules.specs.Lists.{Bytes, same, named, map_option}
 use Rattle.rules.specs.Lines.{Word, bytes}
 use Rattle.rules.specs.Reader.{word, both}
 use Rattle.rules.specs.ReadStatement.{defaults, set_fields, rises, rising_set}
 use Rattle.text.specs.Lines.{field}
-use Rattle.text.specs.Words.{find, words_of, push, keys, nth, named_by, nth-none}
 use Rattle.text.specs.Numbers.{is_name, name_in, name_out}
 use Rattle.std.specs.Ordering.{is_lt}
 use Rattle.text.specs.Order.{order_of, ordered}
@@ -25,24 +24,29 @@ use Rattle.entries.specs.HeadRecords.{with-one, with_two, without}
 use Rattle.entries.specs.declared.Head.{Head}
 
 -- THE NAME BEFORE
-module _ (t : Bytes) (a n : ℕ) where
-  pub rises-first : true ≡ rises (last_name t None) (field most_bytes t a n)
+module _ (t : Bytes) (w : Word) where
+  pub rises-first : true ≡ rises (last_name t None) w
   unfolding last_name rises
   rises-first = refl
 
-  pub rises-by : (p : places.Place) {i : ℕ} {x y : Bytes} {b : Bool} → i ≡ p.address - most_bytes → x ≡ take p.length (drop i t) → y ≡ take n (drop a t) → b ≡ is_lt (order_of x y)
-      → b ≡ rises (last_name t (Some p)) (field most_bytes t a n)
-  unfolding last_name rises field
-  rises-by p e ex ey q = rw (q, ex, ey, e) (sym (ordered _ _).less)
+  pub rises-by : (p : places.Place) {i : ℕ} {x y : Bytes} {b : Bool} → i ≡ p.address - most_bytes → x ≡ take p.length (drop i t) → y ≡ w.bytes → b ≡ is_lt (order_of x y)
+      → b ≡ rises (last_name t (Some p)) w
+  unfolding last_name rises
+  rises-by p e ex ey q = rw (q, ey, ex, e) (sym (ordered _ _).less)
 
 -- WHAT THE FIELDS SAY
 set-fields : (b : Option Bytes) (ws : List Word) → fields_of 10 b ws ≡ map_option set_head (rising_set b ws)
 unfolding fields_of
 set-fields b ws = refl
 
-default-words : keys defaults ≡ words_of (bytes "default ")
-unfolding defaults keys words_of push bytes
-default-words = refl
+module _ (w : Word) where
+  default-yes : same (bytes "default") w.bytes ≡ true → word defaults w ≡ some tt
+  unfolding word defaults named
+  default-yes h = rw (named, h)
+
+  default-no : same (bytes "default") w.bytes ≡ false → word defaults w ≡ none
+  unfolding word defaults named
+  default-no h = rw (named, h)
 
 module _ (b : Option Bytes) (w : Word) where
   set_value_lem : rises b w ≡ true → map_option set_head (rising_set b (w ∷ [])) ≡ name_head 1 w
@@ -117,13 +121,9 @@ module _ (t : Bytes) (p : ℕ) (f : Line) (g : LineAt t p f) (r : std.Option Hea
   pub set-one : f.count ≡ 2 → rises b first ≡ true → HeadIs t (name_head 1 first) r → HeadIsHere t p (fields_of 10 b) r
   set-one n h s = with-one t p f g r (fields_of 10 b) n (head-is-as t _ _ r (set-fields b _ ∙ set_value_lem b first h) s)
 
-  module _ (n : f.count ≡ 3) {k : ℕ} (e : k ≡ find (words_of (bytes "default ")) (take (get_or f.lens 2 0) (drop (get_or f.starts 2 0) t))) where
-    default-is : word defaults second ≡ nth defaults k
-    unfolding word field
-    default-is = named_by defaults (bytes "default ") _ k default-words e
+  module _ (n : f.count ≡ 3) where
+    pub set_other : same (bytes "default") second.bytes ≡ false → r ≡ None → HeadIsHere t p (fields_of 10 b) r
+    set_other h s = with_two t p f g r (fields_of 10 b) n (head-none t _ r (set-fields b _ ∙ set_word b first second (default-no second h)) s)
 
-    pub set_other : (k ≡ 0 → ⊥) → r ≡ None → HeadIsHere t p (fields_of 10 b) r
-    set_other h s = with_two t p f g r (fields_of 10 b) n (head-none t _ r (set-fields b _ ∙ set_word b first second (default-is ∙ nth-none defaults k (unfold defaults in omega (arith, h)))) s)
-
-    pub set-two : k ≡ 0 → rises b first ≡ true → HeadIs t (name_head 0 first) r → HeadIsHere t p (fields_of 10 b) r
-    set-two z h s = with_two t p f g r (fields_of 10 b) n (head-is-as t _ _ r (set-fields b _ ∙ set-default b first second h (default-is ∙ rw z (unfold defaults nth in refl))) s)
+    pub set-two : same (bytes "default") second.bytes ≡ true → rises b first ≡ true → HeadIs t (name_head 0 first) r → HeadIsHere t p (fields_of 10 b) r
+    set-two z h s = with_two t p f g r (fields_of 10 b) n (head-is-as t _ _ r (set-fields b _ ∙ set-default b first second h (default-yes second z)) s)

@@ -1,24 +1,22 @@
 // What one record of a section says (specs/Entries.antt).
 #![tactic(auto)]
 
-ghost use Rattle.std.specs.Prelude.{◌≡◌, ℕ, ◌-◌, ◌≤◌, take, drop, Some, None};
+ghost use Rattle.std.specs.Prelude.{◌≡◌, ℕ, ◌-◌, ◌≤◌, ◌<◌, get_or, take, drop, Some, None};
 ghost use Rattle.std.proofs.Math.Option.{Option, none, some};
 ghost use Rattle.rules.specs.Refusals.{statement};
 ghost use Rattle.rules.specs.Limits.{most_bytes};
-ghost use Rattle.rules.specs.Lists.{Bytes, map_option};
+ghost use Rattle.rules.specs.Lists.{named, map_option};
 ghost use Rattle.rules.specs.Lines.{Word};
-ghost use Rattle.rules.specs.Reader.{word};
-ghost use Rattle.rules.specs.ReadColumn.{datatypes, flagged, nullness};
+ghost use Rattle.rules.specs.ReadColumn.{datatypes, nullness};
 ghost use Rattle.rules.specs.ReadStatement as rules;
 ghost use Rattle.numbers.specs.Options.{option_of};
 ghost use Rattle.numbers.specs.Datatypes.{type_of};
 ghost use Rattle.text.specs.Lines.{field};
-ghost use Rattle.text.specs.Words.{words_of, keys};
 ghost use Rattle.text.specs.Reading.{field_of};
 ghost use Rattle.text.specs.Fields.{Inside};
+ghost use Rattle.text.specs.Packed.{number};
 ghost use Rattle.read_expression.specs.Reading.{here};
-ghost use Rattle.entries.specs.declared.Words.TheVariants.{Nothing};
-ghost use Rattle.entries.specs.Entries.{fields_of};
+ghost use Rattle.entries.specs.Entries.{fields_of, keyword_of};
 ghost use Rattle.entries.specs.Sections.{number_of};
 ghost use Rattle.entries.specs.Heads.{IsHead, last_name, saying};
 ghost use Rattle.entries.specs.HeadFields.{LineAt, NameIs, HeadIs, HeadIsHere, clause_fields, name_head};
@@ -29,6 +27,7 @@ use numbers::refusals::{Reason, Refusal};
 use read_expression::reading::Cursor;
 use text::Line;
 use text::places::{Place, name_at};
+use text::words::{self, beside};
 
 // The sections of a statement but FROM, in the order of their keywords: the clauses of a SELECT, from `where` to `limit`, stand in it
 // as they do in the text.
@@ -60,10 +59,9 @@ pub struct NewColumn {
     pub reference: Option<Place>,
 }
 
-// What a record says beside its name: nothing, whether an order key descends, or what a new column does.
+// What some records say beside their name: whether an order key descends, or what a new column does.
 #[derive(Clone, Copy, Debug, PartialEq, Eq)]
 pub enum Words {
-    Nothing,
     Descends(bool),
     Column(NewColumn),
 }
@@ -73,17 +71,25 @@ pub enum Words {
 pub struct Head {
     pub expressions: u32,
     pub name: Option<Place>,
-    pub words: Words,
+    pub words: Option<Words>,
+}
+
+// Field i of a line.
+fn field(t: &[u8], f: Line, i: usize) -> &[u8]
+    requires { i < 12 }
+    ensures { result.now ≡ take (get_or f.lens i 0) (drop (get_or f.starts i 0) t.now) }
+{
+    text::part(t, f.starts[i], f.lens[i])
 }
 
 // A record that says no more than how many expressions follow it.
 fn plain(expressions: u32) -> Head
-    ensures { result ≡ saying expressions None Nothing }
+    ensures { result ≡ saying expressions None None }
 {
     Head {
         expressions,
         name: None,
-        words: Words::Nothing,
+        words: None,
     }
 }
 
@@ -109,7 +115,7 @@ fn name_head(t: &[u8], a: usize, n: usize, expressions: u32) -> Option<Head>
     Some(Head {
         expressions,
         name: Some(name),
-        words: Words::Nothing,
+        words: None,
     })
 }
 
@@ -135,14 +141,12 @@ fn order(t: &[u8], p: usize, f: Line) -> Option<Head>
     if f.count != 2 {
         return None;
     }
-    let k = text::which(b"asc desc ", t, f.starts[1], f.lens[1]);
-    if 2 <= k {
-        return None;
-    }
+    let table: [(&[u8], bool); 2] = [(b"asc", false), (b"desc", true)];
+    let descends = beside(&table, field(t, f, 1))?;
     Some(Head {
         expressions: 1,
         name: None,
-        words: Words::Descends(k == 1),
+        words: Some(Words::Descends(descends)),
     })
 }
 
@@ -179,16 +183,15 @@ fn position(address: u32) -> usize
     (address - text::MOST_BYTES) as usize
 }
 
-// Whether the n bytes at a come behind the last name, or there is none.
-fn rises(t: &[u8], last: Option<Place>, a: usize, n: usize) -> bool
-    ensures { result ≡ rules.rises (last_name t.now last) (field most_bytes t.now a n) }
+// Whether a name comes behind the last one, or there is none.
+fn rises(t: &[u8], last: Option<Place>, name: &[u8]) -> bool
+    ensures { (w : Word) → name.now ≡ w.bytes → result ≡ rules.rises (last_name t.now last) w }
 {
-    let Some(name) = last else {
+    let Some(place) = last else {
         return true;
     };
-    let x = text::part(t, position(name.address), name.length as usize);
-    let y = text::part(t, a, n);
-    text::compare(x, y).is_lt()
+    let last_name = text::part(t, position(place.address), place.length as usize);
+    text::compare(last_name, name).is_lt()
 }
 
 // A set: its name, and whether it is set to its default.
@@ -205,60 +208,49 @@ fn set(t: &[u8], p: usize, f: Line, last: Option<Place>) -> Option<Head>
     }
     let a = f.starts[1];
     let m = f.lens[1];
-    if !rises(t, last, a, m) {
+    if !rises(t, last, field(t, f, 1)) {
         return None;
     }
     if n == 2 {
         return name_head(t, a, m, 1);
     }
-    let k = text::which(b"default ", t, f.starts[2], f.lens[2]);
-    if k != 0 {
+    if !text::equal(b"default", field(t, f, 2)) {
         return None;
     }
     name_head(t, a, m, 0)
 }
 
-// The type that the n bytes at a name.
-fn datatype(t: &[u8], a: usize, n: usize) -> Option<DataType>
-    ensures { (o : ℕ) → map_option type_of (option_of result) ≡ word datatypes (record {
-      bytes = take n (drop a t.now);
-      start = o;
-    }) }
+// The type that a word names.
+fn datatype(word: &[u8]) -> Option<DataType>
+    ensures { map_option type_of (option_of result) ≡ named datatypes word.now }
 {
-    let k = text::which(b"bool int float text ", t, a, n);
-    if 4 <= k {
-        return None;
-    }
-    Some(DataType::of_number(k as u32 + 1))
+    let table: [(&[u8], DataType); 4] = [
+        (b"bool", DataType::Boolean),
+        (b"int", DataType::Integer),
+        (b"float", DataType::Float),
+        (b"text", DataType::String),
+    ];
+    beside(&table, word)
 }
 
-// What the n bytes at a say of nulls: that they are allowed, that they are not, or neither.
-fn nullable(t: &[u8], a: usize, n: usize) -> Option<Option<bool>>
-    ensures { (o : ℕ) → map_option option_of (option_of result) ≡ word nullness (record {
-      bytes = take n (drop a t.now);
-      start = o;
-    }) }
+// What a word says of nulls: that they are allowed, that they are not, or neither.
+fn nullable(word: &[u8]) -> Option<Option<bool>>
+    ensures { map_option option_of (option_of result) ≡ named nullness word.now }
 {
-    match text::which(b"null notnull - ", t, a, n) {
-        0 => Some(Some(true)),
-        1 => Some(Some(false)),
-        2 => Some(None),
-        _ => None,
-    }
+    let table: [(&[u8], Option<bool>); 3] = [
+        (b"null", Some(true)),
+        (b"notnull", Some(false)),
+        (b"-", None),
+    ];
+    beside(&table, word)
 }
 
-// Whether the n bytes at a are the first of two words; none where they are neither.
-fn flag(words: &[u8], t: &[u8], a: usize, n: usize) -> Option<bool>
-    ensures { (w : Bytes) (o : ℕ) → keys (flags w) ≡ words_of words.now → option_of result ≡ flagged w (record {
-      bytes = take n (drop a t.now);
-      start = o;
-    }) }
+// Whether a word is the flag's name; none where it is neither this nor `-`.
+fn flag(name: &[u8], word: &[u8]) -> Option<bool>
+    ensures { option_of result ≡ named (flags name.now) word.now }
 {
-    let k = text::which(words, t, a, n);
-    if 2 <= k {
-        return None;
-    }
-    Some(k == 0)
+    let table: [(&[u8], bool); 2] = [(name, true), (b"-", false)];
+    beside(&table, word)
 }
 
 // A column's record by its words: type, `pk`, `null` or `notnull`, `unique`, `index`, `default`.
@@ -266,23 +258,23 @@ fn column_words(t: &[u8], f: Line, name: Place, reference: Option<Place>) -> Opt
     ensures { (w : Word) (r : Option Word) → NameIs t.now (some w) (Some name) → NameIs t.now r reference
         → HeadIs t.now (column_said w (field_of statement t.now f) r) result }
 {
-    let datatype = datatype(t, f.starts[2], f.lens[2])?;
-    let key = flag(b"pk - ", t, f.starts[3], f.lens[3])?;
-    let nullable = nullable(t, f.starts[4], f.lens[4])?;
-    let unique = flag(b"unique - ", t, f.starts[5], f.lens[5])?;
-    let index = flag(b"index - ", t, f.starts[6], f.lens[6])?;
-    let default = flag(b"default - ", t, f.starts[7], f.lens[7])?;
+    let datatype = datatype(field(t, f, 2))?;
+    let key = flag(b"pk", field(t, f, 3))?;
+    let nullable = nullable(field(t, f, 4))?;
+    let unique = flag(b"unique", field(t, f, 5))?;
+    let index = flag(b"index", field(t, f, 6))?;
+    let default = flag(b"default", field(t, f, 7))?;
     Some(Head {
         expressions: u32::from(default),
         name: Some(name),
-        words: Words::Column(NewColumn {
+        words: Some(Words::Column(NewColumn {
             datatype,
             key,
             nullable,
             unique,
             index,
             reference,
-        }),
+        })),
     })
 }
 
@@ -326,6 +318,27 @@ fn fields_head(t: &[u8], p: usize, f: Line, kind: Section, last: Option<Place>) 
     }
 }
 
+// The number that a section's keyword is packed into.
+#[tactic(auto, unfolding(crate::specs::Entries::keyword_of, rules::specs::Lines::bytes, text::specs::Packed::number))]
+fn keyword(kind: Section) -> u64
+    ensures { result ≡ number (keyword_of (number_of kind)) }
+{
+    match kind {
+        Section::Item => words::ITEM,
+        Section::Where => words::WHERE,
+        Section::Group => words::GROUP,
+        Section::Having => words::HAVING,
+        Section::Order => words::ORDER,
+        Section::Offset => words::OFFSET,
+        Section::Limit => words::LIMIT,
+        Section::Columns => words::COLUMNS,
+        Section::Name => words::NAME,
+        Section::Row => words::ROW,
+        Section::Set => words::SET,
+        Section::Column => words::COLUMN,
+    }
+}
+
 // The section's record that stands here, if one does, by its fields, behind an entry of the last name.
 pub fn entry_head(
     t: &[u8],
@@ -338,7 +351,7 @@ pub fn entry_head(
     ensures { (l c k : ℕ) → IsHead t.now (number_of kind) (last_name t.now last) at.line
         (here t.now at.position l c k) result }
 {
-    if text::words::part(t, f.starts[0], f.lens[0]) != kind as usize {
+    if text::packed(t, f.starts[0], f.lens[0]) != keyword(kind) {
         return Ok(None);
     }
     match fields_head(t, at.position, f, kind, last) {

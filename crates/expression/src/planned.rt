@@ -62,7 +62,7 @@ pub fn of_value(texts: &Texts, v: Value) -> Literal
         },
         Value::Bool(b) => Literal {
             kind: LiteralKind::Bool,
-            first: b as u32,
+            first: u32::from(b),
             second: 0,
         },
         Value::Int(n) => halves(LiteralKind::Int, ints::bits::to_bits(n)),

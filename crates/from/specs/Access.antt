@@ -1,5 +1,5 @@
 -- FROM's rows by name, and the tree at a row by its kind: in all rows and at every row.
-use Prim.Native.Nat.{ℕ, zero, suc, ◌-◌, ◌≤◌, ◌<◌}
+use Prim.Native.Nat.{ℕ, zero, suc, ◌+◌, ◌-◌, ◌≤◌, ◌<◌}
 use Rattle.std.proofs.Common.{arith, sub-one, sym, ap, ◌∙◌}
 use Rattle.std.proofs.Math.Decide.{dec_lt}
 use Rattle.std.specs.Prelude.{◌≡◌, refl, List, [], ◌∷◌}
@@ -38,6 +38,11 @@ module _ (froms : List ℕ) (r : ℕ) where
   alias_length = at froms r 6
 
 -- PREDICATES
+-- what stands for a predicate's row: 0 where there is none
+abbrev pub number_of_row : std.Option ℕ → ℕ
+number_of_row std.None = 0
+number_of_row (std.Some r) = r + 1
+
 unfoldable pub predicate_row : ℕ → std.Option ℕ
 predicate_row zero = std.None
 predicate_row (suc r) = std.Some r

@@ -1,21 +1,24 @@
 -- What a FROM record says, by its keyword and its fields.
-use Rattle.std.specs.Prelude.{eqb, ℕ, zero, suc, ◌+◌, ◌-◌, ◌≤◌, ◌<◌, ◌≡◌, refl, Bool, true, false, [], ◌∷◌, get_or, take, drop, Some, None}
+use Rattle.std.specs.Prelude.{ℕ, zero, suc, ◌+◌, ◌-◌, ◌≤◌, ◌<◌, ◌≡◌, refl, Bool, true, false, List, [], ◌∷◌, map, get_or, take, drop, Some, None}
 use Rattle.std.specs.Prelude as std
-use Rattle.std.proofs.Common.{arith, sym, ap, ◌∙◌}
+use Rattle.std.proofs.Common.{arith, Bor, sym, ap, ◌∙◌}
 use Rattle.std.proofs.Math.Option.{Option, none, some}
 use Rattle.std.proofs.Math.ListN.{length}
 use Rattle.rules.specs.Limits.{most_bytes}
 use Rattle.rules.specs.Refusals.{statement}
-use Rattle.rules.specs.Lists.{Bytes, same, any, map_option}
+use Rattle.rules.specs.Lists.{Bytes, same, named, any, map_option}
 use Rattle.rules.specs.Lines.{bytes}
-use Rattle.rules.specs.Ast.{Join, cross, inner, left, right}
+use Rattle.rules.specs.Ast.{Join}
 use Rattle.rules.specs.Reader.{base_address, key, rest, line_here, apply, one_of, name, word, both, two_fields, optional_name, name_alias}
 use Rattle.rules.specs.ReadStatement.{FromHead, joins, predicates, from_heads}
 use Rattle.rules.specs.Area.{span, option_span}
 use Rattle.text.specs.Lines.{field, kept_fields, Fields}
-use Rattle.text.specs.Words.{find, words_of, push, keys, nth, named_by, nth-none}
+use Rattle.text.specs.Order.{same-swap}
+use Rattle.text.specs.Beside.{beside, beside-named}
+use Rattle.numbers.specs.Options.{option_of}
+use Rattle.std.specs.Option.{option_map}
 use Rattle.text.specs.Numbers.{is_name, name_in, name_out}
-use Rattle.text.specs.Reading.{field_of, key-is, one-of, rest-one, rest-two, rest-other}
+use Rattle.text.specs.Reading.{field_of, key-is, rest-one, rest-two, rest-other}
 use Rattle.text.specs.Records.{two_fields_lem, name-alias}
 use Rattle.text.specs.declared.Line.{Line}
 use Rattle.text.specs.Fields.{Inside, field-length}
@@ -96,74 +99,96 @@ module _ (t : Bytes) (a n b m : ℕ) (i : Inside t a n) (j : Inside t b m) where
   }
 
 -- JOINS
-pub join-words : keys joins ≡ words_of (bytes "cross inner left right ")
-unfolding joins keys words_of push bytes
-join-words = refl
+named-map : {A B : Type 0} (g : A → B) (w : Bytes) (ws : List (Bytes × A)) → named (map {B = Bytes × B} (λ x. (x.0, g x.1)) ws) w ≡ map_option g (named ws w)
+unfolding named map_option
+named-map g w [] = refl
+named-map {A} {B} g w (x ∷ ws) = go (same x.0 w) (named-map g w ws)
+  where
+    go : (b : Bool) → named (map (λ x. (x.0, g x.1)) ws) w ≡ map_option g (named ws w)
+        → ◌≡◌ {A = Option B} (elim b [ true ↦ some (g x.1) | false ↦ named (map (λ x. (x.0, g x.1)) ws) w ])
+        (map_option g (elim b [ true ↦ some x.1 | false ↦ named ws w ]))
+    go true h = refl
+    go false h = h
 
-pub predicate-words : keys predicates ≡ words_of (bytes "on bare ")
-unfolding predicates keys words_of push bytes
-predicate-words = refl
+-- a table of the rules with the same words, and values with the same numbers
+beside-numbers : {T A : Type 0} (f : T → ℕ) (g : A → ℕ) (w : Bytes) (es : List (Bor (List ℕ) × T)) (ws : List (Bytes × A))
+    → map {B = Bytes × ℕ} (λ x. (x.0.now, f x.1)) es ≡ map (λ x. (x.0, g x.1)) ws
+    → option_of (option_map f (beside es w)) ≡ map_option g (named ws w)
+beside-numbers f g w es ws e = beside-named f w es ∙ ap (λ x. named x w) e ∙ named-map g w ws
 
--- the k-th join, and whether a predicate follows by the k-th word
-record JoinAt (k : ℕ) : Type 0 where
+-- a join of a kind's number
+record JoinOf (k : Kind) (o : Option Join) : Type 0 where
   join : Join
-  is : nth joins k ≡ some join
-  number : join_number join ≡ k + 2
+  is : o ≡ some join
+  number : number_of k ≡ join_number join
 
-join-at : (k : ℕ) → k < 4 → JoinAt k
-unfolding joins nth join_number
-join-at zero h = record { join = cross; is = refl; number = refl }
-join-at (suc zero) h = record { join = inner; is = refl; number = refl }
-join-at (suc (suc zero)) h = record { join = left; is = refl; number = refl }
-join-at (suc (suc (suc zero))) h = record { join = right; is = refl; number = refl }
-join-at (suc (suc (suc (suc k)))) h = absurd (omega arith)
+join-of : (k : Kind) (o : Option Join) → some (number_of k) ≡ map_option join_number o → JoinOf k o
+unfolding map_option
+join-of k none e = absurd (cc e)
+join-of k (some j) e = record { join = j; is = refl; number = cc e }
 
-flag_at : (k : ℕ) → k < 2 → nth predicates k ≡ some (eqb k 0)
-unfolding predicates nth
-flag_at zero h = refl
-flag_at (suc zero) h = refl
-flag_at (suc (suc k)) h = absurd (omega arith)
+no-join : (o : Option Join) → none ≡ map_option join_number o → o ≡ none
+unfolding map_option
+no-join none e = refl
+no-join (some j) e = absurd (cc e)
 
 neither : {A B : Type 0} (a : Option A) → both {A = A} {B = B} a none ≡ none
 unfolding both
 neither none = refl
 neither (some a) = refl
 
-module _ (t : Bytes) (a n b m j : ℕ) (words : Bytes) (w : keys joins ≡ words_of words) (ej : j ≡ find (words_of words) (take n (drop a t))) where
-  joins-is : word joins (field most_bytes t a n) ≡ nth joins j
+module _ (t : Bytes) (a n b m : ℕ) (es : List (Bor (List ℕ) × Kind))
+    (e : map {B = Bytes × ℕ} (λ x. (x.0.now, number_of x.1)) es ≡ map (λ x. (x.0, join_number x.1)) joins) {r : std.Option Kind}
+    (h : r ≡ beside es (take n (drop a t))) where
+  joins-is : option_of (option_map number_of r) ≡ map_option join_number (word joins (field most_bytes t a n))
   unfolding word field
-  joins-is = named_by joins words _ j w ej
+  joins-is = rw h (beside-numbers number_of join_number (take n (drop a t)) es joins e)
 
-  pub join-none : 4 ≤ j → join_fields (field most_bytes t a n ∷ field most_bytes t b m ∷ []) ≡ none
+  pub join-none : r ≡ None → join_fields (field most_bytes t a n ∷ field most_bytes t b m ∷ []) ≡ none
   unfolding join_fields map_option two_fields both
-  join-none h = rw (joins-is, nth-none joins j (unfold joins in h))
+  join-none z = rw (no-join _ (rw z at joins-is))
 
-  module _ (o : ℕ) (words' : Bytes) (w' : keys predicates ≡ words_of words') (eo : o ≡ find (words_of words') (take m (drop b t))) where
-    predicates-is : word predicates (field most_bytes t b m) ≡ nth predicates o
+  module _ (fs : List (Bor (List ℕ) × Bool)) (f : map (λ x. (x.0.now, x.1)) fs ≡ predicates) {o : std.Option Bool}
+      (g : o ≡ beside fs (take m (drop b t))) where
+    predicates-is : word predicates (field most_bytes t b m) ≡ option_of o
     unfolding word field
-    predicates-is = named_by predicates words' _ o w' eo
+    predicates-is = sym (rw g (whole (beside fs (take m (drop b t))) ∙ beside-named (λ x. x) (take m (drop b t)) fs
+        ∙ ap (λ x. named x (take m (drop b t))) f))
+      where
+        whole : (o : std.Option Bool) → option_of o ≡ option_of (option_map (λ x. x) o)
+        whole (Some x) = refl
+        whole None = refl
 
-    pub predicate-none : 2 ≤ o → join_fields (field most_bytes t a n ∷ field most_bytes t b m ∷ []) ≡ none
+    pub predicate-none : o ≡ None → join_fields (field most_bytes t a n ∷ field most_bytes t b m ∷ []) ≡ none
     unfolding join_fields map_option two_fields
-    predicate-none h = rw (predicates-is, nth-none predicates o (unfold predicates in h), neither (word joins (field most_bytes t a n)))
+    predicate-none z = rw (predicates-is, z, neither (word joins (field most_bytes t a n)))
 
-    pub join-some : (e : ℕ) (k : Kind) → j < 4 → o < 2 → number_of k ≡ j + 2
-        → IsFromRow t e (join_fields (field most_bytes t a n ∷ field most_bytes t b m ∷ [])) (Some (record { said = S.Join k (eqb o 0); next = e }))
+    pub join-some : (l : ℕ) (k : Kind) (on : Bool) → r ≡ Some k → o ≡ Some on
+        → IsFromRow t l (join_fields (field most_bytes t a n ∷ field most_bytes t b m ∷ [])) (Some (record { said = S.Join k on; next = l }))
     unfolding RowSays Says join_fields map_option two_fields both
-    join-some e k hj ho x =
-        let u = join-at j hj in
+    join-some l k on z y =
+        let u = join-of k _ (rw z at joins-is) in
         record {
-          says = rw (joins-is, u.is, predicates-is, flag_at o ho) (record {
-            is = (x ∙ sym u.number, refl);
+          says = rw (u.is, predicates-is, y) (record {
+            is = (u.number, refl);
             fits = λ c. unfold FromFits in tt;
             next = refl;
           });
         }
 
 -- RECORDS BY THEIR KEYWORD
-pub from-words : keys from_heads ≡ words_of (bytes "from join ")
-unfolding from_heads keys words_of push bytes
-from-words = refl
+module _ {A : Type 0} (k w : Bytes) (a : A) (ws : List (Bytes × A)) where
+  named-here : same k w ≡ true → named ((w, a) ∷ ws) k ≡ some a
+  unfolding named
+  named-here e = rw (named, same-swap w k, e)
+
+  named-behind : same k w ≡ false → named ((w, a) ∷ ws) k ≡ named ws k
+  unfolding named
+  named-behind e = rw (named, same-swap w k, e)
+
+named-neither : {A : Type 0} (k v w : Bytes) (a b : A) → same k v ≡ false → same k w ≡ false → named ((v, a) ∷ (w, b) ∷ []) k ≡ none
+unfolding named
+named-neither k v w a b e h = named-behind k v a ((w, b) ∷ []) e ∙ named-behind k w b [] h
 
 -- one of two words
 first-of : (x a b : Bytes) → same x a ≡ true → any (same x) (a ∷ b ∷ []) ≡ true
@@ -202,27 +227,33 @@ module _ (t : Bytes) (p l c n : ℕ) (r : Line) (f : Fields t p r) where
   unfolding table_fields map_option
   fields-other m o = rw (name-alias _ (without 1 (omega arith) m) (without 2 (omega arith) o))
 
-  module _ (k : ℕ) (words : Bytes) (e : keys from_heads ≡ words_of words) (h : k ≡ find (words_of words) (take (get_or r.lens 0 0) (drop (get_or r.starts 0 0) t))) where
-    from_is : one_of from_heads (line_here (here t p l c n)) ≡ apply (nth from_heads k) (rest (here t p l c n))
-    from_is = one-of statement t p l c n r f from_heads words k e h
+  abbrev first_word : Bytes
+  first_word = take (get_or r.lens 0 0) (drop (get_or r.starts 0 0) t)
 
-    pub at_from : k ≡ 0 → one_of from_heads (line_here (here t p l c n)) ≡ table_fields (rest (here t p l c n))
-    at_from z = from_is ∙ (unfold from_heads nth apply table_fields in rw z)
+  from_is : one_of from_heads (line_here (here t p l c n)) ≡ apply (named from_heads first_word) (rest (here t p l c n))
+  unfolding one_of key rest
+  from_is = ap (λ x. apply (named from_heads x) (rest (here t p l c n))) (key-is statement t p l c n r f)
 
-    at_join : k ≡ 1 → one_of from_heads (line_here (here t p l c n)) ≡ join_fields (rest (here t p l c n))
-    at_join z = from_is ∙ (unfold from_heads nth apply join_fields in rw z)
+  pub at_from : same first_word (bytes "from") ≡ true → one_of from_heads (line_here (here t p l c n)) ≡ table_fields (rest (here t p l c n))
+  unfolding from_heads apply table_fields
+  at_from z = from_is ∙ ap (λ o. apply o (rest (here t p l c n))) (named-here first_word _ _ _ z)
 
-    pub join-two : k ≡ 1 → r.count ≡ 3
+  module _ (z : same first_word (bytes "from") ≡ false) where
+    at_join : same first_word (bytes "join") ≡ true → one_of from_heads (line_here (here t p l c n)) ≡ join_fields (rest (here t p l c n))
+    unfolding from_heads apply join_fields
+    at_join o = from_is ∙ ap (λ x. apply x (rest (here t p l c n))) (named-behind first_word _ _ _ z ∙ named-here first_word _ _ _ o)
+
+    pub join-two : same first_word (bytes "join") ≡ true → r.count ≡ 3
         → one_of from_heads (line_here (here t p l c n)) ≡ join_fields (field most_bytes t (get_or r.starts 1 0) (get_or r.lens 1 0) ∷ field most_bytes t (get_or r.starts 2 0) (get_or r.lens 2 0) ∷ [])
-    join-two z m = at_join z ∙ ap join_fields (with_two m)
+    join-two o m = at_join o ∙ ap join_fields (with_two m)
 
-    pub join-not : k ≡ 1 → (r.count ≡ 3 → ⊥) → one_of from_heads (line_here (here t p l c n)) ≡ none
+    pub join-not : same first_word (bytes "join") ≡ true → (r.count ≡ 3 → ⊥) → one_of from_heads (line_here (here t p l c n)) ≡ none
     unfolding join_fields map_option
-    join-not z m = at_join z ∙ rw (two_fields_lem (word joins) (word predicates) _ (without 2 (omega arith) m))
+    join-not o m = at_join o ∙ rw (two_fields_lem (word joins) (word predicates) _ (without 2 (omega arith) m))
 
-    pub no-from : (k ≡ 0 → ⊥) → (k ≡ 1 → ⊥) → one_of from_heads (line_here (here t p l c n)) ≡ none
-    unfolding apply
-    no-from z o = from_is ∙ rw (nth-none from_heads k (unfold from_heads in (omega arith)))
+    pub no-from : same first_word (bytes "join") ≡ false → one_of from_heads (line_here (here t p l c n)) ≡ none
+    unfolding from_heads apply
+    no-from o = from_is ∙ ap (λ x. apply x (rest (here t p l c n))) (named-neither first_word _ _ _ _ z o)
 
   -- whether the record is meant to be one of these
   pub is-first : (a b : Bytes) → same (take (get_or r.lens 0 0) (drop (get_or r.starts 0 0) t)) a ≡ true → true ≡ any (same (key (here t p l c n))) (a ∷ b ∷ [])

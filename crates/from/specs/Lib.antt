@@ -1,5 +1,4 @@
 pub mod Numbers
-pub mod KindNumbers
 pub mod Layout
 pub mod Roots
 pub mod Access

@@ -28,9 +28,9 @@ use Rattle.from.specs.Lines.{record-moves, join-moves}
 use Rattle.from.specs.Rules.{Frame, first, rest_of, rest-begin, rest-no, rest-table, rest-join, here-wrong, here-limit, here-table, here-join}
 use Rattle.from.specs.Trees.{TreeReady}
 use Rattle.from.specs.Rows.{table-row}
-use Rattle.from.specs.Stack.{code_of, Holds, lefts, join-small, flag_small, holds-push}
+use Rattle.from.specs.Stack.{StandsFor, Holds, lefts, holds-push}
+use Rattle.from.specs.declared.Open.{Open}
 use Rattle.from.specs.Kinds.{IsTable, IsJoin, row-end, row-table, row-join, row-none}
-use Rattle.from.specs.Numbers.{number_of}
 use Rattle.from.specs.declared.record.FromRecord.{FromRecord}
 use Rattle.from.specs.declared.record.Said.TheVariants as S
 use Rattle.from.specs.declared.row.Kind.{Kind}
@@ -43,7 +43,7 @@ held false a fs = fs
 
 -- Behind k tables, n rows and d open joins a side is to be read, or one was read; the rest of the whole tree, read by the
 -- rules from here, is what they read from its start.
-pub record TreeLoop (t : Bytes) (p₀ l₀ c₀ k₀ n₀ : ℕ) (cells₀ rows₀ : List ℕ) (done : Bool) (p l c k n d : ℕ) (stack cells rows : List ℕ) : Type 0 where
+pub record TreeLoop (t : Bytes) (p₀ l₀ c₀ k₀ n₀ : ℕ) (cells₀ rows₀ : List ℕ) (done : Bool) (p l c k n d : ℕ) (stack : List Open) (cells rows : List ℕ) : Type 0 where
   pub frames : List Frame
   pub fuel : ℕ
   pub tree : From
@@ -66,7 +66,7 @@ pub record TreeLoop (t : Bytes) (p₀ l₀ c₀ k₀ n₀ : ℕ) (cells₀ rows�
   pub cells-room : length cells ≡ table_size
   pub rows-room : length rows ≡ 248
 
-pub loop-begin : {t : Bytes} {p l c k n : ℕ} {cells rows : List ℕ} (stack : List ℕ) → TreeReady t p l c k n cells rows → length t < p + 13 * length stack + 13 → TreeLoop t p l c k n cells rows false p l c k n 0 stack cells rows
+pub loop-begin : {t : Bytes} {p l c k n : ℕ} {cells rows : List ℕ} (stack : List Open) → TreeReady t p l c k n cells rows → length t < p + 13 * length stack + 13 → TreeLoop t p l c k n cells rows false p l c k n 0 stack cells rows
 unfolding held Holds lefts turns
 loop-begin {t} {p} {l} {c} {k} {n} {cells} {rows} stack w h = record {
   frames = [];
@@ -92,7 +92,7 @@ loop-begin {t} {p} {l} {c} {k} {n} {cells} {rows} stack w h = record {
 }
 
 -- the loop by the value of its flag
-pub loop-as : {t : Bytes} {p₀ l₀ c₀ k₀ n₀ : ℕ} {cells₀ rows₀ : List ℕ} {done : Bool} {p l c k n d : ℕ} {stack cells rows : List ℕ} (x : Bool) → done ≡ x
+pub loop-as : {t : Bytes} {p₀ l₀ c₀ k₀ n₀ : ℕ} {cells₀ rows₀ : List ℕ} {done : Bool} {p l c k n d : ℕ} {stack : List Open} {cells rows : List ℕ} (x : Bool) → done ≡ x
     → TreeLoop t p₀ l₀ c₀ k₀ n₀ cells₀ rows₀ done p l c k n d stack cells rows → TreeLoop t p₀ l₀ c₀ k₀ n₀ cells₀ rows₀ x p l c k n d stack cells rows
 loop-as x e h = rw (sym e) h
 
@@ -106,7 +106,7 @@ next-position t p l c e w z m = record {
 }
 
 -- A SIDE IS TO BE READ
-module _ {t : Bytes} {p₀ l₀ c₀ k₀ n₀ : ℕ} {cells₀ rows₀ : List ℕ} {p l c k n d : ℕ} {stack cells rows : List ℕ} (h : TreeLoop t p₀ l₀ c₀ k₀ n₀ cells₀ rows₀ false p l c k n d stack cells rows) where
+module _ {t : Bytes} {p₀ l₀ c₀ k₀ n₀ : ℕ} {cells₀ rows₀ : List ℕ} {p l c k n d : ℕ} {stack : List Open} {cells rows : List ℕ} (h : TreeLoop t p₀ l₀ c₀ k₀ n₀ cells₀ rows₀ false p l c k n d stack cells rows) where
   fueled : h.fuel ≡ suc (h.fuel - 1)
   fueled = omega (arith, h.enough, h.position.within)
 
@@ -181,20 +181,14 @@ module _ {t : Bytes} {p₀ l₀ c₀ k₀ n₀ : ℕ} {cells₀ rows₀ : List �
       pub push-moves : p + 13 ≤ r.next
       push-moves = omega (arith, join-moves t p l c k _ _ joins.is, (row-end _ said))
 
-      pub push-room : d < 5041
-      push-room = omega (arith, push-moves, next-within, h.position.short, h.deep)
-
       pub push-within : d < length stack
       push-within = omega (arith, push-moves, next-within, h.stack-room, h.deep)
-
-      pub push-small : (number_of kind ≤ 5) × (flag on ≤ 1)
-      push-small = (omega (arith, joins.kind, (join-small joins.join).1), flag_small on)
 
       join-next : next (here t p l c k) ≡ here t r.next (l + 1) c k
       join-next = place-next statement t p l c k ∙ rw (row-end _ said)
 
-      pub loop-push : TreeLoop t p₀ l₀ c₀ k₀ n₀ cells₀ rows₀ false r.next (l + 1) c k n (d + 1) (set stack d (l * 32 + number_of kind * 4 + flag on * 2)) cells rows
-      unfolding held lefts code_of place
+      pub loop-push : TreeLoop t p₀ l₀ c₀ k₀ n₀ cells₀ rows₀ false r.next (l + 1) c k n (d + 1) (set stack d (record { line = l; kind = kind; on = on; left_read = false })) cells rows
+      unfolding held lefts StandsFor place
       loop-push =
           let o = on in
           let j = joins.join in
@@ -205,7 +199,7 @@ module _ {t : Bytes} {p₀ l₀ c₀ k₀ n₀ : ℕ} {cells₀ rows₀ : List �
             is = ap (rest_of false (h.fuel - 1) (first l j o ∷ h.frames) h.tree) (sym join-next)
                 ∙ sym (rest-join (here t p l c k) (h.fuel - 1) h.frames h.tree j o _ (here-join (here t p l c k) j o joins.is)) ∙ rest-is;
             opened = omega (arith, h.opened);
-            holds = holds-push stack d _ (first l j o) h.frames h.opened push-within (omega (arith, joins.kind)) h.holds;
+            holds = holds-push stack d _ (first l j o) h.frames h.opened push-within (record { line = refl; kind = joins.kind; on = refl; left = refl }) h.holds;
             enough = omega (arith, h.enough, push-moves);
             deep = omega (arith, h.deep, push-moves);
             position = next-position t p l c r.next h.position (row-end _ said) (omega (arith, push-moves));
@@ -217,7 +211,7 @@ module _ {t : Bytes} {p₀ l₀ c₀ k₀ n₀ : ℕ} {cells₀ rows₀ : List �
             count = h.count;
             stand = h.stand;
             cells-kept = h.cells-kept;
-            stack-room = omega (arith, length-set stack d (l * 32 + number_of kind * 4 + flag on * 2), h.stack-room);
+            stack-room = omega (arith, length-set stack d (record { line = l; kind = kind; on = on; left_read = false }), h.stack-room);
             cells-room = h.cells-room;
             rows-room = h.rows-room;
           }

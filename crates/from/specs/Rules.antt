@@ -173,6 +173,11 @@ module _ (m : Read Expr) (p : Place) where
           let z : s ≡ r = cc in
           v ∙ ap refused z
 
+-- by the value of its flag
+pub optional-as : {A : Type 0} (m : Read A) (p : Place) {x : Answer (Option A × Place)} {a b : Bool} → a ≡ b → optional a m p ≡ x
+    → optional b m p ≡ x
+optional-as m p e h = rw e at h
+
 -- none where none follows
 pub without : {A : Type 0} (m : Read A) (p : Place) → optional false m p ≡ ok (none, p)
 unfolding optional give

@@ -26,7 +26,9 @@ use Rattle.rules.specs.Limits.{most_bytes}
 use Rattle.from.specs.Records.{alias_first, alias_second, IsFromRow}
 use Rattle.from.specs.Trees.{TreeTook, TreeReady, TreeRead}
 use Rattle.from.specs.Loop.{loop-begin, loop-wrong, loop-limit, loop-table}
+use Rattle.from.specs.Stack.{unused}
 use Rattle.from.specs.Closed.{loop-end}
+use Rattle.from.specs.declared.Open.{Open}
 use Rattle.from.specs.declared.record.FromRecord.{FromRecord}
 use Rattle.from.specs.declared.record.Said.TheVariants as S
 use Rattle.text.specs.declared.places.Place as places
@@ -36,12 +38,12 @@ use Rattle.numbers.specs.declared.refusals.Refusal as code
 use Rattle.numbers.specs.Reasons.{reason_of}
 
 -- A TREE THAT IS ONE TABLE
-unfoldable no_joins : List ℕ
-no_joins = replicate 5041 0
+unfoldable no_joins : List Open
+no_joins = replicate 5041 unused
 
 no_joins_lem : (t : Bytes) (p : ℕ) → length t ≤ most_bytes → length t < p + 13 * length no_joins + 13
 unfolding no_joins
-no_joins_lem t p h = omega (arith, length-replicate {A = ℕ} 5041 0)
+no_joins_lem t p h = omega (arith, length-replicate {A = Open} 5041 unused)
 
 pub tree-wrong : {t : Bytes} {p l c k n : ℕ} {cells rows : List ℕ} → TreeReady t p l c k n cells rows
     → ((l c k : ℕ) → IsFromRow t (line_end t p) (one_of from_heads (line_here (here t p l c k))) None)

@@ -1,5 +1,5 @@
 -- One tree of FROM: the contracts of reading it and of closing a join.
-use Rattle.std.specs.Prelude.{ℕ, ◌+◌, ◌*◌, ◌/◌, ◌%◌, ◌≤◌, ◌<◌, ◌≡◌, List, [], ◌∷◌, length, Result, Ok, Err}
+use Rattle.std.specs.Prelude.{ℕ, ◌+◌, ◌*◌, ◌≤◌, ◌<◌, ◌≡◌, List, [], ◌∷◌, length, Result, Ok, Err}
 use Rattle.std.proofs.Math.Option.{Option}
 use Rattle.std.proofs.lemmas.List.Edits.{sets}
 use Rattle.rules.specs.Limits.{most_from_tables}
@@ -16,23 +16,13 @@ use Rattle.read_expression.specs.Reading.{here, Position}
 use Rattle.from.specs.Layout.{predicate_at, trees_before}
 use Rattle.from.specs.Rows.{sides_before}
 use Rattle.from.specs.Numbers.{number_of}
-use Rattle.from.specs.Access.{kind_of}
 use Rattle.from.specs.declared.Froms.{Froms}
-
--- the numbers of an open join: its line, its kind, whether a predicate follows, and whether its left side is read
-unfoldable pub line_in : ℕ → ℕ
-line_in v = v / 32
-
-unfoldable pub kind_in : ℕ → ℕ
-kind_in v = v / 4 % 8
-
-unfoldable pub on_in : ℕ → ℕ
-on_in v = v / 2 % 2
+use Rattle.from.specs.declared.Open.{Open}
 
 -- a join closed in FROM row n: its row is written, and stands for its predicate e, whatever is written behind that later
-pub record Closed (t : Bytes) (c n v : ℕ) (cells cells' rows rows' : List ℕ) (c' : ℕ) (e : Option Expr) : Type 0 where
+pub record Closed (t : Bytes) (c n : ℕ) (v : Open) (cells cells' rows rows' : List ℕ) (c' : ℕ) (e : Option Expr) : Type 0 where
   pub number : ℕ
-  pub written : rows' ≡ sets rows (row_size * n) (number_of (kind_of (kind_in v)) ∷ line_in v ∷ number ∷ 0 ∷ 0 ∷ 0 ∷ 0 ∷ sides_before rows n ∷ [])
+  pub written : rows' ≡ sets rows (row_size * n) (number_of v.kind ∷ v.line ∷ number ∷ 0 ∷ 0 ∷ 0 ∷ 0 ∷ sides_before rows n ∷ [])
   pub stands : (cells'' : List ℕ) → Kept 0 (row_size * c') cells' cells'' → (b : Bytes) → predicate_at b t cells'' number ≡ e
   pub cells-kept : Kept 0 (row_size * c) cells cells'
 

@@ -5,22 +5,22 @@ mod record;
 pub mod roots;
 pub mod row;
 
-ghost use Rattle.std.specs.Prelude.{◌≡◌, true, false, List, [], ◌∷◌, ℕ, ◌+◌, ◌*◌, ◌≤◌, ◌<◌, length};
+ghost use Rattle.std.specs.Prelude.{◌≡◌, true, false, List, [], ◌∷◌, ℕ, ◌+◌, ◌*◌, ◌^◌, ◌≤◌, ◌<◌, length};
 ghost use Rattle.std.proofs.lemmas.List.Edits.{sets};
 ghost use Rattle.rules.specs.Reader.{optional};
 ghost use Rattle.rules.specs.ReadExpression.{expression};
-ghost use Rattle.numbers.specs.Values.{is_one};
 ghost use Rattle.ast.specs.Table.{row_size, table_size};
 ghost use Rattle.read_expression.specs.Reading.{Position, Given};
 ghost use Rattle.from.specs.Numbers.{number_of};
 ghost use Rattle.from.specs.Records.{alias_first, alias_second};
 ghost use Rattle.from.specs.Terms.{FromsRead};
-ghost use Rattle.from.specs.Trees.{on_in, Closed, TreeReady, TreeRead};
+ghost use Rattle.from.specs.Access.{number_of_row};
+ghost use Rattle.from.specs.Trees.{Closed, TreeReady, TreeRead};
 ghost use Rattle.from.specs.Turns.{TreeBegun, RowsBegun, TurnFrom};
 
 use self::record::{Said, from_record, from_stands};
 use self::roots::sides;
-use self::row::{Kind, kind_by};
+use self::row::Kind;
 use ast::rows::ROW_SIZE;
 use numbers::put_four;
 use numbers::refusals::{Reason, Refusal};
@@ -46,12 +46,41 @@ pub struct Froms {
     pub rows: u32,
 }
 
+// A join that is open: its line, its kind, whether a predicate follows, and whether its left side is read.
+#[derive(Clone, Copy, Debug, PartialEq, Eq)]
+struct Open {
+    line: u32,
+    kind: Kind,
+    on: bool,
+    left_read: bool,
+}
+
+// What the stack holds behind the joins that are open; it means nothing.
+const UNUSED: Open = Open {
+    line: 0,
+    kind: Kind::Table,
+    on: false,
+    left_read: false,
+};
+
 // The same inside a tree: how many joins are open, and whether a side was read.
 #[derive(Clone, Copy, Debug, PartialEq, Eq)]
 struct Stand {
     froms: Froms,
     open: usize,
     done: bool,
+}
+
+// Behind a record, at the start of the next line.
+fn behind(at: Cursor, next: usize) -> Cursor
+    requires { at.line + 1 < 2 ^ 32 }
+    ensures { result ≡ record { position = next; line = at.line + 1; rows = at.rows } }
+{
+    Cursor {
+        position: next,
+        line: at.line + 1,
+        ..at
+    }
 }
 
 // A table in row n.
@@ -66,13 +95,19 @@ fn put_table(rows: &mut [u32], n: u32, line: u32, name: Place, alias: Option<Pla
     put_four(rows, i + 4, name.length, address, length, 0);
 }
 
-// A join in row n: 0 for the predicate of one that has none, else its row and 1 more; and how many rows its sides have.
-fn put_join(rows: &mut [u32], n: u32, kind: Kind, line: u32, predicate: u32, sides: u32)
-    requires { row_size * n + row_size ≤ length rows.old }
-    ensures { rows.new ≡ sets rows.old (row_size * n) (number_of kind ∷ line ∷ predicate ∷ 0 ∷ 0 ∷ 0 ∷ 0 ∷ sides ∷ []) }
+// A join in row n: its line and kind, its predicate's row if it has one, and how many rows its sides have.
+fn put_join(rows: &mut [u32], n: u32, join: Open, predicate: Option<u32>, sides: u32)
+    requires fact_1 { row_size * n + row_size ≤ length rows.old }
+    requires fact_2 { number_of_row predicate < 2 ^ 32 }
+    ensures { rows.new ≡ sets rows.old (row_size * n) (number_of join.kind ∷ join.line ∷ number_of_row predicate ∷ 0 ∷ 0 ∷ 0 ∷ 0 ∷
+        sides ∷ []) }
 {
     let i = ROW_SIZE * n as usize;
-    put_four(rows, i, u32::from(kind), line, predicate, 0);
+    let number = match predicate {
+        None => 0,
+        Some(row) => row + 1,
+    };
+    put_four(rows, i, u32::from(join.kind), join.line, number, 0);
     put_four(rows, i + 4, 0, 0, 0, sides);
 }
 
@@ -81,33 +116,30 @@ fn close_join(
     t: &[u8],
     at: Cursor,
     n: u32,
-    v: u32,
+    join: Open,
     cells: &mut [u32],
     rows: &mut [u32],
 ) -> Result<Cursor, Refusal>
     requires fact_1 { Position t.now at.position at.line at.rows }
     requires fact_2 { (n ≤ 30) × (length cells.old ≡ table_size) × (length rows.old ≡ 248) }
-    ensures { (k : ℕ) → Given (optional (is_one (on_in v)) expression)
-        (Closed t.now at.rows n v cells.old cells.new rows.old rows.new) t.now at.position at.line at.rows k result }
+    ensures { (k : ℕ) → Given (optional join.on expression)
+        (Closed t.now at.rows n join cells.old cells.new rows.old rows.new) t.now at.position at.line at.rows k result }
 {
-    let line = v / 32;
-    let kind = kind_by(v / 4 % 8);
-    let on = v / 2 % 2;
     let s = sides(rows, n);
-    if on != 1 {
-        put_join(rows, n, kind, line, 0, s);
-        return Ok(at);
+    if join.on {
+        let behind = read_expressions(t, at, 1, cells)?;
+        put_join(rows, n, join, Some(at.rows), s);
+        return Ok(behind);
     }
-    let behind = read_expressions(t, at, 1, cells)?;
-    put_join(rows, n, kind, line, at.rows + 1, s);
-    Ok(behind)
+    put_join(rows, n, join, None, s);
+    Ok(at)
 }
 
 // The record of a side that is to be read: a join more is open, or a table is read.
 fn next_side(
     t: &[u8],
     s: Stand,
-    stack: &mut [u32],
+    stack: &mut [Open],
     rows: &mut [u32],
 ) -> Result<Option<Stand>, Refusal>
     requires fact_1 { RowsBegun t.now s stack.old rows.old }
@@ -118,37 +150,36 @@ fn next_side(
     let Some(h) = from_record(t, at.position) else {
         return Err(Reason::WrongRecord.at(at.line));
     };
-    let next = Cursor {
-        position: h.next,
-        line: at.line + 1,
-        rows: at.rows,
+    let froms = Froms {
+        at: behind(at, h.next),
+        ..s.froms
     };
-    let d = s.open;
     match h.said {
         Said::Table(name, alias) => {
-            let froms = s.froms;
             if MOST_TABLES <= froms.tables {
                 return Err(Reason::LimitPassed.at(at.line));
             }
             put_table(rows, froms.rows, at.line, name, alias);
             Ok(Some(Stand {
                 froms: Froms {
-                    at: next,
                     tables: froms.tables + 1,
                     rows: froms.rows + 1,
+                    ..froms
                 },
-                open: d,
                 done: true,
+                ..s
             }))
         }
         Said::Join(kind, on) => {
-            stack[d] = at.line * 32 + u32::from(kind) * 4 + u32::from(on) * 2;
+            stack[s.open] = Open {
+                line: at.line,
+                kind,
+                on,
+                left_read: false,
+            };
             Ok(Some(Stand {
-                froms: Froms {
-                    at: next,
-                    ..s.froms
-                },
-                open: d + 1,
+                froms,
+                open: s.open + 1,
                 done: false,
             }))
         }
@@ -159,7 +190,7 @@ fn next_side(
 fn end_side(
     t: &[u8],
     s: Stand,
-    stack: &mut [u32],
+    stack: &mut [Open],
     cells: &mut [u32],
     rows: &mut [u32],
 ) -> Result<Option<Stand>, Refusal>
@@ -171,28 +202,28 @@ fn end_side(
         return Ok(None);
     }
     let d = s.open - 1;
-    let v = stack[d];
-    if v % 2 == 0 {
-        stack[d] = v + 1;
-        return Ok(Some(Stand { done: false, ..s }));
+    let join = stack[d];
+    if join.left_read {
+        let at = close_join(t, s.froms.at, s.froms.rows, join, cells, rows)?;
+        return Ok(Some(Stand {
+            froms: Froms {
+                at,
+                tables: s.froms.tables,
+                rows: s.froms.rows + 1,
+            },
+            open: d,
+            done: true,
+        }));
     }
-    let at = close_join(t, s.froms.at, s.froms.rows, v, cells, rows)?;
-    Ok(Some(Stand {
-        froms: Froms {
-            at,
-            tables: s.froms.tables,
-            rows: s.froms.rows + 1,
-        },
-        open: d,
-        done: true,
-    }))
+    stack[d].left_read = true;
+    Ok(Some(Stand { done: false, ..s }))
 }
 
 // One record, or the end of a side; none where the tree has ended.
 fn take_turn(
     t: &[u8],
     s: Stand,
-    stack: &mut [u32],
+    stack: &mut [Open],
     cells: &mut [u32],
     rows: &mut [u32],
 ) -> Result<Option<Stand>, Refusal>
@@ -206,12 +237,11 @@ fn take_turn(
     next_side(t, s, stack, rows)
 }
 
-// The tree that stands here, by a stack of the joins that are open, the innermost last: line, kind, whether a predicate follows, and whether the
-// left side is read.
+// The tree that stands here, by a stack of the joins that are open, the innermost last.
 fn read_joins(
     t: &[u8],
     froms: Froms,
-    stack: &mut [u32],
+    stack: &mut [Open],
     cells: &mut [u32],
     rows: &mut [u32],
 ) -> Result<Froms, Refusal>
@@ -244,10 +274,10 @@ fn read_joined(
         rows.old rows.new result }
 {
     if t.len() - froms.at.position < SHORT_REST {
-        let mut few = [0u32; FEW_OPEN];
+        let mut few = [UNUSED; FEW_OPEN];
         return read_joins(t, froms, &mut few, cells, rows);
     }
-    let mut stack = [0u32; MOST_OPEN];
+    let mut stack = [UNUSED; MOST_OPEN];
     read_joins(t, froms, &mut stack, cells, rows)
 }
 
@@ -269,11 +299,7 @@ fn read_tree(t: &[u8], froms: Froms, cells: &mut [u32], rows: &mut [u32]) -> Res
     }
     put_table(rows, froms.rows, at.line, name, alias);
     Ok(Froms {
-        at: Cursor {
-            position: h.next,
-            line: at.line + 1,
-            rows: at.rows,
-        },
+        at: behind(at, h.next),
         tables: froms.tables + 1,
         rows: froms.rows + 1,
     })

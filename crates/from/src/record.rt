@@ -1,5 +1,5 @@
 // What one record of FROM says.
-ghost use Rattle.std.specs.Prelude.{◌≡◌, true, false, [], ◌∷◌, ℕ, ◌+◌, ◌≤◌, length, MatchOption};
+ghost use Rattle.std.specs.Prelude.{◌≡◌, [], ◌∷◌, ℕ, ◌≤◌, length};
 ghost use Rattle.rules.specs.Limits.{most_bytes};
 ghost use Rattle.rules.specs.Lists.{same, any};
 ghost use Rattle.rules.specs.Lines.{bytes};
@@ -7,14 +7,13 @@ ghost use Rattle.rules.specs.Reader.{key, line_here, one_of, rest};
 ghost use Rattle.rules.specs.ReadStatement.{from_heads};
 ghost use Rattle.text.specs.Lines.{field, line_end};
 ghost use Rattle.text.specs.Lines.{Fields};
-ghost use Rattle.text.specs.Numbers.{is_name};
 ghost use Rattle.read_expression.specs.Reading.{here};
 ghost use Rattle.from.specs.declared.row.Kind.TheVariants.{Table};
 ghost use Rattle.from.specs.Records.{table_fields, join_fields, IsFromRow};
 
 use crate::row::Kind;
-use text::Line;
 use text::places::{Place, name_at};
+use text::{Line, words};
 
 // What a FROM record says: a table's name and its alias, or a join's kind and whether a predicate follows it.
 #[derive(Clone, Copy, Debug, PartialEq, Eq)]
@@ -59,19 +58,17 @@ fn table_record(t: &[u8], p: usize, f: Line) -> Option<FromRecord>
 fn join_record(t: &[u8], a: usize, n: usize, b: usize, m: usize, e: usize) -> Option<FromRecord>
     ensures { IsFromRow t.now e (join_fields (field most_bytes t.now a n ∷ field most_bytes t.now b m ∷ [])) result }
 {
-    let kind = match text::which(b"cross inner left right ", t, a, n) {
-        0 => Kind::Cross,
-        1 => Kind::Inner,
-        2 => Kind::Left,
-        3 => Kind::Right,
-        _ => return None,
-    };
-    let o = text::which(b"on bare ", t, b, m);
-    if 2 <= o {
-        return None;
-    }
+    let kinds: [(&[u8], Kind); 4] = [
+        (b"cross", Kind::Cross),
+        (b"inner", Kind::Inner),
+        (b"left", Kind::Left),
+        (b"right", Kind::Right),
+    ];
+    let predicates: [(&[u8], bool); 2] = [(b"on", true), (b"bare", false)];
+    let kind = words::beside(&kinds, text::part(t, a, n))?;
+    let on = words::beside(&predicates, text::part(t, b, m))?;
     Some(FromRecord {
-        said: Said::Join(kind, o == 0),
+        said: Said::Join(kind, on),
         next: e,
     })
 }
@@ -82,15 +79,15 @@ pub fn from_record(t: &[u8], p: usize) -> Option<FromRecord>
     ensures { (l c k : ℕ) → IsFromRow t.now (line_end t.now p) (one_of from_heads (line_here (here t.now p l c k))) result }
 {
     let f = text::fields(t, p);
-    let n = f.count;
-    let k = text::which(b"from join ", t, f.starts[0], f.lens[0]);
-    if k == 0 {
+    let a = f.starts[0];
+    let n = f.lens[0];
+    if text::holds(t, a, n, b"from") {
         return table_record(t, p, f);
     }
-    if k != 1 {
+    if !text::holds(t, a, n, b"join") {
         return None;
     }
-    if n != 3 {
+    if f.count != 3 {
         return None;
     }
     join_record(t, f.starts[1], f.lens[1], f.starts[2], f.lens[2], f.next)

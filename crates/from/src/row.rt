@@ -27,7 +27,7 @@ impl From<Kind> for u32 {
 }
 
 // The kind of a number; a right join where it is no other's, which From would not say.
-pub(crate) fn kind_by(k: u32) -> Kind
+fn kind_by(k: u32) -> Kind
     ensures { result ≡ access.kind_of k }
 {
     match k {

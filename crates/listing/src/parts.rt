@@ -93,13 +93,13 @@ impl<'a> Writer<'a> {
     }
 
     // A source column's target, or that it is dropped.
-    fn column_target(&mut self, x: u32)
-        ensures { Fields self.old self.new (target_fields 0 (x ∷ [])) }
+    fn column_target(&mut self, target: u32)
+        ensures { Fields self.old self.new (target_fields 0 (target ∷ [])) }
     {
-        if x == 0 {
+        if target == 0 {
             return self.field(b"-");
         }
-        self.number(x - 1);
+        self.number(target - 1);
     }
 
     pub fn targets(&mut self, s: &[u32])

@@ -17,7 +17,7 @@ pub fn in_plan(texts: &Texts, literal: Literal) -> Literal
             ..literal
         },
         LiteralKind::Bool => Literal {
-            first: (literal.first == 1) as u32,
+            first: u32::from(literal.first == 1),
             second: 0,
             ..literal
         },

@@ -5,12 +5,11 @@ ghost use Rattle.rules.specs.Refusals.{Text};
 ghost use Rattle.rules.specs.Reader.{base_address, line_here, one_of, literals};
 ghost use Rattle.text.specs.Lines.{field, Fields};
 ghost use Rattle.text.specs.Reading.{place};
-ghost use Rattle.text.specs.Fields.{Inside};
 ghost use Rattle.literal.specs.Records.{IsLiteral, literal_by};
 
 use numbers::halves::{high, low};
 use numbers::literals::{Literal, LiteralKind};
-use text::Line;
+use text::{Line, words};
 
 // 64 bits in two halves, the low one first.
 fn halves(kind: LiteralKind, bits: u64) -> Literal
@@ -28,31 +27,12 @@ fn flag(t: &[u8], a: usize, n: usize) -> Option<Literal>
     ensures { (base : ℕ) → IsLiteral base t.now (literal_by 1 (field base t.now a n)) result }
 {
     let table: [(&[u8], bool); 2] = [(b"t", true), (b"f", false)];
-    let set = text::words::beside(&table, text::part(t, a, n))?;
+    let set = words::beside(&table, text::part(t, a, n))?;
     Some(Literal {
         kind: LiteralKind::Bool,
-        first: set as u32,
+        first: u32::from(set),
         second: 0,
     })
-}
-
-// A literal by its keyword's number in `null bool int float text`, from 1 on, and its field.
-fn literal_by(t: &[u8], base: u32, k: usize, a: usize, n: usize) -> Option<Literal>
-    requires fact_1 { Inside t.now a n }
-    requires fact_2 { (1 ≤ k) × (base ≤ most_bytes) }
-    ensures { IsLiteral base t.now (literal_by k (field base t.now a n)) result }
-{
-    match k {
-        1 => flag(t, a, n),
-        2 => Some(halves(LiteralKind::Int, crate::int(t, a, n)?)),
-        3 => Some(halves(LiteralKind::Float, crate::float(t, a, n)?)),
-        4 => Some(Literal {
-            kind: LiteralKind::Text,
-            first: base + a as u32,
-            second: n as u32,
-        }),
-        _ => None,
-    }
 }
 
 // The literal record at a position, by its fields, of the text whose bytes have the addresses from `base` on.
@@ -62,20 +42,31 @@ pub fn literal_at(t: &[u8], base: u32, p: usize, f: Line) -> Option<Literal>
     ensures { (k : Text) (l c n : ℕ) → base_address k ≡ base → IsLiteral base t.now (one_of literals (line_here
         (place k t.now p l c n))) result }
 {
-    let n = f.count;
-    let k = text::words::literal(t, f.starts[0], f.lens[0]);
-    if k == 0 {
-        if n != 1 {
-            return None;
-        }
-        return Some(Literal {
-            kind: LiteralKind::Null,
-            first: 0,
-            second: 0,
-        });
+    let word = text::packed(t, f.starts[0], f.lens[0]);
+    if word == words::NULL {
+        return match f.count {
+            1 => Some(Literal {
+                kind: LiteralKind::Null,
+                first: 0,
+                second: 0,
+            }),
+            _ => None,
+        };
     }
-    if n != 2 {
+    if f.count != 2 {
         return None;
     }
-    literal_by(t, base, k, f.starts[1], f.lens[1])
+    let a = f.starts[1];
+    let n = f.lens[1];
+    match word {
+        words::BOOL => flag(t, a, n),
+        words::INT => Some(halves(LiteralKind::Int, crate::int(t, a, n)?)),
+        words::FLOAT => Some(halves(LiteralKind::Float, crate::float(t, a, n)?)),
+        words::TEXT => Some(Literal {
+            kind: LiteralKind::Text,
+            first: base + a as u32,
+            second: n as u32,
+        }),
+        _ => None,
+    }
 }

@@ -177,34 +177,24 @@ pub fn head(t: &[u8], p: usize, f: Line) -> Option<Row>
     requires fact_2 { Fields t.now p f }
     ensures { (l c k : ℕ) → RowOf t.now (one_of heads (line_here (place statement t.now p l c k))) result }
 {
-    let n = f.count;
-    let k = text::words::head(t, f.starts[0], f.lens[0]);
-    if k == 0 {
-        if n != 2 {
-            return None;
-        }
-        return operator(t, f.starts[1], f.lens[1]);
+    match text::packed(t, f.starts[0], f.lens[0]) {
+        text::words::OP => match f.count {
+            2 => operator(t, f.starts[1], f.lens[1]),
+            _ => None,
+        },
+        text::words::COL => match f.count {
+            2 => column(t, f.starts[1], f.lens[1]),
+            3 => qualified(t, f.starts[1], f.lens[1], f.starts[2], f.lens[2]),
+            _ => None,
+        },
+        text::words::FN => match f.count {
+            3 => call(t, f.starts[1], f.lens[1], f.starts[2], f.lens[2]),
+            _ => None,
+        },
+        text::words::STAR => match f.count {
+            1 => Some(plain_row(Kind::Star, 0, 0)),
+            _ => None,
+        },
+        _ => literal_row(literal_at(t, MOST_BYTES, p, f)),
     }
-    if k == 1 {
-        if n == 2 {
-            return column(t, f.starts[1], f.lens[1]);
-        }
-        if n != 3 {
-            return None;
-        }
-        return qualified(t, f.starts[1], f.lens[1], f.starts[2], f.lens[2]);
-    }
-    if k == 2 {
-        if n != 3 {
-            return None;
-        }
-        return call(t, f.starts[1], f.lens[1], f.starts[2], f.lens[2]);
-    }
-    if k == 3 {
-        if n != 1 {
-            return None;
-        }
-        return Some(plain_row(Kind::Star, 0, 0));
-    }
-    literal_row(literal_at(t, MOST_BYTES, p, f))
 }

@@ -1,10 +1,10 @@
 -- The column's record, field by field.
-use Rattle.std.specs.Prelude.{ℕ, zero, suc, ◌+◌, ◌≤◌, ◌<◌, ◌≡◌, refl, Bool, true, false, List, [], ◌∷◌, eqb, length, get_or, take, drop, Ok, Err, Some, None}
+use Rattle.std.specs.Prelude.{ℕ, ◌≡◌, refl, Bool, true, false, List, [], ◌∷◌, length, get_or, take, drop, Ok, Err, Some, None}
 use Rattle.std.proofs.Common.{arith, ◌∙◌}
 use Rattle.std.proofs.Math.Path.{sym, ap}
 use Rattle.std.proofs.Math.Option.{Option, none, some}
 use Rattle.rules.specs.Refusals.{catalog}
-use Rattle.rules.specs.Lists.{Bytes, same}
+use Rattle.rules.specs.Lists.{Bytes, same, named}
 use Rattle.rules.specs.Lines.{Word, bytes}
 use Rattle.rules.specs.Schema.{Datatype}
 use Rattle.rules.specs.Reader.{rest, name, word}
@@ -12,12 +12,13 @@ use Rattle.rules.specs.ReadColumn.{column_fields, datatypes, nullables, ◌>>=�
 use Rattle.rules.specs.Places.{word_at}
 use Rattle.text.specs.declared.Line.{Line}
 use Rattle.text.specs.Lines.{Fields, field}
-use Rattle.text.specs.Words.{find, words_of, push, keys, nth, named_by, nth-none}
+use Rattle.text.specs.Words.{words_of, push, keys, nth, named_by}
+use Rattle.text.specs.Packed.{Packed, find_number, packed-word}
+use Rattle.text.specs.Tables.{datatype-table, nullable-table}
 use Rattle.text.specs.Numbers.{is_name}
 use Rattle.text.specs.Reading.{field_of, at-is, rest-three, rest-other, name-yes, name-no}
-use Rattle.numbers.specs.Codes.{coded}
-use Rattle.numbers.specs.Values.{type_at}
-use Rattle.numbers.specs.Datatypes.{datatype_at, datatype-type}
+use Rattle.numbers.specs.Datatypes.{type_of}
+use Rattle.numbers.specs.declared.datatypes.DataType.{DataType}
 use Rattle.schema.specs.Records.{Position, here, column_here, column_said, ColumnEnds, ColumnLine, field-here, field-most}
 use Rattle.numbers.specs.declared.refusals.Reason.TheVariants.{WrongRecord}
 
@@ -47,37 +48,15 @@ module _ (n t u : Word) where
   unfolding column_fields ◌>>=◌
   column-yes d b e f g = rw (e, f, g)
 
--- the words for types and for nullable columns, by their numbers
-type-nth : (k : ℕ) → k < 4 → nth datatypes k ≡ some (type_at (k + 1))
-unfolding nth datatypes type_at coded
-type-nth zero h = refl
-type-nth (suc zero) h = refl
-type-nth (suc (suc zero)) h = refl
-type-nth (suc (suc (suc zero))) h = refl
-type-nth (suc (suc (suc (suc k)))) h = absurd (omega arith)
-
-null-nth : (u : ℕ) → u < 2 → nth nullables u ≡ some (eqb u 0)
-unfolding nth nullables
-null-nth zero h = refl
-null-nth (suc zero) h = refl
-null-nth (suc (suc u)) h = absurd (omega arith)
-
-type-keys : keys datatypes ≡ words_of (bytes "bool int float text ")
-unfolding keys datatypes words_of bytes push
-type-keys = refl
-
-null-keys : keys nullables ≡ words_of (bytes "null notnull ")
-unfolding keys nullables words_of bytes push
-null-keys = refl
-
-module _ (t : Bytes) (f : Line) (i k : ℕ) where
-  type-number : k ≡ find (words_of (bytes "bool int float text ")) (take (get_or f.lens i 0) (drop (get_or f.starts i 0) t)) → word datatypes (field_of catalog t f i) ≡ nth datatypes k
+-- its type and whether it may be null, by their words
+module _ (t : Bytes) (f : Line) (i : ℕ) where
+  type-as : {r : Option Datatype} → r ≡ named datatypes (take (get_or f.lens i 0) (drop (get_or f.starts i 0) t)) → word datatypes (field_of catalog t f i) ≡ r
   unfolding word field_of field
-  type-number e = named_by datatypes (bytes "bool int float text ") _ k type-keys e
+  type-as e = sym e
 
-  null-number : k ≡ find (words_of (bytes "null notnull ")) (take (get_or f.lens i 0) (drop (get_or f.starts i 0) t)) → word nullables (field_of catalog t f i) ≡ nth nullables k
+  null-as : {r : Option Bool} → r ≡ named nullables (take (get_or f.lens i 0) (drop (get_or f.starts i 0) t)) → word nullables (field_of catalog t f i) ≡ r
   unfolding word field_of field
-  null-number e = named_by nullables (bytes "null notnull ") _ k null-keys e
+  null-as e = sym e
 
 -- THE COLUMN'S LINE
 module _ (t : Bytes) (p line : ℕ) (f : Line) (g : Fields t p f) {b : Bool} (key : b ≡ same (take (get_or f.lens 0 0) (drop (get_or f.starts 0 0) t)) (bytes "column")) where
@@ -104,29 +83,43 @@ module _ (t : Bytes) (p line : ℕ) (f : Line) (g : Fields t p f) {b : Bool} (ke
       pub column-name : is_name (get_or f.lens 1 0) ≡ false → ColumnLine t p line (Err (record { reason = WrongRecord; line = line }))
       column-name h = column-wrong (λ l. column-fields l none (column-name-no _ _ _ (name-no catalog t p l 0 0 f g 1 (omega arith) h)))
 
-      module _ (h : is_name (get_or f.lens 1 0) ≡ true) {k : ℕ} (ek : k ≡ find (words_of (bytes "bool int float text ")) (take (get_or f.lens 2 0) (drop (get_or f.starts 2 0) t))) where
-        named : (l : ℕ) → name (field_of catalog t f 1) ≡ some (field_of catalog t f 1)
-        named l = name-yes catalog t p l 0 0 f g 1 (omega arith) h
+      module _ (h : is_name (get_or f.lens 1 0) ≡ true) where
+        named-as : (l : ℕ) → name (field_of catalog t f 1) ≡ some (field_of catalog t f 1)
+        named-as l = name-yes catalog t p l 0 0 f g 1 (omega arith) h
 
-        pub column-type : 4 ≤ k → ColumnLine t p line (Err (record { reason = WrongRecord; line = line }))
-        unfolding datatypes
-        column-type m = column-wrong (λ l. column-fields l none (column-type-no _ _ _ (named l) (type-number t f 2 k ek ∙ nth-none datatypes k m)))
+        pub column-type : none ≡ named datatypes (take (get_or f.lens 2 0) (drop (get_or f.starts 2 0) t)) → ColumnLine t p line (Err (record { reason = WrongRecord; line = line }))
+        column-type m = column-wrong (λ l. column-fields l none (column-type-no _ _ _ (named-as l) (type-as t f 2 m)))
 
-        module _ (m : k < 4) {u : ℕ} (eu : u ≡ find (words_of (bytes "null notnull ")) (take (get_or f.lens 3 0) (drop (get_or f.starts 3 0) t))) where
-          typed : word datatypes (field_of catalog t f 2) ≡ some (type_at (k + 1))
-          typed = type-number t f 2 k ek ∙ type-nth k m
+        module _ (d : DataType) (m : some (type_of d) ≡ named datatypes (take (get_or f.lens 2 0) (drop (get_or f.starts 2 0) t))) where
+          pub column-null : none ≡ named nullables (take (get_or f.lens 3 0) (drop (get_or f.starts 3 0) t)) → ColumnLine t p line (Err (record { reason = WrongRecord; line = line }))
+          column-null v = column-wrong (λ l. column-fields l none (column-null-no _ _ _ _ (named-as l) (type-as t f 2 m) (null-as t f 3 v)))
 
-          pub column-null : 2 ≤ u → ColumnLine t p line (Err (record { reason = WrongRecord; line = line }))
-          unfolding nullables
-          column-null v = column-wrong (λ l. column-fields l none (column-null-no _ _ _ _ (named l) typed (null-number t f 3 u eu ∙ nth-none nullables u v)))
-
-          pub column-right : Position t p → u < 2 → ColumnLine t p line (Ok (Some (record { name = record { address = get_or f.starts 1 0; length = get_or f.lens 1 0 }; datatype = datatype_at (k + 1); nullable = eqb u 0; next = f.next })))
+          pub column-right : (b : Bool) → Position t p → some b ≡ named nullables (take (get_or f.lens 3 0) (drop (get_or f.starts 3 0) t))
+              → ColumnLine t p line (Ok (Some (record { name = record { address = get_or f.starts 1 0; length = get_or f.lens 1 0 }; datatype = d; nullable = b; next = f.next })))
           unfolding column_said ColumnEnds field_of
-          column-right w v = record {
-            says = λ q l. sym (column-here l ∙ ap some (column-fields l _ (column-yes _ _ _ _ _ (named l) typed (null-number t f 3 u eu ∙ null-nth u v)
-                ∙ rw (first q l, datatype-type (k + 1)))));
+          column-right b w v = record {
+            says = λ q l. sym (column-here l ∙ ap some (column-fields l _ (column-yes _ _ _ _ _ (named-as l) (type-as t f 2 m) (null-as t f 3 v)
+                ∙ rw (first q l))));
             next = g.next;
           }
             where
               first : (q : Bytes) (l : ℕ) → field_of catalog t f 1 ≡ word_at t q (get_or f.starts 1 0) (get_or f.lens 1 0)
               first q l = field-here t q _ _ (field-most t p f g w 1 (omega arith))
+
+-- THE WORDS BY THEIR NUMBERS
+type-keys : keys datatypes ≡ words_of (bytes "bool int float text ")
+unfolding keys datatypes words_of bytes push
+type-keys = refl
+
+null-keys : keys nullables ≡ words_of (bytes "null notnull ")
+unfolding keys nullables words_of bytes push
+null-keys = refl
+
+module _ {x : Bytes} {r : ℕ} (p : Packed x r) (k : ℕ) where
+  pub type-packed : find_number (6114209634 ∷ 24407657 ∷ 1599362526310 ∷ 6249014644 ∷ []) r ≡ k → nth datatypes k ≡ named datatypes x
+  unfolding bytes
+  type-packed e = sym (named_by datatypes _ x k type-keys (packed-word _ _ x r k datatype-table p e))
+
+  pub null-packed : find_number (6114014574 ∷ 102576143142776686 ∷ []) r ≡ k → nth nullables k ≡ named nullables x
+  unfolding bytes
+  null-packed e = sym (named_by nullables _ x k null-keys (packed-word _ _ x r k nullable-table p e))

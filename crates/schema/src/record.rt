@@ -1,10 +1,13 @@
 // One line of the catalog each: a table's record, a column's, a default's.
-ghost use Rattle.std.specs.Prelude.{◌≡◌, ℕ, ◌+◌};
-ghost use Rattle.rules.specs.Lists.{Bytes, same, any};
+ghost use Rattle.std.specs.Prelude.{◌≡◌, ℕ, ◌+◌, take, drop};
+ghost use Rattle.std.specs.Option.{option_map};
+ghost use Rattle.rules.specs.Lists.{Bytes, same, any, named};
 ghost use Rattle.rules.specs.Places.{bytes_at};
-ghost use Rattle.rules.specs.Refusals as refusals;
 ghost use Rattle.rules.specs.Reader.{line_here, one_of, literals};
+ghost use Rattle.rules.specs.ReadColumn.{datatypes, nullables};
 ghost use Rattle.rules.specs.ReadCatalog.{default_records};
+ghost use Rattle.numbers.specs.Datatypes.{type_of};
+ghost use Rattle.numbers.specs.Options.{option_of};
 ghost use Rattle.text.specs.Lines.{Fields};
 ghost use Rattle.schema.specs.Records.{Position, here, names, default_said, ColumnLine, TableLine};
 
@@ -14,8 +17,8 @@ use numbers::datatypes::DataType;
 use numbers::literals::Literal;
 use numbers::number;
 use numbers::refusals::{Reason, Refusal};
-use text::Line;
 use text::places::{Place, Texts};
+use text::{Line, words};
 
 // A column's record: its name, its type, whether it may be null, and the position behind the line.
 #[derive(Clone, Copy, Debug, PartialEq, Eq)]
@@ -34,6 +37,30 @@ pub struct TableRecord {
     pub next: usize,
 }
 
+// A column's type, by its field.
+fn column_type(t: &[u8], a: usize, n: usize) -> Option<DataType>
+    ensures { option_of (option_map type_of result) ≡ named datatypes (take n (drop a t.now)) }
+{
+    match text::packed(t, a, n) {
+        words::BOOL => Some(DataType::Boolean),
+        words::INT => Some(DataType::Integer),
+        words::FLOAT => Some(DataType::Float),
+        words::TEXT => Some(DataType::String),
+        _ => None,
+    }
+}
+
+// Whether a column may be null, by its field.
+fn may_be_null(t: &[u8], a: usize, n: usize) -> Option<bool>
+    ensures { option_of result ≡ named nullables (take n (drop a t.now)) }
+{
+    match text::packed(t, a, n) {
+        words::NULL => Some(true),
+        words::NOTNULL => Some(false),
+        _ => None,
+    }
+}
+
 // The column's record at a position, which is on this line, where one stands there.
 pub fn column_record(catalog: &[u8], at: usize, line: u32) -> Result<Option<ColumnRecord>, Refusal>
     requires { Position catalog.now at }
@@ -49,21 +76,19 @@ pub fn column_record(catalog: &[u8], at: usize, line: u32) -> Result<Option<Colu
     if !text::is_name(f.lens[1]) {
         return Err(Reason::WrongRecord.at(line));
     }
-    let k = text::words::datatype(catalog, f.starts[2], f.lens[2]);
-    if 4 <= k {
+    let Some(datatype) = column_type(catalog, f.starts[2], f.lens[2]) else {
         return Err(Reason::WrongRecord.at(line));
-    }
-    let u = text::words::nullable(catalog, f.starts[3], f.lens[3]);
-    if 2 <= u {
+    };
+    let Some(nullable) = may_be_null(catalog, f.starts[3], f.lens[3]) else {
         return Err(Reason::WrongRecord.at(line));
-    }
+    };
     Ok(Some(ColumnRecord {
         name: Place {
             address: f.starts[1] as u32,
             length: f.lens[1] as u32,
         },
-        datatype: DataType::of_number(k as u32 + 1),
-        nullable: u == 0,
+        datatype,
+        nullable,
         next: f.next,
     }))
 }

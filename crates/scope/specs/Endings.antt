@@ -16,8 +16,9 @@ use Rattle.rules.specs.Places.{bytes_at, word_at}
 use Rattle.rules.specs.Equality.{same_name}
 use Rattle.rules.specs.Scope.{is_named, is_qualified}
 use Rattle.text.specs.Places.{bytes-catalog, bytes-statement}
+use Rattle.text.specs.Order.{differ}
 use Rattle.scope.specs.Labels.{slot_of, address_of, length_of, name_at, label_at}
-use Rattle.scope.specs.Names.{differ, named_none, named_some, qualified-none, qualified-other}
+use Rattle.scope.specs.Names.{named_none, named_some, qualified-none, qualified-other}
 use Rattle.scope.specs.declared.endings.Ending.{Ending}
 
 -- ENDINGS

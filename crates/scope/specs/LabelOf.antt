@@ -134,3 +134,17 @@ module _ {c q : Bytes} {xs ms ts : List ℕ} (t : List ℕ) (r : ℕ) (k : Kind)
       record {
         is = λ g j. sym (ap (passed_number xs (scope_from g c q xs ms ts j)) w ∙ rw (passed_number, o));
       }
+
+  pub passed-other : (k ≡ K.Column → ⊥) → (k ≡ K.Qualified → ⊥) → Passed c q xs ms ts (tree_at c q t r) 0
+  unfolding tree_of as_column
+  passed-other f g = go k refl
+    where
+      go : (v : Kind) → k ≡ v → Passed c q xs ms ts (tree_at c q t r) 0
+      go K.Column e = absurd (f e)
+      go K.Qualified e = absurd (g e)
+      go K.Star e = passed_none K.Star e refl
+      go K.Call e = passed_none K.Call e refl
+      go K.Unary e = passed_none K.Unary e refl
+      go K.Binary e = passed_none K.Binary e refl
+      go K.Is e = passed_none K.Is e refl
+      go K.Literal e = passed_none K.Literal e refl

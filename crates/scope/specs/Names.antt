@@ -3,35 +3,18 @@ use Prim.Native.Nat.{ℕ, zero, suc, ◌-◌}
 use Rattle.std.proofs.Common.{arith, ◌∙◌, eqb-true}
 use Rattle.std.specs.List.{list_any}
 use Rattle.std.specs.Prelude.{◌≡◌, Bool, ◌&&◌, map, List, get_or}
-use Rattle.std.proofs.Math.Path.{refl, sym}
+use Rattle.std.proofs.Math.Path.{refl}
 use Rattle.std.proofs.Math.Bool.{true, false}
 use Rattle.std.proofs.Math.Dec.{eqb}
 use Rattle.std.proofs.lemmas.Bool.{eqb-false}
-use Rattle.rules.specs.Lists.{Bytes, same, any}
+use Rattle.rules.specs.Lists.{Bytes, any}
 use Rattle.rules.specs.Lines.{Word}
 use Rattle.rules.specs.Equality.{same_name}
 use Rattle.rules.specs.Scope.{is_named, is_qualified, shares}
 use Rattle.scope.specs.Tests.{any-map}
-use Rattle.text.specs.Order.{same_true, same_self}
+use Rattle.text.specs.Order.{same-swap}
 use Rattle.scope.specs.Labels.{slot_of, name_at, tables_of, in_slot, label_at}
 use Rattle.scope.specs.Labels.{label-nameless, label-slot, label-in}
-
--- other bytes are not the same
-pub differ : (xs ys : Bytes) → (xs ≡ ys → ⊥) → same xs ys ≡ false
-differ xs ys h = go (same xs ys) refl
-  where
-    go : (b : Bool) → same xs ys ≡ b → b ≡ false
-    go true e = absurd (h (same_true xs ys e))
-    go false e = refl
-
--- whichever name stands first
-same-swap : (xs ys : Bytes) → same xs ys ≡ same ys xs
-same-swap xs ys = go (same ys xs) refl
-  where
-    go : (b : Bool) → same ys xs ≡ b → same xs ys ≡ b
-    go true e = rw (same_true ys xs e) (same_self xs)
-    go false e = differ xs ys (λ z. let y : ◌≡◌ {A = Bool} true false = sym (same_self ys) ∙ (rw z at e) in
-        let w : ◌≡◌ {A = ℕ} 0 1 = cc in omega arith)
 
 -- LABELS
 module _ (c q : Bytes) (ts : List ℕ) (x : ℕ) (w : Word) where

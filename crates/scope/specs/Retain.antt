@@ -2,16 +2,16 @@
 use Prim.Native.Nat.{ℕ, suc, ◌+◌, ◌≤◌, ◌<◌}
 use native.Mathlib.Omega.{arith}
 use Rattle.std.proofs.Math.Numerals.{add-one}
-use Rattle.std.specs.Prelude.{◌≡◌, Bool, true, false, drop, set}
-use Rattle.std.proofs.Math.Path.{ap, sym}
-use Rattle.std.proofs.Common.{◌∙◌, length-append, drop_of_length-le, drop-cons, take-suc-set, take_at}
+use Rattle.std.specs.Prelude.{◌≡◌, Bool, true, false, drop}
+use Rattle.std.proofs.Math.Path.{sym}
+use Rattle.std.proofs.Common.{◌∙◌, length-drop, drop_of_length-le, drop-cons}
 use mathlib.Core.List.{List, [], ◌∷◌, ◌++◌}
-use Rattle.std.proofs.Math.ListN.{length, get_or, take, length-set}
-use Rattle.std.proofs.Math.Seq.{sets, length-take-le}
-use Rattle.std.proofs.lemmas.List.Edits.{sets-eq}
+use Rattle.std.proofs.Math.ListN.{length, get_or}
 use Rattle.rules.specs.Lists.{any}
 use Rattle.rules.specs.Ast.{Expr}
 use Rattle.rules.specs.Equality.{equal}
+use Rattle.ast.specs.Listed.{rows_in, Listed, listed-none, listed-all, listed-rows, listed-on}
+use Rattle.ast.specs.declared.buffer.Rows.{Rows}
 
 -- whether one of the rows ks has an expression equal to x
 unfoldable pub has_equal : (ℕ → Expr) → List ℕ → Expr → Bool
@@ -26,62 +26,38 @@ retained e ks (r ∷ rs) = elim (has_equal e ks (e r)) [
 ]
 
 -- RETAINING
--- the rows rs from the i-th on are looked at, and k of kept are in use
-pub record Retaining (e : ℕ → Expr) (rs kept₀ : List ℕ) (n i k : ℕ) (kept : List ℕ) : Type 0 where
-  pub room : length kept ≡ length kept₀
-  pub few : k ≤ n + i
-  pub count : k + length (retained e (take k kept) (drop i rs)) ≡ n + length (retained e (take n kept₀) rs)
-  pub rows : sets kept k (retained e (take k kept) (drop i rs)) ≡ sets kept₀ n (retained e (take n kept₀) rs)
+-- behind the rows of s, the rows rs from the i-th on are still to be looked at
+pub record Retaining (e : ℕ → Expr) (rs : List ℕ) (s : Rows) (i : ℕ) (s' : Rows) : Type 0 where
+  pub room : s'.used + length (drop i rs) ≤ length s'.places.now
+  pub rest : (u : Rows) → Listed (retained e (rows_in s') (drop i rs)) s' u → Listed (retained e (rows_in s) rs) s u
 
-module _ {e : ℕ → Expr} {rs kept₀ : List ℕ} {n i k : ℕ} {kept : List ℕ} (s : Retaining e rs kept₀ n i k kept) where
-  module _ {b : Bool} (h : i < length rs) (t : b ≡ has_equal e (take k kept) (e (get_or rs i 0))) where
+module _ {e : ℕ → Expr} {rs : List ℕ} {s : Rows} {i : ℕ} {s' : Rows} (k : Retaining e rs s i s') where
+  module _ (h : i < length rs) {ks : List ℕ} (z : ks ≡ rows_in s') {b : Bool} (t : b ≡ has_equal e ks (e (get_or rs i 0))) where
     -- it is equal to one that is kept
-    pub retain-skip : {k' : ℕ} {kept' : List ℕ} → b ≡ true → kept' ≡ kept → k' ≡ k
-        → Retaining e rs kept₀ n (i + 1) k' kept'
+    pub retain-skip : b ≡ true → Retaining e rs s (i + 1) s'
     unfolding retained
-    retain-skip g ekept ek =
-        let w : retained e (take k kept) (drop i rs) ≡ retained e (take k kept) (drop (i + 1) rs) =
-        rw (drop-cons rs i 0 h, retained, sym t ∙ g, add-one i) in
-        rw (ekept, ek) (record {
-          room = s.room;
-          few = omega (arith, s.few);
-          count = rw (← w) s.count;
-          rows = rw (← w) s.rows;
-        })
+    retain-skip g =
+        let w : retained e (rows_in s') (drop i rs) ≡ retained e (rows_in s') (drop (i + 1) rs) =
+        rw (drop-cons rs i 0 h, retained, ← z, sym t ∙ g, z, add-one i) in
+        record {
+          room = omega (arith, k.room, length-drop i rs, length-drop (i + 1) rs);
+          rest = λ u a. k.rest u (rw w a);
+        }
 
     -- it is kept
-    pub retain-keep : {k' : ℕ} {kept' : List ℕ} → b ≡ false → n + length rs ≤ length kept₀
-        → kept' ≡ set kept k (get_or rs i 0) → k' ≡ k + 1 → Retaining e rs kept₀ n (i + 1) k' kept'
+    pub retain-keep : b ≡ false → {s'' : Rows} → Listed (get_or rs i 0 ∷ []) s' s'' → Retaining e rs s (i + 1) s''
     unfolding retained
-    retain-keep g m ekept ek =
-        let r : ℕ = get_or rs i 0 in
-        let l : k < length kept = omega (arith, s.room, s.few) in
-        let f : take (k + 1) (set kept k r) ≡ take k kept ++ (r ∷ []) =
-        rw (add-one k) (take-suc-set kept k r l) in
-        let w : retained e (take k kept) (drop i rs)
-        ≡ r ∷ retained e (take (k + 1) (set kept k r)) (drop (i + 1) rs) =
-        rw (drop-cons rs i 0 h, retained, sym t ∙ g, add-one i, f) in
-        let d : List ℕ = retained e (take (k + 1) (set kept k r)) (drop (i + 1) rs) in
-        let z : k + length (r ∷ d) ≡ k + 1 + length d = omega arith in
-        rw (ekept, ek) (record {
-          room = length-set kept k r ∙ s.room;
-          few = omega (arith, s.few);
-          count = sym z ∙ (rw w at s.count);
-          rows = ap (λ j. sets (set kept k r) j d) (add-one k) ∙ (rw w at s.rows);
-        })
+    retain-keep g {s''} l =
+        let w : retained e (rows_in s') (drop i rs) ≡ get_or rs i 0 ∷ retained e (rows_in s'') (drop (i + 1) rs) =
+        rw (drop-cons rs i 0 h, retained, ← z, sym t ∙ g, add-one i, listed-rows l) in
+        record {
+          room = omega (arith, k.room, l.used, listed-all l, h, length-drop i rs, length-drop (i + 1) rs);
+          rest = λ u a. k.rest u (rw w (listed-on l a));
+        }
 
-  module _ (h : length rs ≤ i) where
-    none_left : retained e (take k kept) (drop i rs) ≡ []
-    unfolding retained
-    none_left = rw (drop_of_length-le rs h)
-
-    pub retain-count : k ≡ n + length (retained e (take n kept₀) rs)
-    retain-count =
-        let z : k + 0 ≡ k = omega arith in
-        sym z ∙ (rw none_left at s.count)
-
-    pub retain-rows : kept ≡ sets kept₀ n (retained e (take n kept₀) rs)
-    retain-rows = rw none_left at s.rows
+  pub retain-end : length rs ≤ i → Listed (retained e (rows_in s) rs) s s'
+  unfolding retained
+  retain-end h = k.rest s' (rw (drop_of_length-le rs h) (listed-none s' (omega (arith, k.room))))
 
 -- WHAT IS KEPT
 pub retained-length : (e : ℕ → Expr) (ks rs : List ℕ) → length (retained e ks rs) ≤ length rs
@@ -95,12 +71,3 @@ retained-length e ks (r ∷ rs) =
         ≤ suc (length rs)
     go true h g = omega (arith, h)
     go false h g = omega (arith, g)
-
--- the rows in use: those that were kept, and those that are retained
-pub kept-rows : (kept xs : List ℕ) (n : ℕ) → n + length xs ≤ length kept
-    → take (n + length xs) (sets kept n xs) ≡ take n kept ++ xs
-kept-rows kept xs n h =
-    let l : length (take n kept ++ xs) ≡ n + length xs =
-    omega (arith, length-append (take n kept) xs, length-take-le n kept (omega arith)) in
-    rw (sets-eq xs kept n h)
-    (take_at (take n kept ++ xs) (drop (n + length xs) kept) (n + length xs) l)

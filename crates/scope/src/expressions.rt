@@ -29,22 +29,10 @@ pub fn label_of(exprs: &Expressions, scope: &View, r: usize) -> u32
         scope.now.labels.now scope.now.matches.now scope.now.tables.now
         (tree_in exprs.now r) result }
 {
-    let k = kind_of(exprs.table, r);
-    match k {
-        Kind::Column => {
-            let sought = name(exprs.table, r);
-            label_found(&exprs.texts, scope, None, sought)
-        }
-        Kind::Qualified => {
-            let sought = name(exprs.table, r);
-            let place = qualifier(exprs.table, r);
-            label_found(&exprs.texts, scope, Some(place), sought)
-        }
-        Kind::Star => 0,
-        Kind::Call => 0,
-        Kind::Unary => 0,
-        Kind::Binary => 0,
-        Kind::Is => 0,
-        Kind::Literal => 0,
-    }
+    let place = match kind_of(exprs.table, r) {
+        Kind::Column => None,
+        Kind::Qualified => Some(qualifier(exprs.table, r)),
+        _ => return 0,
+    };
+    label_found(&exprs.texts, scope, place, name(exprs.table, r))
 }

@@ -1,10 +1,11 @@
 // The groups and aggregates that a child scope gets, each once (planner.rs, build_aggregate).
-ghost use Rattle.std.specs.Prelude.{◌≡◌, ◌+◌, ◌≤◌, length, take};
-ghost use Rattle.std.proofs.lemmas.List.Edits.{sets};
+ghost use Rattle.std.specs.Prelude.{◌≡◌, ◌+◌, ◌≤◌, length};
 ghost use Rattle.ast.specs.Expressions.{tree_in};
+ghost use Rattle.ast.specs.Listed.{rows_in, Listed};
 ghost use Rattle.scope.specs.Retain.{has_equal, retained};
 
 use ast::Expressions;
+use ast::buffer::Rows;
 use ast::equality::equal;
 
 // Whether one of the rows has an expression equal to that at row r.
@@ -16,23 +17,14 @@ fn has_equal(exprs: &Expressions, rows: &[usize], r: usize) -> bool
     rows.iter().any(|k| equal(exprs, *k, r))
 }
 
-// The rows whose expressions are not among the n kept ones, each once, kept behind them; how many are kept then. The slice and
-// its count stay two values: a struct of both would serve the two calls of one function.
-pub fn retain(exprs: &Expressions, rows: &[usize], kept: &mut [usize], n: usize) -> usize
-    requires { n + length rows.now ≤ length kept.old }
-    ensures value { result ≡ n + length
-        (retained (tree_in exprs.now)
-        (take n kept.old) rows.now) }
-    ensures kept_after { kept.new ≡ sets kept.old n
-        (retained (tree_in exprs.now)
-        (take n kept.old) rows.now) }
+// The rows whose expressions are not among the kept ones, each once, kept behind them.
+pub fn retain(exprs: &Expressions, rows: &[usize], kept: &mut Rows)
+    requires { kept.old.used + length rows.now ≤ length kept.old.places.now }
+    ensures { Listed (retained (tree_in exprs.now) (rows_in kept.old) rows.now) kept.old kept.new }
 {
-    let mut k = n;
     for r in rows {
-        if !has_equal(exprs, &kept[..k], *r) {
-            kept[k] = *r;
-            k += 1;
+        if !has_equal(exprs, kept.seen(), *r) {
+            kept.push(*r);
         }
     }
-    k
 }

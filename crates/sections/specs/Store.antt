@@ -1,5 +1,5 @@
 -- Numbers that are stored, and the entry that twelve of them stand for.
-use Rattle.std.specs.Prelude.{ℕ, zero, suc, ◌+◌, ◌*◌, ◌<◌, ◌≡◌, refl, List, [], ◌∷◌, ◌++◌, length}
+use Rattle.std.specs.Prelude.{ℕ, zero, suc, ◌+◌, ◌*◌, ◌<◌, ◌≡◌, refl, List, [], ◌∷◌, ◌++◌, length, Some}
 use Rattle.std.proofs.Common.{arith, add-zero, sym, ap, ◌∙◌}
 use Rattle.std.proofs.Math.Option.{Option, none, some}
 use Rattle.std.proofs.Math.ListN.{get_or}
@@ -28,7 +28,7 @@ sets-two s s₁ s₂ i xs ys m e₁ e₂ = e₂ ∙ rw e₁ (rw m at (sym (sets-
 -- of a new column
 pub sets-column : (s s₁ s₂ : List ℕ) (i l a d b u n e f : ℕ) (c : NewColumn) → a ≡ type_code (type_of c.datatype) → d ≡ flag c.key → b ≡ null_number (option_of c.nullable)
     → u ≡ flag c.unique → n ≡ flag c.index → option_numbers c.reference ≡ e ∷ f ∷ []
-    → s₁ ≡ sets s i (l ∷ a ∷ d ∷ b ∷ []) → s₂ ≡ sets s₁ (i + 4) (u ∷ n ∷ e ∷ f ∷ []) → s₂ ≡ sets s i (l ∷ words_numbers (W.Column c))
+    → s₁ ≡ sets s i (l ∷ a ∷ d ∷ b ∷ []) → s₂ ≡ sets s₁ (i + 4) (u ∷ n ∷ e ∷ f ∷ []) → s₂ ≡ sets s i (l ∷ words_numbers (Some (W.Column c)))
 unfolding words_numbers
 sets-column s s₁ s₂ i l a d b u n e f c ha hd hb hu hn hr e₁ e₂ =
     sets-two s s₁ s₂ i (l ∷ a ∷ d ∷ b ∷ []) (u ∷ n ∷ e ∷ f ∷ []) refl e₁ e₂ ∙ rw (ha, hd, hb, hu, hn, hr)

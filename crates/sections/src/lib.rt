@@ -3,7 +3,7 @@
 
 pub mod entry;
 
-ghost use Rattle.std.specs.Prelude.{◌≡◌, [], ◌∷◌, ℕ, ◌+◌, ◌≤◌, ◌<◌, ◌^◌, length};
+ghost use Rattle.std.specs.Prelude.{◌≡◌, ◌∷◌, ℕ, ◌+◌, ◌≤◌, ◌<◌, ◌^◌, length};
 ghost use Rattle.std.proofs.lemmas.List.Edits.{sets};
 ghost use Rattle.read_expression.specs.Reading.{Position, Given};
 ghost use Rattle.numbers.specs.Options.{option_of};
@@ -87,20 +87,20 @@ fn null_number(nullable: Option<bool>) -> u32
 }
 
 // The length of an entry's name, and what else its record says, in eight places from i on.
-fn put_words(parts: &mut [u32], i: usize, name_length: u32, words: Words)
+fn put_words(parts: &mut [u32], i: usize, name_length: u32, words: Option<Words>)
     requires { i + 8 ≤ length parts.old }
     ensures { parts.new ≡ sets parts.old i (name_length ∷ words_numbers words) }
 {
     match words {
-        Words::Nothing => {
+        None => {
             put_four(parts, i, name_length, 0, 0, 0);
             put_four(parts, i + 4, 0, 0, 0, 0);
         }
-        Words::Descends(descends) => {
+        Some(Words::Descends(descends)) => {
             put_four(parts, i, name_length, u32::from(descends), 0, 0);
             put_four(parts, i + 4, 0, 0, 0, 0);
         }
-        Words::Column(column) => {
+        Some(Words::Column(column)) => {
             let datatype = u32::from(column.datatype);
             let nullable = null_number(column.nullable);
             put_four(

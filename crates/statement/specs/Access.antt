@@ -1,8 +1,7 @@
 -- A statement as it was read, by its kind: its own numbers by name, and its sections.
-use Rattle.std.specs.Prelude.{ℕ, suc, ◌≤◌, ◌≡◌, List, [], ◌∷◌, get_or}
+use Rattle.std.specs.Prelude.{ℕ, ◌≡◌, List, [], ◌∷◌, get_or}
 use Rattle.std.specs.Prelude as std
-use Rattle.std.proofs.Common.{arith, ap, ◌∙◌}
-use Rattle.std.proofs.Math.Decide.{dec_lt}
+use Rattle.std.proofs.Common.{ap, ◌∙◌}
 use Rattle.std.proofs.Math.Path.{sym}
 use Rattle.rules.specs.Lists.{Bytes}
 use Rattle.rules.specs.Lines.{Word}
@@ -11,7 +10,7 @@ use Rattle.rules.specs.Ast.{Select, Statement}
 use Rattle.rules.specs.Ast as Ast
 use Rattle.numbers.specs.Codes.{coded}
 use Rattle.numbers.specs.Values.{is_one}
-use Rattle.numbers.specs.Codes.{coded-map, coded-below, coded-above}
+use Rattle.numbers.specs.Codes.{coded-map}
 use Rattle.text.specs.declared.places.Place.{Place}
 use Rattle.entries.specs.Entries.{Entry}
 use Rattle.sections.specs.Layout.{section_at}
@@ -50,21 +49,6 @@ module _ (parts : List ℕ) where
 -- KINDS
 unfoldable pub kind_of : ℕ → Kind
 kind_of k = coded K.Other (K.Select ∷ K.Create ∷ K.Drop ∷ K.Delete ∷ K.Insert ∷ K.Update ∷ []) 1 k
-
-pub kind-by : (m k : ℕ) (x : Kind) → k ≡ m → x ≡ kind_of k → x ≡ kind_of m
-kind-by m k x e z = z ∙ ap kind_of e
-
-above : (m k : ℕ) → m ≤ k → (k ≡ m → ⊥) → suc m ≤ k
-above m k h ne = omega arith
-
-pub kind-rest : (k : ℕ) → (k ≡ 1 → ⊥) → (k ≡ 2 → ⊥) → (k ≡ 3 → ⊥) → (k ≡ 4 → ⊥) → (k ≡ 5 → ⊥) → (k ≡ 6 → ⊥)
-    → K.Other ≡ kind_of k
-unfolding kind_of
-kind-rest k a b c d e f = sym (elim (dec_lt k 1) [
-  | yes y ↦ coded-below _ _ 1 k y
-  | no y ↦ coded-above _ _ 1 k
-      (above 6 k (above 5 k (above 4 k (above 3 k (above 2 k (above 1 k (omega (arith, y)) a) b) c) d) e) f)
-])
 
 -- THE STATEMENT
 module _ (b q : Bytes) (cells froms parts : List ℕ) where

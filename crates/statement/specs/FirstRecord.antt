@@ -1,21 +1,21 @@
 -- A statement's first record: its kind, its name's place and its flag.
-use Prim.Native.Nat.{ℕ, zero, suc, ◌+◌, ◌≤◌, ◌<◌}
+use Prim.Native.Nat.{ℕ, suc, ◌+◌, ◌≤◌, ◌<◌}
 use Rattle.std.proofs.Common.{arith, sym, ◌∙◌, inl, inr}
-use Rattle.std.specs.Prelude.{◌≡◌, Bool, true, false, List, [], ◌∷◌, ◌⊎◌, eqb, length, get_or, take, drop, Some, None}
+use Rattle.std.specs.Prelude.{◌≡◌, Bool, true, false, List, [], ◌∷◌, ◌⊎◌, length, get_or, take, drop, Some, None}
 use Rattle.std.specs.Prelude as std
-use Rattle.std.proofs.Math.Path.{refl, ap}
+use Rattle.std.proofs.Math.Path.{ap}
 use Rattle.std.proofs.Math.Option.{Option, none, some}
 use Rattle.rules.specs.Limits.{most_bytes}
 use Rattle.rules.specs.Refusals.{statement}
-use Rattle.rules.specs.Lists.{Bytes, map_option}
-use Rattle.rules.specs.Lines.{Word, bytes}
+use Rattle.rules.specs.Lists.{Bytes, named, map_option}
+use Rattle.rules.specs.Lines.{Word}
 use Rattle.rules.specs.Places.{word_at}
-use Rattle.rules.specs.Reader.{base_address, line_here, rest, one_of, apply, name, word, no_field, one_field, two_fields, both}
+use Rattle.rules.specs.Reader.{base_address, line_here, key, rest, rest_of, one_of, apply, name, word, no_field, one_field, two_fields, both}
 use Rattle.rules.specs.ReadStatement.{answers, StatementHead, select_head, other_head, delete_head, insert_head, update_head, create_head, drop_head, statement_heads}
 use Rattle.text.specs.Lines.{field, Fields}
-use Rattle.text.specs.Words.{find, words_of, push, keys, nth, named_by, nth-none}
+use Rattle.numbers.specs.Options.{option_of}
 use Rattle.text.specs.Numbers.{is_name, name_in, name_out}
-use Rattle.text.specs.Reading.{field_of, text_of, field-word, one-of, rest-none, rest-one, rest-two, rest-other, field-inside}
+use Rattle.text.specs.Reading.{field_of, text_of, field-word, key-is, rest-none, rest-one, rest-two, rest-other, field-inside}
 use Rattle.text.specs.Records.{no-field, one_field_lem, two_fields_lem}
 use Rattle.text.specs.declared.Line.{Line}
 use Rattle.text.specs.Fields.{Inside, field-length}
@@ -37,22 +37,19 @@ unfoldable pub first_said : Bytes → Bytes → std.Option First → Option Stat
 first_said c t None = none
 first_said c t (Some r) = some (head_of (number_of r.kind) (word_at c t (name_or r.name).address (name_or r.name).length) r.if_exists)
 
--- the number of a kind's keyword
-abbrev pub keyword_of : Kind → ℕ
-keyword_of K.Select = 0
-keyword_of K.Delete = 1
-keyword_of K.Insert = 2
-keyword_of K.Update = 3
-keyword_of K.Create = 4
-keyword_of K.Drop = 5
-keyword_of K.Other = 6
+-- what the fields behind the keyword of a kind say
+unfoldable pub said_by : Kind → List Word → Option StatementHead
+said_by K.Select r = map_option (λ u. select_head) (no_field r)
+said_by K.Create r = map_option create_head (one_field name r)
+said_by K.Drop r = map_option (λ (q : Word × Bool). drop_head q.0 q.1) (two_fields name (word answers) r)
+said_by K.Delete r = map_option delete_head (one_field name r)
+said_by K.Insert r = map_option insert_head (one_field name r)
+said_by K.Update r = map_option update_head (one_field name r)
+said_by K.Other r = map_option (λ u. other_head) (no_field r)
 
 -- a statement of one name
-pub one_name : {k : Kind} → (k ≡ K.Delete) ⊎ ((k ≡ K.Insert) ⊎ ((k ≡ K.Update) ⊎ (k ≡ K.Create))) → (1 ≤ keyword_of k) × (keyword_of k ≤ 4)
-one_name (inl e) = rw e (omega arith, omega arith)
-one_name (inr (inl e)) = rw e (omega arith, omega arith)
-one_name (inr (inr (inl e))) = rw e (omega arith, omega arith)
-one_name (inr (inr (inr e))) = rw e (omega arith, omega arith)
+abbrev pub OneName : Kind → Type 0
+OneName k = (k ≡ K.Delete) ⊎ ((k ≡ K.Insert) ⊎ ((k ≡ K.Update) ⊎ (k ≡ K.Create)))
 
 -- NAMES
 module _ (t : Bytes) (a n : ℕ) (i : Inside t a n) where
@@ -65,81 +62,49 @@ module _ (t : Bytes) (a n : ℕ) (i : Inside t a n) where
   field-none h = name_out _ (ap is_name (field-length t a n i) ∙ h)
 
   -- the statements of one name
-  pub named_none : (k : Kind) → 1 ≤ keyword_of k → keyword_of k ≤ 4 → is_name n ≡ false → apply (nth statement_heads (keyword_of k)) (field most_bytes t a n ∷ []) ≡ none
-  unfolding statement_heads nth apply one_field map_option
-  named_none K.Select l m h = absurd (omega arith)
-  named_none K.Delete l m h = rw (field-none h)
-  named_none K.Insert l m h = rw (field-none h)
-  named_none K.Update l m h = rw (field-none h)
-  named_none K.Create l m h = rw (field-none h)
-  named_none K.Drop l m h = absurd (omega arith)
-  named_none K.Other l m h = absurd (omega arith)
+  pub named_none : (k : Kind) → OneName k → is_name n ≡ false → said_by k (field most_bytes t a n ∷ []) ≡ none
+  unfolding said_by one_field map_option
+  named_none k (inl e) h = rw (e, field-none h)
+  named_none k (inr (inl e)) h = rw (e, field-none h)
+  named_none k (inr (inr (inl e))) h = rw (e, field-none h)
+  named_none k (inr (inr (inr e))) h = rw (e, field-none h)
 
   module _ (c : Bytes) (p : Place) (e : p ≡ record { address = most_bytes + a; length = n }) where
     word-is : word_at c t p.address p.length ≡ field most_bytes t a n
     unfolding text_of base_address
     word-is = rw e (sym (field-word statement c t a n (omega (arith, i.short, i.inside))))
 
-    pub named_some : (k : Kind) → 1 ≤ keyword_of k → keyword_of k ≤ 4 → is_name n ≡ true
-        → first_said c t (Some (record { kind = k; name = Some p; if_exists = false })) ≡ apply (nth statement_heads (keyword_of k)) (field most_bytes t a n ∷ [])
-    unfolding first_said name_or head_of coded statement_heads nth apply one_field map_option
-    named_some K.Select l m h = absurd (omega arith)
-    named_some K.Delete l m h = rw (word-is, field-name h)
-    named_some K.Insert l m h = rw (word-is, field-name h)
-    named_some K.Update l m h = rw (word-is, field-name h)
-    named_some K.Create l m h = rw (word-is, field-name h)
-    named_some K.Drop l m h = absurd (omega arith)
-    named_some K.Other l m h = absurd (omega arith)
+    pub named_some : (k : Kind) → OneName k → is_name n ≡ true
+        → first_said c t (Some (record { kind = k; name = Some p; if_exists = false })) ≡ said_by k (field most_bytes t a n ∷ [])
+    unfolding first_said name_or head_of coded said_by one_field map_option
+    named_some k (inl e) h = rw (e, word-is, field-name h)
+    named_some k (inr (inl e)) h = rw (e, word-is, field-name h)
+    named_some k (inr (inr (inl e))) h = rw (e, word-is, field-name h)
+    named_some k (inr (inr (inr e))) h = rw (e, word-is, field-name h)
 
   -- `drop`
   module _ (b m : ℕ) where
-    pub drop-unnamed : is_name n ≡ false → apply (nth statement_heads 5) (field most_bytes t a n ∷ field most_bytes t b m ∷ []) ≡ none
-    unfolding statement_heads nth apply two_fields both map_option
+    pub drop-unnamed : is_name n ≡ false → said_by K.Drop (field most_bytes t a n ∷ field most_bytes t b m ∷ []) ≡ none
+    unfolding said_by two_fields both map_option
     drop-unnamed h = rw (field-none h)
 
-    module _ (y : ℕ) (e : y ≡ find (words_of (bytes "yes no ")) (take m (drop b t))) (h : is_name n ≡ true) where
-      answer-words : keys answers ≡ words_of (bytes "yes no ")
-      unfolding answers keys words_of push bytes
-      answer-words = refl
+    module _ (y : std.Option Bool) (e : option_of y ≡ word answers (field most_bytes t b m)) (h : is_name n ≡ true) where
+      pub drop-unanswered : y ≡ None → said_by K.Drop (field most_bytes t a n ∷ field most_bytes t b m ∷ []) ≡ none
+      unfolding said_by two_fields both map_option
+      drop-unanswered l = rw (field-name h, ← e, l)
 
-      answer-is : word answers (field most_bytes t b m) ≡ nth answers y
-      unfolding word field
-      answer-is = named_by answers (bytes "yes no ") (take m (drop b t)) y answer-words e
-
-      pub drop-unanswered : 2 ≤ y → apply (nth statement_heads 5) (field most_bytes t a n ∷ field most_bytes t b m ∷ []) ≡ none
-      unfolding statement_heads nth apply two_fields both map_option
-      drop-unanswered l = let z : word answers (field most_bytes t b m) ≡ none = answer-is ∙ nth-none answers y (unfold answers in l) in rw (field-name h, z)
-
-      answered : y < 2 → word answers (field most_bytes t b m) ≡ some (eqb y 0)
-      answered l = answer-is ∙ go y l
-        where
-          go : (y : ℕ) → y < 2 → nth answers y ≡ some (eqb y 0)
-          go zero l = unfold answers nth in refl
-          go (suc zero) l = unfold answers nth in refl
-          go (suc (suc y)) l = absurd (omega arith)
-
-      pub drop-some : (c : Bytes) (p : Place) → y < 2 → p ≡ record { address = most_bytes + a; length = n }
-          → first_said c t (Some (record { kind = K.Drop; name = Some p; if_exists = eqb y 0 })) ≡ apply (nth statement_heads 5) (field most_bytes t a n ∷ field most_bytes t b m ∷ [])
-      unfolding first_said name_or head_of coded statement_heads nth apply two_fields both map_option
-      drop-some c p l e = rw (word-is c p e, field-name h, answered l)
+      pub drop-some : (c : Bytes) (p : Place) (d : Bool) → y ≡ Some d → p ≡ record { address = most_bytes + a; length = n }
+          → first_said c t (Some (record { kind = K.Drop; name = Some p; if_exists = d })) ≡ said_by K.Drop (field most_bytes t a n ∷ field most_bytes t b m ∷ [])
+      unfolding first_said name_or head_of coded said_by two_fields both map_option
+      drop-some c p d l q = rw (word-is c p q, field-name h, ← e, l)
 
 -- THE RECORD
-unfoldable pub first_words : Bytes
-first_words = bytes "select delete insert update create drop other "
-
-first-words : keys statement_heads ≡ words_of first_words
-unfolding statement_heads keys words_of push bytes first_words
-first-words = refl
-
-named-not : (k : Kind) (r : List Word) → 1 ≤ keyword_of k → keyword_of k ≤ 4 → (length r ≡ 1 → ⊥) → apply (nth statement_heads (keyword_of k)) r ≡ none
-unfolding statement_heads nth apply map_option
-named-not K.Select r l m h = absurd (omega arith)
-named-not K.Delete r l m h = rw (one_field_lem name r h)
-named-not K.Insert r l m h = rw (one_field_lem name r h)
-named-not K.Update r l m h = rw (one_field_lem name r h)
-named-not K.Create r l m h = rw (one_field_lem name r h)
-named-not K.Drop r l m h = absurd (omega arith)
-named-not K.Other r l m h = absurd (omega arith)
+named-not : (k : Kind) (r : List Word) → OneName k → (length r ≡ 1 → ⊥) → said_by k r ≡ none
+unfolding said_by map_option
+named-not k r (inl e) h = rw (e, one_field_lem name r h)
+named-not k r (inr (inl e)) h = rw (e, one_field_lem name r h)
+named-not k r (inr (inr (inl e))) h = rw (e, one_field_lem name r h)
+named-not k r (inr (inr (inr e))) h = rw (e, one_field_lem name r h)
 
 -- r is the text's first line
 module _ (t : Bytes) (r : Line) (f : Fields t 0 r) where
@@ -150,39 +115,45 @@ module _ (t : Bytes) (r : Line) (f : Fields t 0 r) where
   without : (i : ℕ) → suc i < 10 → (r.count ≡ suc i → ⊥) → length (rest (here t 0 1 0 0)) ≡ i → ⊥
   without = rest-other statement t 0 1 0 0 r f
 
-  abbrev key : Bytes
-  key = take (get_or r.lens 0 0) (drop (get_or r.starts 0 0) t)
+  abbrev first_word : Bytes
+  first_word = take (get_or r.lens 0 0) (drop (get_or r.starts 0 0) t)
 
-  first-is : (k : ℕ) → k ≡ find (words_of first_words) key → one_of statement_heads (line_here (here t 0 1 0 0)) ≡ apply (nth statement_heads k) (rest (here t 0 1 0 0))
-  first-is k h = one-of statement t 0 1 0 0 r f statement_heads first_words k first-words h
+  module _ {x : Bytes} (i : x ≡ first_word) where
+    first-is : (o : Option (List Word → Option StatementHead)) → o ≡ named statement_heads x → one_of statement_heads (line_here (here t 0 1 0 0)) ≡ apply o (rest (here t 0 1 0 0))
+    unfolding one_of key rest
+    first-is o h = ap (λ z. apply z (rest_of (line_here (here t 0 1 0 0)))) (ap (named statement_heads) (key-is statement t 0 1 0 0 r f ∙ sym i) ∙ sym h)
 
-  pub first-none : 7 ≤ find (words_of first_words) key → one_of statement_heads (line_here (here t 0 1 0 0)) ≡ none
-  unfolding apply
-  first-none m = first-is _ refl ∙ rw (nth-none statement_heads (find (words_of first_words) key) (unfold statement_heads in m))
+    pub first-none : none ≡ named statement_heads x → one_of statement_heads (line_here (here t 0 1 0 0)) ≡ none
+    unfolding apply
+    first-none h = first-is none h
 
-  module _ (k : Kind) (h : keyword_of k ≡ find (words_of first_words) key) where
-    -- a statement with no name
-    module _ (z : (k ≡ K.Select) ⊎ (k ≡ K.Other)) where
-      pub first-plain : r.count ≡ 1 → (c : Bytes) → first_said c t (Some (record { kind = k; name = None; if_exists = false })) ≡ one_of statement_heads (line_here (here t 0 1 0 0))
-      unfolding first_said head_of coded statement_heads nth apply no_field map_option
-      first-plain m c = sym (first-is _ h ∙ rw (rest-none statement t 0 1 0 0 r f m) (elim z [ inl e ↦ rw e | inr e ↦ rw e ]))
+    module _ (k : Kind) (h : some (said_by k) ≡ named statement_heads x) where
+      kind-is : one_of statement_heads (line_here (here t 0 1 0 0)) ≡ said_by k (rest (here t 0 1 0 0))
+      unfolding apply
+      kind-is = first-is _ h
 
-      pub first-plain-not : (r.count ≡ 1 → ⊥) → one_of statement_heads (line_here (here t 0 1 0 0)) ≡ none
-      unfolding statement_heads nth apply map_option
-      first-plain-not m = first-is _ h ∙ elim z [ inl e ↦ rw (e, no-field _ (without 0 (omega arith) m)) | inr e ↦ rw (e, no-field _ (without 0 (omega arith) m)) ]
+      -- a statement with no name
+      module _ (z : (k ≡ K.Select) ⊎ (k ≡ K.Other)) where
+        pub first-plain : r.count ≡ 1 → (c : Bytes) → first_said c t (Some (record { kind = k; name = None; if_exists = false })) ≡ one_of statement_heads (line_here (here t 0 1 0 0))
+        unfolding first_said head_of coded said_by no_field map_option
+        first-plain m c = sym (kind-is ∙ rw (rest-none statement t 0 1 0 0 r f m) (elim z [ inl e ↦ rw e | inr e ↦ rw e ]))
 
-    pub first-drop : k ≡ K.Drop → r.count ≡ 3
-        → one_of statement_heads (line_here (here t 0 1 0 0)) ≡ apply (nth statement_heads 5) (field most_bytes t (get_or r.starts 1 0) (get_or r.lens 1 0) ∷ field most_bytes t (get_or r.starts 2 0) (get_or r.lens 2 0) ∷ [])
-    unfolding field_of base_address
-    first-drop z m = first-is _ h ∙ rw (z, rest-two statement t 0 1 0 0 r f m)
+        pub first-plain-not : (r.count ≡ 1 → ⊥) → one_of statement_heads (line_here (here t 0 1 0 0)) ≡ none
+        unfolding said_by map_option
+        first-plain-not m = kind-is ∙ elim z [ inl e ↦ rw (e, no-field _ (without 0 (omega arith) m)) | inr e ↦ rw (e, no-field _ (without 0 (omega arith) m)) ]
 
-    pub first-drop-not : k ≡ K.Drop → (r.count ≡ 3 → ⊥) → one_of statement_heads (line_here (here t 0 1 0 0)) ≡ none
-    unfolding statement_heads nth apply map_option
-    first-drop-not z m = first-is _ h ∙ rw (z, two_fields_lem name (word answers) _ (without 2 (omega arith) m))
+      pub first-drop : k ≡ K.Drop → r.count ≡ 3
+          → one_of statement_heads (line_here (here t 0 1 0 0)) ≡ said_by K.Drop (field most_bytes t (get_or r.starts 1 0) (get_or r.lens 1 0) ∷ field most_bytes t (get_or r.starts 2 0) (get_or r.lens 2 0) ∷ [])
+      unfolding field_of base_address
+      first-drop z m = kind-is ∙ rw (z, rest-two statement t 0 1 0 0 r f m)
 
-    pub first-named : r.count ≡ 2 → one_of statement_heads (line_here (here t 0 1 0 0)) ≡ apply (nth statement_heads (keyword_of k)) (field most_bytes t (get_or r.starts 1 0) (get_or r.lens 1 0) ∷ [])
-    unfolding field_of base_address
-    first-named m = first-is _ h ∙ ap (apply (nth statement_heads (keyword_of k))) (rest-one statement t 0 1 0 0 r f m)
+      pub first-drop-not : k ≡ K.Drop → (r.count ≡ 3 → ⊥) → one_of statement_heads (line_here (here t 0 1 0 0)) ≡ none
+      unfolding said_by map_option
+      first-drop-not z m = kind-is ∙ rw (z, two_fields_lem name (word answers) _ (without 2 (omega arith) m))
 
-    pub first-named-not : 1 ≤ keyword_of k → keyword_of k ≤ 4 → (r.count ≡ 2 → ⊥) → one_of statement_heads (line_here (here t 0 1 0 0)) ≡ none
-    first-named-not l o m = first-is _ h ∙ named-not k _ l o (without 1 (omega arith) m)
+      pub first-named : r.count ≡ 2 → one_of statement_heads (line_here (here t 0 1 0 0)) ≡ said_by k (field most_bytes t (get_or r.starts 1 0) (get_or r.lens 1 0) ∷ [])
+      unfolding field_of base_address
+      first-named m = kind-is ∙ ap (said_by k) (rest-one statement t 0 1 0 0 r f m)
+
+      pub first-named-not : OneName k → (r.count ≡ 2 → ⊥) → one_of statement_heads (line_here (here t 0 1 0 0)) ≡ none
+      first-named-not o m = kind-is ∙ named-not k _ o (without 1 (omega arith) m)

@@ -9,7 +9,7 @@ ghost use Rattle.statement.specs.EntryAccess as entryAccess;
 
 use entries::Section;
 use numbers::number;
-use sections::entry::{Entry, count, entry_at, first_row};
+use sections::entry::{count, entry_at, first_row};
 use text::places::Place;
 
 // Where the statement's own numbers stand in the parts, which are lent zeroed (reader_read_texts) and so stay numbers.
@@ -52,6 +52,7 @@ impl From<Kind> for u32 {
     }
 }
 
+#[tactic(auto, unfolding(crate::specs::Access::kind_of, numbers::specs::Codes::coded))]
 pub fn kind_of(parts: &[u32]) -> Kind
     ensures { result ≡ access.kind_of (access.kind_number parts.now) }
 {
@@ -86,6 +87,7 @@ pub fn name(parts: &[u32]) -> Place
 }
 
 // Whether a DROP has IF EXISTS.
+#[tactic(auto, unfolding(numbers::specs::Values::is_one))]
 pub fn if_exists(parts: &[u32]) -> bool
     ensures { result ≡ is_one (access.drop_flag parts.now) }
 {

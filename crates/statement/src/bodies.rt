@@ -1,5 +1,5 @@
 // What stands behind a statement's first record: its sections and its FROM items.
-ghost use Rattle.std.specs.Prelude.{◌≡◌, Bool, List, ℕ, ◌+◌, ◌≤◌, length};
+ghost use Rattle.std.specs.Prelude.{◌≡◌, Bool, List, ℕ, length};
 ghost use Rattle.rules.specs.Lists.{Bytes};
 ghost use Rattle.rules.specs.Lines.{Word};
 ghost use Rattle.rules.specs.ReadStatement.{select_head, insert_head, update_head};

@@ -1,21 +1,24 @@
 // A statement's first record, and its numbers at the start of the parts (specs/Layout.antt).
-ghost use Rattle.std.specs.Prelude.{◌≡◌, [], ◌∷◌, ◌≤◌, length, take, drop, MatchOption};
+ghost use Rattle.std.specs.Prelude.{◌≡◌, [], ◌∷◌, ◌≤◌, length};
+ghost use Rattle.std.specs.Option.{option_map};
 ghost use Rattle.std.proofs.lemmas.List.Edits.{sets};
-ghost use Rattle.rules.specs.Lists.{Bytes};
+ghost use Rattle.rules.specs.Lists.{Bytes, named};
 ghost use Rattle.rules.specs.Limits.{most_bytes};
-ghost use Rattle.rules.specs.Reader.{line_here, one_of, apply};
+ghost use Rattle.rules.specs.Reader.{line_here, one_of};
 ghost use Rattle.rules.specs.ReadStatement.{statement_heads};
 ghost use Rattle.text.specs.Lines.{field, Fields};
 ghost use Rattle.rules.specs.Area.{flag};
-ghost use Rattle.text.specs.Words.{find, words_of, nth};
+ghost use Rattle.numbers.specs.Options.{option_of};
 ghost use Rattle.text.specs.Fields.{Inside};
 ghost use Rattle.read_expression.specs.Reading.{here};
 ghost use Rattle.statement.specs.Kinds.{number_of};
 ghost use Rattle.statement.specs.Access.{name_or};
-ghost use Rattle.statement.specs.FirstRecord.{first_said, first_words, keyword_of};
+ghost use Rattle.statement.specs.declared.access.Kind.TheVariants as kinds;
+ghost use Rattle.statement.specs.FirstRecord.{first_said, said_by, OneName};
 
 use crate::access::{Kind, name_or};
 use text::places::{Place, name_at};
+use text::words::beside;
 
 // A first record: the statement's kind, its name, and whether a `drop` says yes.
 #[derive(Clone, Copy, Debug, PartialEq, Eq)]
@@ -25,29 +28,27 @@ pub struct First {
     pub if_exists: bool,
 }
 
-// The kind of statement whose keyword the n bytes at a are.
-fn keyword(t: &[u8], a: usize, n: usize) -> Option<Kind>
-    ensures { MatchOption result (7 ≤ find (words_of first_words) (take n (drop a t.now)))
-        (λ kind. keyword_of kind ≡ find (words_of first_words) (take n (drop a t.now))) }
+// The kind of statement whose keyword a word is.
+fn keyword(word: &[u8]) -> Option<Kind>
+    ensures { option_of (option_map said_by result) ≡ named statement_heads word.now }
 {
-    match text::which(b"select delete insert update create drop other ", t, a, n) {
-        0 => Some(Kind::Select),
-        1 => Some(Kind::Delete),
-        2 => Some(Kind::Insert),
-        3 => Some(Kind::Update),
-        4 => Some(Kind::Create),
-        5 => Some(Kind::Drop),
-        6 => Some(Kind::Other),
-        _ => None,
-    }
+    let table: [(&[u8], Kind); 7] = [
+        (b"select", Kind::Select),
+        (b"delete", Kind::Delete),
+        (b"insert", Kind::Insert),
+        (b"update", Kind::Update),
+        (b"create", Kind::Create),
+        (b"drop", Kind::Drop),
+        (b"other", Kind::Other),
+    ];
+    beside(&table, word)
 }
 
 // A statement whose one field is a name.
 fn named(t: &[u8], kind: Kind, a: usize, n: usize) -> Option<First>
     requires fact_1 { Inside t.now a n }
-    requires fact_2 { (1 ≤ keyword_of kind) × (keyword_of kind ≤ 4) }
-    ensures { (c : Bytes) → first_said c t.now result
-        ≡ apply (nth statement_heads (keyword_of kind)) (field most_bytes t.now a n ∷ []) }
+    requires fact_2 { OneName kind }
+    ensures { (c : Bytes) → first_said c t.now result ≡ said_by kind (field most_bytes t.now a n ∷ []) }
 {
     let name = name_at(a, n)?;
     Some(First {
@@ -60,18 +61,16 @@ fn named(t: &[u8], kind: Kind, a: usize, n: usize) -> Option<First>
 // A `drop`: a name, and yes or no.
 fn dropped(t: &[u8], a: usize, n: usize, b: usize, m: usize) -> Option<First>
     requires { Inside t.now a n }
-    ensures { (c : Bytes) → first_said c t.now result ≡ apply (nth statement_heads 5)
+    ensures { (c : Bytes) → first_said c t.now result ≡ said_by kinds.Drop
         (field most_bytes t.now a n ∷ field most_bytes t.now b m ∷ []) }
 {
     let name = name_at(a, n)?;
-    let y = text::which(b"yes no ", t, b, m);
-    if 2 <= y {
-        return None;
-    }
+    let table: [(&[u8], bool); 2] = [(b"yes", true), (b"no", false)];
+    let if_exists = beside(&table, text::part(t, b, m))?;
     Some(First {
         kind: Kind::Drop,
         name: Some(name),
-        if_exists: y == 0,
+        if_exists,
     })
 }
 
@@ -82,7 +81,7 @@ pub fn first_record(t: &[u8], f: text::Line) -> Option<First>
     ensures { (c : Bytes) → first_said c t.now result ≡ one_of statement_heads (line_here (here t.now 0 1 0 0)) }
 {
     let n = f.count;
-    let kind = keyword(t, f.starts[0], f.lens[0])?;
+    let kind = keyword(text::part(t, f.starts[0], f.lens[0]))?;
     match kind {
         Kind::Select | Kind::Other => {
             if n != 1 {

@@ -41,6 +41,21 @@ unfolding same
 same_self [] = refl
 same_self (x ∷ xs) = rw (same, eq-eqb x x refl) (same_self xs)
 
+pub differ : (xs ys : Bytes) → (xs ≡ ys → ⊥) → same xs ys ≡ false
+differ xs ys h = go (same xs ys) refl
+  where
+    go : (b : Bool) → same xs ys ≡ b → b ≡ false
+    go true e = absurd (h (same_true xs ys e))
+    go false e = refl
+
+-- whichever stands first
+pub same-swap : (xs ys : Bytes) → same xs ys ≡ same ys xs
+same-swap xs ys = go (same ys xs) refl
+  where
+    go : (b : Bool) → same ys xs ≡ b → same xs ys ≡ b
+    go true e = rw (same_true ys xs e) (same_self xs)
+    go false e = differ xs ys (λ z. never (sym e ∙ (rw z (same_self ys))))
+
 -- THE FIRST BYTES
 module _ (x y : ℕ) (xs ys : Bytes) where
   same_first : x ≡ y → same (x ∷ xs) (y ∷ ys) ≡ same xs ys
@@ -109,9 +124,6 @@ alike-step x y i h a e =
     let l : i - 1 < length x = omega (arith, a.within) in
     let m : i - 1 < length y = omega (arith, a.within, a.lengths) in
     record { lengths = a.lengths; within = omega (arith, a.within); rest = rw (step x (i - 1) l, step y (i - 1) m, f) (same_first _ _ _ _ e ∙ a.rest) }
-
-pub alike_end : (x y : Bytes) (i : ℕ) → i ≤ 0 → Alike x y i → same x y ≡ true
-alike_end x y i h a = let e : i ≡ 0 = omega arith in rw e at a.rest
 
 pub differ-at : (x y : Bytes) (i : ℕ) → (get_or x i 0 ≡ get_or y i 0 → ⊥) → same x y ≡ false
 differ-at x y i h = go (same x y) refl

@@ -1,17 +1,11 @@
 -- Short words as numbers, and keywords found by them.
-use Rattle.std.specs.Prelude.{ℕ, zero, suc, ◌+◌, ◌*◌, ◌-◌, ◌≤◌, ◌<◌, ◌≡◌, Bool, true, false, List, [], ◌∷◌, ◌++◌, eqb, ltb, nat_eq, cond, Some, None}
-use Rattle.std.specs.Prelude as std
-use Rattle.std.specs.Option.{unwrap_or}
-use Rattle.std.specs.List.{position_or_len}
-use Rattle.std.proofs.lemmas.List.Recursion.{is_position_or_len}
-use Rattle.std.proofs.lemmas.List.Sums.{prefix_len-le-length}
-use Rattle.std.proofs.lemmas.Bool.{ltb-false}
+use Rattle.std.specs.Prelude.{ℕ, zero, suc, ◌+◌, ◌*◌, ◌-◌, ◌≤◌, ◌<◌, ◌≡◌, Bool, true, false, List, [], ◌∷◌, ◌++◌, eqb, ltb}
 use native.Mathlib.Omega.{arith}
 use Rattle.std.proofs.Math.Path.{refl, sym}
 use Rattle.std.proofs.Common.{ap, ◌∙◌, drop_of_length-le}
 use Rattle.std.proofs.Math.ListN.{length, get_or, take, drop}
 use Rattle.std.proofs.lemmas.List.{take_all, take_at, take-take, get_or-take, get_or-append_right, length-append}
-use borrow.Author.Tests.{eq-eqb, eqb-true, eqb-false, ne_eqb, ltb-true, lt-ltb, le-ltb}
+use borrow.Author.Tests.{eqb-true, eqb-false, ne_eqb, ltb-true, lt-ltb, le-ltb}
 use Rattle.rules.specs.Lists.{Bytes, same}
 use Rattle.text.specs.Bytes.{step}
 use Rattle.text.specs.Order.{same_true, same_self}
@@ -217,21 +211,6 @@ pub find_none : (ns : List ℕ) (r : ℕ) → Apart ns r → find_number ns r �
 unfolding find_number Apart
 find_none [] r a = refl
 find_none (n ∷ ns) r a = rw (find_number, ne_eqb r n a.0) (ap suc (find_none ns r a.1))
-
--- as `position` tells it
-pub number-position : (ns : List ℕ) (r : ℕ) {o : std.Option ℕ} → o ≡ cond (ltb (position_or_len (λ x. nat_eq x r) ns) (length ns)) (Some (position_or_len (λ x. nat_eq x r) ns)) None
-    → find_number ns r ≡ unwrap_or o (length ns)
-unfolding find_number
-number-position ns r e = is_position_or_len (λ xs. find_number xs r) (λ x. nat_eq x r) refl (λ x xs. at x xs (nat_eq x r) refl) ns
-    ∙ rw e (cut (position_or_len (λ x. nat_eq x r) ns) (ltb (position_or_len (λ x. nat_eq x r) ns) (length ns)) refl (prefix_len-le-length _ ns))
-  where
-    at : (x : ℕ) (xs : List ℕ) (b : Bool) → nat_eq x r ≡ b → find_number (x ∷ xs) r ≡ cond b 0 (1 + find_number xs r)
-    at x xs true z = rw (find_number, eq-eqb r x (sym (eqb-true x r z))) refl
-    at x xs false z = rw (find_number, ne_eqb r x (λ y. eqb-false x r z (sym y))) (omega arith)
-
-    cut : (n : ℕ) (b : Bool) → ltb n (length ns) ≡ b → n ≤ length ns → n ≡ unwrap_or (cond b (Some n) None) (length ns)
-    cut n true z l = refl
-    cut n false z l = omega (arith, ltb-false n (length ns) z)
 
 -- words that their numbers stand for
 pub record Keywords (words : Bytes) (ns : List ℕ) : Type 0 where

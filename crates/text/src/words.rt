@@ -1,8 +1,5 @@
-// Keywords: as the numbers that `packed` makes of them, the word's bytes, the first one lowest, below a 1; and tables of them.
-ghost use Rattle.std.specs.Prelude.{◌≡◌, ℕ, List, take, drop};
-ghost use Rattle.rules.specs.Lines.{bytes};
-ghost use Rattle.text.specs.Words.{find, words_of};
-ghost use Rattle.text.specs.Packed.{Keywords};
+// Keywords: as the numbers that `packed` makes of them, the word's bytes, the first one lowest, below a 1; and tables of words with values.
+ghost use Rattle.std.specs.Prelude.{◌≡◌};
 ghost use Rattle.text.specs.Beside.{beside};
 
 // Expressions that are no literals.
@@ -100,55 +97,4 @@ pub fn beside<T: Copy>(table: &[(&[u8], T)], word: &[u8]) -> Option<T>
 {
     let entry = table.iter().find(|entry| crate::equal(entry.0, word))?;
     Some(entry.1)
-}
-
-// Where the n bytes at a stand in a table of keywords' numbers, or how many there are.
-fn place_in(table: &[u64], t: &[u8], a: usize, n: usize) -> usize
-    ensures { (words : List ℕ) → Keywords words table.now → result ≡ find (words_of words) (take n (drop a t.now)) }
-{
-    let w = crate::packed(t, a, n);
-    table.iter().position(|x| *x == w).unwrap_or(table.len())
-}
-
-// Which keyword of an expression that is no literal the n bytes at a are: its number in the table, or how many there are.
-pub fn head(t: &[u8], a: usize, n: usize) -> usize
-    ensures { result ≡ find (words_of (bytes "op col fn star ")) (take n (drop a t.now)) }
-{
-    place_in(&[OP, COL, FN, STAR], t, a, n)
-}
-
-// Which keyword of a literal the n bytes at a are: its number in the table, or how many there are.
-pub fn literal(t: &[u8], a: usize, n: usize) -> usize
-    ensures { result ≡ find (words_of (bytes "null bool int float text ")) (take n (drop a t.now)) }
-{
-    place_in(&[NULL, BOOL, INT, FLOAT, TEXT], t, a, n)
-}
-
-// Which keyword of a type the n bytes at a are: its number in the table, or how many there are.
-pub fn datatype(t: &[u8], a: usize, n: usize) -> usize
-    ensures { result ≡ find (words_of (bytes "bool int float text ")) (take n (drop a t.now)) }
-{
-    place_in(&[BOOL, INT, FLOAT, TEXT], t, a, n)
-}
-
-// Which keyword of a column that may be null or not the n bytes at a are: its number in the table, or how many there are.
-pub fn nullable(t: &[u8], a: usize, n: usize) -> usize
-    ensures { result ≡ find (words_of (bytes "null notnull ")) (take n (drop a t.now)) }
-{
-    place_in(&[NULL, NOTNULL], t, a, n)
-}
-
-// Which keyword of a statement's part the n bytes at a are: its number in the table, or how many there are.
-pub fn part(t: &[u8], a: usize, n: usize) -> usize
-    ensures { result ≡ find (words_of (bytes "item where group having order offset limit columns name row set column "))
-        (take n (drop a t.now)) }
-{
-    place_in(
-        &[
-            ITEM, WHERE, GROUP, HAVING, ORDER, OFFSET, LIMIT, COLUMNS, NAME, ROW, SET, COLUMN,
-        ],
-        t,
-        a,
-        n,
-    )
 }

@@ -2,7 +2,6 @@
 use Rattle.std.proofs.Common.{◌≡◌, neg_ℤ}
 use native.Mathlib.Omega.{arith}
 use lib.Ieee as Ieee
-use lib.Ieee.{Float}
 use Rattle.rules.specs.Arithmetic.{gives, fails, fitted, factorial, floating}
 use Rattle.rules.specs.Ast.{fact, ident, neg, sqrt}
 use Rattle.rules.specs.Operators.{unary_of, factorial_of, identity_of, negation_of, root_of}

@@ -8,9 +8,6 @@ use Rattle.from.proofs.read_joins.Goals as goal
 pub loop-x-init : goal.loop-x-init
 loop-x-init c = (refl, loop-begin _ c.requires.fact_1 c.requires.fact_2)
 
-pub take_turn-requires : goal.take_turn-requires
-take_turn-requires c = record { start = _; reads = c.loop-x.invariant.1 }
-
 pub loop-x-smaller : goal.loop-x-smaller
 loop-x-smaller c = (turn_on _ _ _ _ _ _ (rw c.in-Some.is at (c.in_ok-x.ensures _ c.loop-x.invariant.1))).falls
 

@@ -10,4 +10,4 @@ pub returns-then-froms-ge-MOST_TABLES : goal.returns-then-froms-ge-MOST_TABLES
 returns-then-froms-ge-MOST_TABLES c = rw c.at-then-froms-ge-MOST_TABLES.ensures (table-limit c.requires c.in-Some.ensures c.in-Table.is c.if-froms-ge-MOST_TABLES.true)
 
 pub returns : goal.returns
-returns c = table-took c.requires c.in-Some.ensures c.in-Table.is (omega (arith, c.if-froms-ge-MOST_TABLES.false)) _ c.put_table.ensures c.put_table.auto.rows
+returns c = rw c.behind.ensures (table-took c.requires c.in-Some.ensures c.in-Table.is (omega (arith, c.if-froms-ge-MOST_TABLES.false)) _ c.put_table.ensures c.put_table.auto.rows)

@@ -25,15 +25,6 @@ no_more a b d p k n xs ys z h l e f =
     let s : p + n ≡ p = omega arith in
     subst (λ m. Consumes a d (take m (put_mid p k xs ys))) s (more a b d p k n xs ys h l e f)
 
-pub returns-then-n-eq0-clause-took : goal.returns-then-n-eq0-clause-took
-returns-then-n-eq0-clause-took g c = (
-  no_more _ _ _ _ _ _ _ _ c.if-n-eq0.true c.loop-done.invariant.0 c.in_ok-n.ensures.bound.0 c.loop-done.invariant.1 c.in_ok-n.ensures.bytes.0,
-  λ l. c.in_ok-n.ensures.bytes.1 c.if-n-eq0.true (search rules),
-)
-
 pub loop-done-preserved : goal.loop-done-preserved
 loop-done-preserved g c =
     (search rules, more _ _ _ _ _ _ _ _ c.loop-done.invariant.0 c.in_ok-n.ensures.bound.0 c.loop-done.invariant.1 c.in_ok-n.ensures.bytes.0)
-
-pub returns-clause-took : goal.returns-clause-took
-returns-clause-took g c = (c.loop-done.invariant.1, λ l. absurd (omega arith))

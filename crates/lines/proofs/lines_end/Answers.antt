@@ -1,12 +1,9 @@
 -- `lines_end`: the lines left, on from p, are n lines on from the start.
 use native.Mathlib.Omega.{arith}
-use mathlib.Core.Path.{◌≡◌, sym, ap, ◌∙◌}
+use mathlib.Core.Path.{◌≡◌, sym, ◌∙◌}
 use Prim.Native.Nat.{◌-◌, ◌+◌}
-use Rattle.lines.specs.Spans.{lines_end, end_stays, end-next, end_none}
+use Rattle.lines.specs.Spans.{end_stays, end-next, end_none}
 use Rattle.lines.proofs.lines_end.Goals as goal
-
-pub loop-init : goal.loop-init
-loop-init c = ap (lines_end c.args.text.now c.args.at) (omega arith)
 
 pub returns-then-text-p : goal.returns-then-text-p
 returns-then-text-p c = sym (end_stays _ _ _ c.if-text-p.true) ∙ c.loop.invariant

@@ -1,5 +1,4 @@
 -- `replay`: the cases from here on end as the whole list does.
-use Rattle.std.proofs.Common.{arith, refl}
 use Rattle.replay.specs.Replay.{replay-begin, replay-more, replay-damaged, replay-end}
 use Rattle.replay.proofs.replay.Goals as goal
 

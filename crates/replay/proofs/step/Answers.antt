@@ -1,5 +1,5 @@
 -- `step`: by whether there is a case.
-use Rattle.std.proofs.Common.{ap, sym, ◌∙◌, ◌+◌}
+use Rattle.std.proofs.Common.{sym, ◌∙◌}
 use Rattle.replay.specs.Replay.{step-case, step-damaged}
 use Rattle.replay.proofs.step.Goals as goal
 

@@ -6,14 +6,14 @@ use Rattle.build_aggregate.proofs.lists.build_groups.Goals as goal
 
 pub loop-r-init : goal.loop-r-init
 loop-r-init c = (
-  c.requires.rows_in_bounds,
-  rows-begin _ _ _ _ _ _ c.requires.room (omega (arith, c.requires.rows_in_bounds)),
+  c.requires.nodes_room,
+  rows-begin _ _ _ _ _ _ c.requires.room (omega (arith, c.requires.nodes_room)),
 )
 
 pub add_group-requires : goal.add_group-requires
 add_group-requires c = record {
   room = row_room c.loop-r.invariant.1 c.loop-r-test.true;
-  k_in_bounds = row_space c.loop-r.invariant.1 c.loop-r-test.true (omega (arith, c.loop-r.invariant.0));
+  nodes_room = row_space c.loop-r.invariant.1 c.loop-r-test.true (omega (arith, c.loop-r.invariant.0));
 }
 
 pub returns-in_err-m : goal.returns-in_err-m

@@ -10,9 +10,9 @@ use Rattle.build_aggregate.proofs.node.build_node.Goals as goal
 pub build_groups-requires : goal.build_groups-requires
 build_groups-requires c = record {
   room = room-less _ (omega arith) c.requires.room;
-  rows_in_bounds = omega (
+  nodes_room = omega (
     arith,
-    c.requires.functions_in_bounds,
+    c.requires.nodes_room,
     aggregate-in-use _ c.begin_aggregate.ensures,
     c.begin_aggregate.ensures.kept.all,
   );
@@ -27,8 +27,8 @@ end_groups-requires c =
     let u = groups-used _ _ _ _ _ _ _ c.args.functions.now _ _ c.begin_aggregate.ensures c.build_groups.ensures _ c.in_ok-m.was in
     let k = kept-on c.begin_aggregate.ensures.kept (c.build_groups.ensures.is 0).kept in (
       omega (arith, u),
-      omega (arith, u, k.all, c.requires.functions_in_bounds),
-      omega (arith, u, c.requires.functions_in_bounds, c.requires.nodes_len_bound),
+      omega (arith, u, k.all, c.requires.nodes_room),
+      omega (arith, u, c.requires.nodes_room, c.requires.nodes_len_bound),
     )
 
 pub build_functions-requires : goal.build_functions-requires
@@ -37,7 +37,7 @@ build_functions-requires c =
     let k = kept-on (kept-on c.begin_aggregate.ensures.kept (c.build_groups.ensures.is 0).kept) (stored-kept c.end_groups.ensures) in
     record {
       room = rest-room _ _ c.build_groups.ensures c.in_ok-m.was c.requires.room;
-      rows_in_bounds = omega (arith, u, c.end_groups.ensures.used, k.all, c.requires.functions_in_bounds);
+      nodes_room = omega (arith, u, c.end_groups.ensures.used, k.all, c.requires.nodes_room);
     }
 
 pub returns-in_err-p : goal.returns-in_err-p
@@ -57,8 +57,8 @@ end-requires c =
     let k = nodes-kept _ _ _ _ _ _ _ _ _ _ c.begin_aggregate.ensures c.build_groups.ensures _ c.in_ok-m.was
     c.end_groups.ensures c.build_functions.ensures in (
       omega (arith, u),
-      omega (arith, u, k.all, c.requires.functions_in_bounds),
-      omega (arith, u, c.requires.functions_in_bounds, c.requires.nodes_len_bound),
+      omega (arith, u, k.all, c.requires.nodes_room),
+      omega (arith, u, c.requires.nodes_room, c.requires.nodes_len_bound),
     )
 
 pub returns : goal.returns

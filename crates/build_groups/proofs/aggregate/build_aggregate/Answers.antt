@@ -1,6 +1,14 @@
 -- `aggregate::build_aggregate`: the rows that are retained, then the stage over them.
-use Rattle.build_groups.specs.Terms.{kept-ready}
+use native.Mathlib.Omega.{arith}
+use mathlib.Core.Path.{refl}
+use Rattle.build_groups.specs.Terms.{second-room, retained-both, kept-ready}
 use Rattle.build_groups.proofs.aggregate.build_aggregate.Goals as goal
 
+pub retain-requires-2 : goal.retain-requires-2
+retain-requires-2 c = second-room _ _ _ refl c.retain.ensures (omega (arith, c.requires.few-groups, c.requires.few-functions))
+
 pub build_retained-requires : goal.build_retained-requires
-build_retained-requires c = kept-ready c.requires c.retain_rows-rows.ensures.1
+build_retained-requires c = rw c.seen.ensures (kept-ready c.requires (retained-both _ _ _ refl c.retain.ensures c.retain-2.ensures))
+
+pub returns : goal.returns
+returns c = c.build_retained.ensures _ _ (rw c.seen.ensures (retained-both _ _ _ refl c.retain.ensures c.retain-2.ensures)) c.requires.some-rows

@@ -1,17 +1,21 @@
 -- `rows::function_rows`: three runs of rows, one behind the other.
-use mathlib.Core.Path.{refl}
-use native.Mathlib.Omega.{arith}
-use Rattle.build_groups.specs.Collects.{functions-length, functions-appended}
+use Rattle.build_groups.specs.Collects.{items-room, having-none, having-some}
 use Rattle.build_groups.proofs.rows.function_rows.Goals as goal
-
-pub collect_section-items-requires : goal.collect_section-items-requires
-collect_section-items-requires c = omega (arith, functions-length c.args.exprs.now.texts.catalog.now c.args.exprs.now.texts.statement.now c.args.exprs.now.table.now c.args.parts.now refl, c.requires)
-
-pub collect_clause-k-requires : goal.collect_clause-k-requires
-collect_clause-k-requires c = omega (arith, functions-length c.args.exprs.now.texts.catalog.now c.args.exprs.now.texts.statement.now c.args.exprs.now.table.now c.args.parts.now c.clause_at-having.ensures, c.requires, c.collect_section-items.ensures.next, c.collect_section-items.ensures.all)
+use Rattle.build_groups.proofs.rows.function_rows.Goals.{in-Some, in_default}
 
 pub collect_section-requires : goal.collect_section-requires
-collect_section-requires c = omega (arith, functions-length c.args.exprs.now.texts.catalog.now c.args.exprs.now.texts.statement.now c.args.exprs.now.table.now c.args.parts.now c.clause_at-having.ensures, c.requires, c.collect_section-items.ensures.next, c.collect_section-items.ensures.all, c.collect_clause-k.ensures.next, c.collect_clause-k.ensures.all)
+collect_section-requires c = items-room _ _ _ _ c.args.rows.now c.requires
+
+pub collect_section-requires-2 : goal.collect_section-requires-2
+collect_section-requires-2 c = elim c.match-clause_at.branch [
+  | in-Some w ↦ rw w.rows-is (having-some _ _ _ _ _ c.requires c.collect_section.ensures c.clause_at.ensures w.in-Some.is w.collect.ensures).room
+  | in_default w ↦ rw w.rows-is (having-none _ _ _ _ _ c.requires c.collect_section.ensures c.clause_at.ensures w.in_default.is).room
+]
 
 pub returns : goal.returns
-returns c = functions-appended _ _ _ _ c.clause_at-having.ensures c.collect_section-items.ensures c.collect_clause-k.ensures c.collect_section.ensures
+returns c = elim c.match-clause_at.branch [
+  | in-Some w ↦ (having-some _ _ _ _ _ c.requires c.collect_section.ensures c.clause_at.ensures w.in-Some.is w.collect.ensures).rest
+      _ (rw (← w.rows-is) c.collect_section-2.ensures)
+  | in_default w ↦ (having-none _ _ _ _ _ c.requires c.collect_section.ensures c.clause_at.ensures w.in_default.is).rest
+      _ (rw (← w.rows-is) c.collect_section-2.ensures)
+]

@@ -1,10 +1,7 @@
 -- `insert::build_mapped`: the node of the rows, and the end.
 use Rattle.plan.specs.Emits.{exit}
-use Rattle.build_insert.specs.Inserts.{rows-room, rows_fit, rows-refused, rows-area, rows-most, rows-map, rows-planned}
+use Rattle.build_insert.specs.Inserts.{rows-refused, rows-area, rows-most, rows-map, rows-planned}
 use Rattle.build_insert.proofs.insert.build_mapped.Goals as goal
-
-pub build_node-requires : goal.build_node-requires
-build_node-requires c = record { room = rows-room c.requires.free c.requires.insert_fits; rows_fit = rows_fit c.requires.free c.requires.insert_fits }
 
 pub end_insert-requires : goal.end_insert-requires
 end_insert-requires c = record {

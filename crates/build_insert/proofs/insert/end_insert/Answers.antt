@@ -2,9 +2,6 @@
 use Rattle.build_insert.specs.Inserts.{insert-room, insert-ends}
 use Rattle.build_insert.proofs.insert.end_insert.Goals as goal
 
-pub put_own-requires : goal.put_own-requires
-put_own-requires c = c.requires.map_fits
-
 pub finish-requires : goal.finish-requires
 finish-requires c = insert-room c.args.texts.now.catalog.now c.args.texts.now.statement.now c.args.name.address c.args.name.length c.args.cells _ c.put_own.ensures
     _ c.requires.area_room c.requires.map_fits c.requires.cells_le_most_plan_cells

@@ -18,16 +18,6 @@ returns-then-is_mapped c = rw c.at-then-is_mapped.ensures (name-repeated c.args.
     (arith, c.loop-v-test.true, c.count-count.ensures c.args.exprs.now.texts.catalog.now c.args.exprs.now.texts.statement.now c.args.exprs.now.table.now)) _
     c.name_or-name.ensures _ c.column_at-found.ensures _ c.in-Some.is _ c.is_mapped.ensures c.if-is_mapped.true)
 
-pub map_value-requires : goal.map_value-requires
-map_value-requires c = omega (
-  arith,
-  c.loop-v.invariant.same,
-  c.requires,
-  c.loop-v-test.true,
-  c.count-count.ensures c.args.exprs.now.texts.catalog.now c.args.exprs.now.texts.statement.now
-      c.args.exprs.now.table.now,
-)
-
 pub loop-v-preserved : goal.loop-v-preserved
 loop-v-preserved c = name-mapped c.args.exprs.now.texts.catalog.now c.args.exprs.now.texts.statement.now c.args.exprs.now.table.now c.args.parts.now (columns_of c.args.exprs.now.texts.catalog.now c.args.exprs.now.texts.statement.now c.args.tables.now c.args.i) c.loop-v.invariant _ c.entry_at-e.ensures (omega
     (arith, c.loop-v-test.true, c.count-count.ensures c.args.exprs.now.texts.catalog.now c.args.exprs.now.texts.statement.now c.args.exprs.now.table.now)) _
@@ -42,12 +32,3 @@ loop-v-preserved c = name-mapped c.args.exprs.now.texts.catalog.now c.args.exprs
 pub returns : goal.returns
 returns c = map-all c.args.exprs.now.texts.catalog.now c.args.exprs.now.texts.statement.now c.args.exprs.now.table.now c.args.parts.now (columns_of c.args.exprs.now.texts.catalog.now c.args.exprs.now.texts.statement.now c.args.tables.now c.args.i) c.loop-v.invariant _ (c.count-count.ensures c.args.exprs.now.texts.catalog.now c.args.exprs.now.texts.statement.now c.args.exprs.now.table.now) (omega (arith, c.loop-v-test.false))
     c.loop-v.invariant.few c.requires
-
-pub is_mapped-requires : goal.is_mapped-requires
-is_mapped-requires c = omega (
-  arith,
-  c.loop-v.invariant.same,
-  c.requires,
-  c.loop-v-test.true,
-  c.count-count.ensures c.args.exprs.now.texts.catalog.now c.args.exprs.now.texts.statement.now c.args.exprs.now.table.now,
-)

@@ -1,6 +1,6 @@
 -- `own::put_mappings`: value by value.
 use native.Mathlib.Omega.{arith}
-use Rattle.build_insert.specs.Own.{put-none, put-room, put-more, put_all}
+use Rattle.build_insert.specs.Own.{put-none, put-room, put-more}
 use Rattle.build_insert.proofs.own.put_mappings.Goals as goal
 
 pub loop-v-init : goal.loop-v-init
@@ -14,6 +14,3 @@ loop-v-preserved c = (
   omega (arith, c.loop-v-test.true),
   put-more c.loop-v.invariant.1 _ c.column_of-column.ensures c.mapping.ensures,
 )
-
-pub returns : goal.returns
-returns c = put_all c.loop-v.invariant.1 _ c.loop-v.invariant.0 (omega (arith, c.loop-v-test.false))

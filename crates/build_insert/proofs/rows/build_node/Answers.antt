@@ -1,11 +1,7 @@
 -- `rows::build_node`: the rows, between the beginning and the end of their record.
 use Rattle.plan.specs.Emits.{exit}
-use native.Mathlib.Omega.{arith}
 use Rattle.build_insert.specs.Rows.{node-room, node-refused, node_end, node_lists}
 use Rattle.build_insert.proofs.rows.build_node.Goals as goal
-
-pub begin_values-requires : goal.begin_values-requires
-begin_values-requires c = omega (arith, c.requires.rows_fit.numbers)
 
 pub build_rows-requires : goal.build_rows-requires
 build_rows-requires c = record { room = c.requires.room; nodes_room = node-room c.requires.rows_fit c.begin_values.ensures }

@@ -1,7 +1,7 @@
 -- `rows::build_rows`: row by row.
 use Rattle.plan.specs.Emits.{exit}
 use native.Mathlib.Omega.{arith}
-use Rattle.build_insert.specs.Rows.{rows_none, rows-kept, rows-room, rows-space, rows-stop, rows_more, rows-done}
+use Rattle.build_insert.specs.Rows.{rows_none, rows-room, rows-space, rows-stop, rows_more, rows-done}
 use Rattle.build_insert.proofs.rows.build_rows.Goals as goal
 
 pub loop-i-init : goal.loop-i-init
@@ -37,9 +37,6 @@ loop-i-preserved c = rows_more c.loop-i.invariant _ c.entry_at-e.ensures (omega 
   c.count-rows.ensures c.args.exprs.now.texts.catalog.now
       c.args.exprs.now.texts.statement.now c.args.exprs.now.table.now,
 )) c.build_row.ensures _ c.in_ok-built.was
-
-pub shape_of-area : goal.shape_of-area
-shape_of-area c = rows-kept c.loop-i.invariant
 
 pub returns : goal.returns
 returns c = rows-done c.loop-i.invariant _ (c.count-rows.ensures c.args.exprs.now.texts.catalog.now c.args.exprs.now.texts.statement.now

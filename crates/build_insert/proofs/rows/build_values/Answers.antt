@@ -3,7 +3,7 @@ use Rattle.plan.specs.Emits.{exit}
 use native.Mathlib.Omega.{arith}
 use mathlib.Core.Path.{◌≡◌}
 use Prim.Native.Nat.{◌+◌, ◌-◌, ◌<◌}
-use Rattle.build_insert.specs.Values.{values-none, values-kept, value_room, value-space, values-stop, values-more, values-done}
+use Rattle.build_insert.specs.Values.{values-none, value_room, value-space, values-stop, values-more, values-done}
 use Rattle.build_insert.proofs.rows.build_values.Goals as goal
 
 pub loop-init : goal.loop-init
@@ -22,9 +22,6 @@ pub loop-preserved : goal.loop-preserved
 loop-preserved c = let l : 0 < c.args.values - c.loop.counter = omega (arith, c.loop-test.true) in
     let z : c.args.values - (c.loop.counter + 1) ≡ c.args.values - c.loop.counter - 1 = omega arith in
     rw z (values-more c.loop.invariant l c.build_value.ensures _ _ c.in_ok-built.was c.next-row.ensures)
-
-pub shape_of-area : goal.shape_of-area
-shape_of-area c = values-kept c.loop.invariant
 
 pub returns : goal.returns
 returns c = values-done c.loop.invariant (omega (arith, c.loop-test.false))

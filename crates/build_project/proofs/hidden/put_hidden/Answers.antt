@@ -17,7 +17,7 @@ slice_bounds-put_columns-end c = hidden-count c.requires.hidden_ready.items-read
 pub put_columns-requires : goal.put_columns-requires
 put_columns-requires c =
     let p = put-ready c.requires.hidden_ready.items-ready c.project_scope-child.ensures (rw (c.view.ensures.labels, c.view.ensures.matches, c.view.ensures.tables) at c.in_ok-widened.ensures) c.requires.hidden_ready refl in
-    record { room = p.0; positions_in_bounds = p.1 }
+    record { room = p.0; nodes_room = p.1 }
 
 pub returns : goal.returns
 returns c = hidden-done c.requires.hidden_ready.items-ready c.project_scope-child.ensures (rw (c.view.ensures.labels, c.view.ensures.matches, c.view.ensures.tables) at c.in_ok-widened.ensures) refl c.put_columns.ensures

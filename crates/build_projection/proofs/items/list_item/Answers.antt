@@ -1,5 +1,7 @@
 -- `items::list_item`: an entry's number, or the rows of its star's columns, where there is room for them.
 use native.Mathlib.Omega.{arith}
+use Rattle.std.specs.Prelude.{length}
+use Rattle.build_projection.proofs.Filled.{filled-part}
 use Rattle.build_projection.specs.Steps.{entry-limit, entry_listed, star-limit, star-listed}
 use Rattle.build_projection.proofs.items.list_item.Goals as goal
 
@@ -13,4 +15,5 @@ pub returns-else-n-ge-COLUMNS : goal.returns-else-n-ge-COLUMNS
 returns-else-n-ge-COLUMNS c = rw c.in-None.is (entry_listed _ _ _ _ _ _ _ (omega arith))
 
 pub returns-else-n-w : goal.returns-else-n-w
-returns-else-n-w c = rw c.in-Some.is (star-listed _ _ _ _ _ _ _ _ _ _ (omega arith) c.put_columns.ensures c.put_rows.ensures)
+returns-else-n-w c = rw c.in-Some.is (star-listed _ _ _ _ _ _ _ _ _ _ (omega arith) c.put_columns.ensures
+    (filled-part _ _ _ _ _ (length c.args.labels.now) c.put_rows.ensures (omega arith) (omega (arith, c.requires))))

@@ -1,10 +1,13 @@
 -- `items::put_rows`: numbers that rise, stored one after the other.
-use mathlib.Core.Path.{refl}
+use native.Mathlib.Omega.{arith}
+use Rattle.std.proofs.Common.{refl}
+use Rattle.build_projection.specs.Listing.{up_to-length}
 use Rattle.build_projection.specs.Steps.{filling-more, filling-end}
+use Rattle.build_projection.proofs.Filled.{filled-all}
 use Rattle.build_projection.proofs.items.put_rows.Goals as goal
 
-pub loop-j-preserved : goal.loop-j-preserved
-loop-j-preserved c = filling-more c.loop-j.invariant refl refl c.loop-j-test.true
+pub loop-i-preserved : goal.loop-i-preserved
+loop-i-preserved c = filling-more c.loop-i.invariant refl (omega arith) c.loop-i-test.true
 
 pub returns : goal.returns
-returns c = filling-end c.loop-j.invariant c.loop-j-test.false
+returns c = filled-all _ _ _ (filling-end c.loop-i.invariant c.loop-i-test.false) (up_to-length _ _)

@@ -13,7 +13,7 @@ pub loop-i-init : goal.loop-i-init
 loop-i-init c = (pushing-begin _ _ _ c.requires.items_fit, copying-begin _ c.requires.projected_len refl, kept-all _ _ _)
 
 pub put_item-requires : goal.put_item-requires
-put_item-requires c = record { room = room-here c.loop-i.invariant.0 c.loop-i-test.true; item_size_in_bounds = space-here c.loop-i.invariant.0 c.loop-i-test.true }
+put_item-requires c = record { room = room-here c.loop-i.invariant.0 c.loop-i-test.true; nodes_room = space-here c.loop-i.invariant.0 c.loop-i-test.true }
 
 pub returns-in_err-next : goal.returns-in_err-next
 returns-in_err-next c = let p = err_from_is_err_and c.from_residual.result c.from_residual.ensures.1 in rw (p.1, p.2)

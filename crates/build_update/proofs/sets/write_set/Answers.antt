@@ -11,9 +11,6 @@ overflow_sub-next c = set-root c.args.exprs.now.texts.catalog.now c.args.exprs.n
     c.name_or-name.ensures c.lookup-found.ensures c.position_of.ensures
     _ c.in_ok-j.was c.build_set.ensures _ c.in_ok-next.was
 
-pub set-requires : goal.set-requires
-set-requires c = c.requires.nodes_room
-
 pub returns : goal.returns
 returns c = set-written c.args.exprs.now.texts.catalog.now c.args.exprs.now.texts.statement.now c.args.exprs.now.table.now
     c.args.scope.now.labels.now c.args.scope.now.matches.now c.args.scope.now.tables.now

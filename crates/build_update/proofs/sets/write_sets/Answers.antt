@@ -2,7 +2,7 @@
 use native.Mathlib.Omega.{arith}
 use Rattle.plan.specs.Emits.{exit}
 use Rattle.build_update.specs.SoFar.{set_here_lem, sets-length, so-far-none, so-far-step, so-far-stop, so-far-all}
-use Rattle.build_update.specs.SoFar.{area-kept, number-room, set_room}
+use Rattle.build_update.specs.SoFar.{number-room, set_room}
 use Rattle.build_update.proofs.sets.write_sets.Goals as goal
 
 pub loop-v-init : goal.loop-v-init
@@ -25,9 +25,6 @@ pub loop-v-preserved : goal.loop-v-preserved
 loop-v-preserved c = λ h. so-far-step _ _ _ (c.loop-v.invariant h) _ (set_here_lem c.args.exprs.now.texts.catalog.now c.args.exprs.now.texts.statement.now c.args.exprs.now.table.now c.args.parts.now _ _ c.entry_at-e.ensures
     (omega (arith, c.loop-v-test.true, c.count-sets.ensures c.args.exprs.now.texts.catalog.now c.args.exprs.now.texts.statement.now c.args.exprs.now.table.now)))
     (c.write_set.ensures h) _ c.in_ok-written.was
-
-pub shape_of-area : goal.shape_of-area
-shape_of-area c = area-kept _ _ _ (c.loop-v.invariant 0)
 
 pub returns : goal.returns
 returns c = λ h. so-far-all _ _ _ (c.loop-v.invariant h)

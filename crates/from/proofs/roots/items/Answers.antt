@@ -1,13 +1,7 @@
 -- `roots::items`: one more for each root, from the last one on.
 use native.Mathlib.Omega.{arith}
-use Rattle.from.specs.Roots.{first-falls, counts-begin, counts-on, counts_end}
+use Rattle.from.specs.Roots.{first-falls, counts-on, counts_end}
 use Rattle.from.proofs.roots.items.Goals as goal
-
-pub loop-end-init : goal.loop-end-init
-loop-end-init c = counts-begin _ _
-
-pub overflow_add-c : goal.overflow_add-c
-overflow_add-c c = omega (arith, c.loop-end.invariant.few, c.loop-end-test.true, c.ranges.n)
 
 pub loop-end-smaller : goal.loop-end-smaller
 loop-end-smaller c = first-falls _ _ _ (omega (arith, c.loop-end-test.true)) c.first-end.ensures

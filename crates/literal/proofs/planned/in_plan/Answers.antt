@@ -13,7 +13,7 @@ returns-in-Null c = rw (literal-cell _ _ c.args.literal.first c.args.literal.sec
 pub returns-in-Bool : goal.returns-in-Bool
 unfolding kind_number cell_of is_one
 returns-in-Bool c = rw (literal-cell _ _ c.args.literal.first c.args.literal.second c.args.literal.kind (omega arith) (omega arith), c.in-Bool.is)
-    (ap (λ (n : ℕ). 2 ∷ n ∷ 0 ∷ 0 ∷ []) (byte_flag _))
+    (ap (λ (n : ℕ). 2 ∷ n ∷ 0 ∷ 0 ∷ []) (c.from.ensures ∙ byte_flag _))
 
 pub returns-in-Int : goal.returns-in-Int
 returns-in-Int c = sym (literal-cell _ _ c.args.literal.first c.args.literal.second c.args.literal.kind (omega arith) (omega arith) ∙ numbers-kept _ _ _ _ _ c.in-Int.is)

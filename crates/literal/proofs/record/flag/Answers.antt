@@ -1,5 +1,5 @@
 -- `flag`: `t` or `f`.
-use Rattle.std.proofs.Common.{refl}
+use Rattle.std.proofs.Common.{refl, ◌∙◌}
 use Rattle.rules.specs.Lines.{bytes}
 use Rattle.rules.specs.Reader.{flags}
 use Rattle.numbers.specs.Flags.{byte_flag}
@@ -12,4 +12,4 @@ returns-in_err-set c = λ base. rw c.from_residual.ensures (no-literal-as _ _ (f
 
 pub returns : goal.returns
 unfolding flags bytes
-returns c = λ base. flag-some base _ _ _ _ refl (rw c.part.ensures at c.beside.ensures) _ _ c.in_ok-set.was (refl, byte_flag _, refl)
+returns c = λ base. flag-some base _ _ _ _ refl (rw c.part.ensures at c.beside.ensures) _ _ c.in_ok-set.was (refl, c.from.ensures ∙ byte_flag _, refl)

@@ -1,29 +1,78 @@
 -- `literal_at`: by the keyword and the number of fields.
+use Rattle.std.specs.Prelude.{ℕ, ◌≡◌, ◌≢◌, List, [], ◌∷◌}
 use Rattle.std.proofs.Common.{refl, arith}
-use Rattle.rules.specs.Lists.{map_option}
+use borrow.Author.Tests.{ne_eqb}
+use Rattle.rules.specs.Lists.{Bytes, map_option}
 use Rattle.rules.specs.Lines.{bytes}
 use Rattle.rules.specs.Area.{value_numbers}
 use Rattle.numbers.specs.Literals.{kind_number}
 use Rattle.numbers.specs.Values.{ValueFits, LiteralFits}
 use Rattle.text.specs.Fields.{inside-field}
+use Rattle.text.specs.Lines.{field}
+use Rattle.text.specs.Words.{find, words_of}
+use Rattle.text.specs.Packed.{Packed, find_number, Apart, find_none, packed-word}
+use Rattle.text.specs.Tables.{literal-table}
 use Rattle.literal.specs.Records.{literal-as, no-literal-as, literal-words, literal-null, literal-null-not, literal-field, literal-not}
+use Rattle.literal.specs.Records.{int-some, int-none, float-some, float-none, text-some, no-literal}
 use Rattle.literal.proofs.record.literal_at.Goals as goal
 
-pub returns-then-n-ne1 : goal.returns-then-n-ne1
+-- the keyword's number in the table
+module _ {x : Bytes} {r : ℕ} (p : Packed x r) where
+  at : (k : ℕ) → find_number (6114014574 ∷ 6114209634 ∷ 24407657 ∷ 1599362526310 ∷ 6249014644 ∷ []) r ≡ k
+      → k ≡ find (words_of (bytes "null bool int float text ")) x
+  at k e = packed-word _ _ _ _ k literal-table p e
+
+behind : (n : ℕ) (ns : List ℕ) (r : ℕ) → (r ≡ n → ⊥) → find_number (n ∷ ns) r ≢ 0
+unfolding find_number
+behind n ns r h e = omega (arith, rw (find_number, ne_eqb r n h) at e)
+
+pub returns-in-1 : goal.returns-in-1
+unfolding bytes find_number map_option value_numbers kind_number LiteralFits ValueFits
+returns-in-1 c = λ x l d k b. literal-as (literal-null x _ _ l d k _ c.requires.fact_2 _ _ literal-words (at c.packed-word.ensures 0 (rw c.if-word-eq-NULL.true)) refl c.in-1.is) (record { is = refl; fits = λ k e c q f. tt })
+
+pub returns-in_default : goal.returns-in_default
+unfolding bytes find_number
+returns-in_default c = λ x l d k b. no-literal-as _ _ (literal-null-not x _ _ l d k _ c.requires.fact_2 _ _ literal-words (at c.packed-word.ensures 0 (rw c.if-word-eq-NULL.true)) refl (λ e. omega (arith, e)))
+
+pub returns-then-f-ne2 : goal.returns-then-f-ne2
 unfolding bytes
-returns-then-n-ne1 c = λ x l d k b. no-literal-as _ _ (literal-null-not x _ _ l d k _ c.requires.fact_2 _ _ literal-words c.literal-k.ensures c.if-k-eq0.true c.if-n-ne1.true)
+returns-then-f-ne2 c = λ x l d k b. no-literal-as _ _ (literal-not x _ _ l d k _ c.requires.fact_2 _ _ literal-words (at c.packed-word.ensures _ refl) (behind _ _ _ c.if-word-eq-NULL.false) c.if-f-ne2.true)
 
-pub returns-then-k-eq0 : goal.returns-then-k-eq0
-unfolding bytes map_option value_numbers kind_number LiteralFits ValueFits
-returns-then-k-eq0 c = λ x l d k b. literal-as (literal-null x _ _ l d k _ c.requires.fact_2 _ _ literal-words c.literal-k.ensures c.if-k-eq0.true c.if-n-ne1.false) (record { is = refl; fits = λ k e c q f. tt })
+pub returns-in-6114209634 : goal.returns-in-6114209634
+unfolding bytes find_number
+returns-in-6114209634 c = λ x l d k b. literal-as (literal-field x _ _ l d k _ c.requires.fact_2 _ _ literal-words (at c.packed-word.ensures 1 (rw c.in-6114209634.is)) c.if-f-ne2.false) (rw b (c.flag.ensures c.args.base))
 
-pub returns-then-n-ne2 : goal.returns-then-n-ne2
-unfolding bytes
-returns-then-n-ne2 c = λ x l d k b. no-literal-as _ _ (literal-not x _ _ l d k _ c.requires.fact_2 _ _ literal-words c.literal-k.ensures c.if-k-eq0.false c.if-n-ne2.true)
+pub returns-in_err-int-in-24407657 : goal.returns-in_err-int-in-24407657
+unfolding bytes find_number field
+returns-in_err-int-in-24407657 c = λ x l d k b. literal-as (literal-field x _ _ l d k _ c.requires.fact_2 _ _ literal-words (at c.packed-word.ensures 2 (rw c.in-24407657.is)) c.if-f-ne2.false) (rw (b, c.from_residual.ensures) (no-literal-as _ _ (int-none _ c.in_err-int-in-24407657.ensures)))
 
-pub literal_by-requires-clause-fact_1 : goal.literal_by-requires-clause-fact_1
-literal_by-requires-clause-fact_1 c = inside-field _ _ _ c.requires.fact_2 1 c.requires.fact_1.0 c.requires.fact_1.1 (omega arith)
+pub returns-in_ok-int-in-24407657 : goal.returns-in_ok-int-in-24407657
+unfolding bytes find_number field
+returns-in_ok-int-in-24407657 c = λ x l d k b. literal-as (literal-field x _ _ l d k _ c.requires.fact_2 _ _ literal-words (at c.packed-word.ensures 2 (rw c.in-24407657.is)) c.if-f-ne2.false) (rw b (int-some _ _ _ _ _ c.in_ok-int-in-24407657.ensures (omega arith) c.halves.ensures))
 
-pub returns : goal.returns
-unfolding bytes
-returns c = λ x l d k b. literal-as (literal-field x _ _ l d k _ c.requires.fact_2 _ _ literal-words c.literal-k.ensures c.if-n-ne2.false) (rw b c.literal_by.ensures)
+pub returns-in_err-float-in-1599362526310 : goal.returns-in_err-float-in-1599362526310
+unfolding bytes find_number field
+returns-in_err-float-in-1599362526310 c = λ x l d k b. literal-as (literal-field x _ _ l d k _ c.requires.fact_2 _ _ literal-words (at c.packed-word.ensures 3 (rw c.in-1599362526310.is)) c.if-f-ne2.false) (rw (b, c.from_residual-in_err-float-in-1599362526310.ensures) (no-literal-as _ _ (float-none _ c.in_err-float-in-1599362526310.ensures)))
+
+pub returns-in_ok-float-in-1599362526310 : goal.returns-in_ok-float-in-1599362526310
+unfolding bytes find_number field
+returns-in_ok-float-in-1599362526310 c = λ x l d k b. literal-as (literal-field x _ _ l d k _ c.requires.fact_2 _ _ literal-words (at c.packed-word.ensures 3 (rw c.in-1599362526310.is)) c.if-f-ne2.false) (rw b (float-some _ _ _ _ _ c.in_ok-float-in-1599362526310.ensures c.halves-in-1599362526310.ensures))
+
+pub returns-in-6249014644 : goal.returns-in-6249014644
+unfolding bytes find_number
+returns-in-6249014644 c = λ x l d k b. literal-as (literal-field x _ _ l d k _ c.requires.fact_2 _ _ literal-words (at c.packed-word.ensures 4 (rw c.in-6249014644.is)) c.if-f-ne2.false)
+    (rw b (text-some _ _ _ _ _ (inside-field _ _ _ c.requires.fact_2 1 c.requires.fact_1.0 c.requires.fact_1.1 (omega arith)) (refl, refl, refl)))
+
+pub returns-in_default-word : goal.returns-in_default-word
+unfolding bytes Apart
+returns-in_default-word c = λ x l d k b. literal-as (literal-field x _ _ l d k _ c.requires.fact_2 _ _ literal-words (at c.packed-word.ensures 5
+    (find_none _ _ (c.if-word-eq-NULL.false, (λ e. omega (arith, e), (λ e. omega (arith, e), (λ e. omega (arith, e), (λ e. omega (arith, e), tt))))))) c.if-f-ne2.false) (no-literal-as _ _ (no-literal _ _ (omega arith)))
+
+pub overflow_cast-result : goal.overflow_cast-result
+overflow_cast-result c = let i = inside-field _ _ _ c.requires.fact_2 1 c.requires.fact_1.0 c.requires.fact_1.1 (omega arith) in omega (arith, i, c.requires.fact_1)
+
+pub overflow_cast-result-in-6249014644 : goal.overflow_cast-result-in-6249014644
+overflow_cast-result-in-6249014644 c = let i = inside-field _ _ _ c.requires.fact_2 1 c.requires.fact_1.0 c.requires.fact_1.1 (omega arith) in omega (arith, i, c.requires.fact_1)
+
+pub overflow_add-result : goal.overflow_add-result
+overflow_add-result c = let i = inside-field _ _ _ c.requires.fact_2 1 c.requires.fact_1.0 c.requires.fact_1.1 (omega arith) in omega (arith, i, c.requires.fact_1)

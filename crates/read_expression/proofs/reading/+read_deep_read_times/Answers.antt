@@ -19,9 +19,6 @@ read_deep-returns-then-at-ge-STATEMENT_ROWS t c = λ k. rw c.at-then-at-ge-STATE
 pub read_deep-returns-then-depth-eq0 : goal.read_deep-returns-then-depth-eq0
 read_deep-returns-then-depth-eq0 t c = λ k. rw c.at-then-depth-eq0.ensures (too-deep _ _ _ k _ _ c.in-Some.ensures (omega arith) c.if-depth-eq0.true)
 
-pub read_deep-put_row-requires : goal.read_deep-put_row-requires
-read_deep-put_row-requires t c = (omega arith, c.requires.1.1)
-
 pub read_deep-returns-then-h-eq0 : goal.read_deep-returns-then-h-eq0
 read_deep-returns-then-h-eq0 t c = λ k. leaf-done _ _ _ k c.in-Some.ensures _ c.if-h-eq0.true c.requires.0 (omega arith) c.if-depth-eq0.false c.fields-f.ensures.next _ _ c.put_row.ensures
 
@@ -39,9 +36,6 @@ read_deep-returns-in-Is t c = λ k. deep_is _ _ _ k c.in-Some.ensures _ (omega a
 
 pub read_deep-overflow_sub-behind : goal.read_deep-overflow_sub-behind
 read_deep-overflow_sub-behind t c = omega (arith, (given-done _ _ _ _ _ _ 0 _ (c.in_ok-behind.ensures 0)).more)
-
-pub read_deep-put_row-requires-in_default-kind : goal.read_deep-put_row-requires-in_default-kind
-read_deep-put_row-requires-in_default-kind t c = (omega arith, rows-length (given-done _ _ _ _ _ _ 0 _ (c.in_ok-behind.ensures 0)).holds ∙ c.requires.1.1)
 
 pub read_deep-returns-in_default-kind : goal.read_deep-returns-in_default-kind
 read_deep-returns-in_default-kind t c = λ k. deep-done _ _ _ k c.in-Some.ensures _ (omega arith) c.if-depth-eq0.false c.fields-f.ensures.next _ _ _ _ _ (c.in_ok-behind.ensures k) _ c.in_default-kind.not-Is c.put_row-in_default-kind.ensures

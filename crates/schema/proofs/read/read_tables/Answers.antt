@@ -2,14 +2,11 @@
 use native.Mathlib.Omega.{arith}
 use mathlib.Core.Path.{refl, ◌∙◌}
 use Rattle.std.proofs.lemmas.Result.{err_from_is_err_and}
-use Rattle.schema.specs.TableRuns.{tables-begin, table-ready, tables_end, tables-refused, table_done, tables-on}
+use Rattle.schema.specs.TableRuns.{tables-begin, tables_end, tables-refused, table_done, tables-on}
 use Rattle.schema.proofs.read.read_tables.Goals as goal
 
 pub loop-p-init : goal.loop-p-init
 loop-p-init c = (refl, tables-begin _ _ c.requires.0 c.requires.1)
-
-pub read_table-requires : goal.read_table-requires
-read_table-requires c = table-ready c.loop-p.invariant.1 c.loop-p-test.true
 
 pub loop-p-smaller : goal.loop-p-smaller
 loop-p-smaller c = omega (arith, (table_done c.loop-p.invariant.1 c.read_table.ensures c.in_ok-run.was).moved, (table_done c.loop-p.invariant.1 c.read_table.ensures c.in_ok-run.was).within)

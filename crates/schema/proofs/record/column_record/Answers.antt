@@ -18,13 +18,13 @@ pub returns-then-not-is_name : goal.returns-then-not-is_name
 unfolding bytes
 returns-then-not-is_name c = rw c.at-then-not-is_name.ensures (column-name _ _ _ _ c.fields-f.ensures c.holds.ensures c.if-not-holds.false c.if-f-ne4.false (sym c.is_name.ensures ∙ c.if-not-is_name.true))
 
-pub returns-then-k-ge4 : goal.returns-then-k-ge4
+pub returns-in_default : goal.returns-in_default
 unfolding bytes
-returns-then-k-ge4 c = rw c.at-then-k-ge4.ensures (column-type _ _ _ _ c.fields-f.ensures c.holds.ensures c.if-not-holds.false c.if-f-ne4.false (sym c.is_name.ensures ∙ c.if-not-is_name.false) c.datatype-k.ensures c.if-k-ge4.true)
+returns-in_default c = rw c.at-in_default.ensures (column-type _ _ _ _ c.fields-f.ensures c.holds.ensures c.if-not-holds.false c.if-f-ne4.false (sym c.is_name.ensures ∙ c.if-not-is_name.false) c.in_default.ensures)
 
-pub returns-then-u-ge2 : goal.returns-then-u-ge2
+pub returns-in_default-may_be_null : goal.returns-in_default-may_be_null
 unfolding bytes
-returns-then-u-ge2 c = rw c.at-then-u-ge2.ensures (column-null _ _ _ _ c.fields-f.ensures c.holds.ensures c.if-not-holds.false c.if-f-ne4.false (sym c.is_name.ensures ∙ c.if-not-is_name.false) c.datatype-k.ensures c.if-k-ge4.false c.nullable-u.ensures c.if-u-ge2.true)
+returns-in_default-may_be_null c = rw c.at-in_default-may_be_null.ensures (column-null _ _ _ _ c.fields-f.ensures c.holds.ensures c.if-not-holds.false c.if-f-ne4.false (sym c.is_name.ensures ∙ c.if-not-is_name.false) _ c.in-Some.ensures c.in_default-may_be_null.ensures)
 
 pub overflow_cast-result : goal.overflow_cast-result
 overflow_cast-result c = record { fits = omega (arith, field-most _ _ _ c.fields-f.ensures c.requires 1 (omega (arith, c.if-f-ne4.false))) }
@@ -34,4 +34,4 @@ overflow_cast-result-2 c = record { fits = omega (arith, field-most _ _ _ c.fiel
 
 pub returns : goal.returns
 unfolding bytes
-returns c = rw c.of_number.ensures (column-right _ _ _ _ c.fields-f.ensures c.holds.ensures c.if-not-holds.false c.if-f-ne4.false (sym c.is_name.ensures ∙ c.if-not-is_name.false) c.datatype-k.ensures c.if-k-ge4.false c.nullable-u.ensures c.requires c.if-u-ge2.false)
+returns c = column-right _ _ _ _ c.fields-f.ensures c.holds.ensures c.if-not-holds.false c.if-f-ne4.false (sym c.is_name.ensures ∙ c.if-not-is_name.false) _ c.in-Some.ensures _ c.requires c.in-Some-may_be_null.ensures

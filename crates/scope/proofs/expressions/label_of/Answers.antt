@@ -1,42 +1,15 @@
 -- `expressions::label_of`: a column name's label, and none for every other record.
-use mathlib.Core.Path.{refl}
-use Rattle.rules.specs.Views.{as_column}
-use Rattle.ast.specs.Row.{tree_of}
-use Rattle.ast.specs.declared.row.Kind.TheVariants as K
-use Rattle.scope.specs.LabelOf.{passed-column, passed-qualified, passed_none}
+use Rattle.scope.specs.LabelOf.{passed-column, passed-qualified, passed-other}
 use Rattle.scope.proofs.expressions.label_of.Goals as goal
+use Rattle.scope.proofs.expressions.label_of.Goals.{in-Column, in-Qualified}
 
-pub returns-in-Column : goal.returns-in-Column
-returns-in-Column c = passed-column _ _ _ c.kind_of-k.ensures
-    c.name-sought.ensures.address c.name-sought.ensures.length
-    c.in-Column.is c.label_found.ensures
+pub returns-in_default : goal.returns-in_default
+returns-in_default c = passed-other _ _ _ c.kind_of.ensures c.in_default.not-Column c.in_default.not-Qualified
 
-pub returns-in-Qualified : goal.returns-in-Qualified
-returns-in-Qualified c = passed-qualified _ _ _ c.kind_of-k.ensures
-    c.name-sought-in-Qualified.ensures.address c.name-sought-in-Qualified.ensures.length
-    c.qualifier-place.ensures.address c.qualifier-place.ensures.length
-    c.in-Qualified.is c.label_found-in-Qualified.ensures
-
-pub returns-in-Star : goal.returns-in-Star
-unfolding tree_of as_column
-returns-in-Star c = passed_none _ _ _ c.kind_of-k.ensures K.Star c.in-Star.is refl
-
-pub returns-in-Call : goal.returns-in-Call
-unfolding tree_of as_column
-returns-in-Call c = passed_none _ _ _ c.kind_of-k.ensures K.Call c.in-Call.is refl
-
-pub returns-in-Unary : goal.returns-in-Unary
-unfolding tree_of as_column
-returns-in-Unary c = passed_none _ _ _ c.kind_of-k.ensures K.Unary c.in-Unary.is refl
-
-pub returns-in-Binary : goal.returns-in-Binary
-unfolding tree_of as_column
-returns-in-Binary c = passed_none _ _ _ c.kind_of-k.ensures K.Binary c.in-Binary.is refl
-
-pub returns-in-Is : goal.returns-in-Is
-unfolding tree_of as_column
-returns-in-Is c = passed_none _ _ _ c.kind_of-k.ensures K.Is c.in-Is.is refl
-
-pub returns-in-Literal : goal.returns-in-Literal
-unfolding tree_of as_column
-returns-in-Literal c = passed_none _ _ _ c.kind_of-k.ensures K.Literal c.in-Literal.is refl
+pub returns : goal.returns
+returns c = elim c.match-kind_of.branch [
+  | in-Column w ↦ passed-column _ _ _ c.kind_of.ensures c.name.ensures.address c.name.ensures.length w.in-Column.is
+      (rw w.place-is at c.label_found.ensures)
+  | in-Qualified w ↦ passed-qualified _ _ _ c.kind_of.ensures c.name.ensures.address c.name.ensures.length
+      w.qualifier.ensures.address w.qualifier.ensures.length w.in-Qualified.is (rw w.place-is at c.label_found.ensures)
+]

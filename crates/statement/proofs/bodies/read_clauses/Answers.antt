@@ -1,15 +1,9 @@
 -- `read_clauses`: what the rest reads from here, the whole reads.
 use native.Mathlib.Omega.{arith}
-use mathlib.Core.Path.{refl, ◌∙◌}
+use mathlib.Core.Path.{◌∙◌}
 use Rattle.std.proofs.lemmas.Result.{err_from_is_err_and}
-use Rattle.statement.specs.Clauses.{clause-number, clauses-begin, clauses-end, clauses-refused, clauses-on}
+use Rattle.statement.specs.Clauses.{clause-number, clauses-end, clauses-refused, clauses-on}
 use Rattle.statement.proofs.bodies.read_clauses.Goals as goal
-
-pub loop-clause-init : goal.loop-clause-init
-loop-clause-init c = (refl, refl, clauses-begin _ _ _ _ _ _ c.requires.0)
-
-pub read_section-requires : goal.read_section-requires
-read_section-requires c = record { fact_1 = c.loop-clause.invariant.2.position; fact_2 = (c.loop-clause.invariant.0 ∙ c.requires.1, c.loop-clause.invariant.1 ∙ c.requires.2) }
 
 pub returns-in_err-behind : goal.returns-in_err-behind
 returns-in_err-behind c = let p = err_from_is_err_and c.from_residual.result c.from_residual.ensures.1 in rw (p.1, p.2) (clauses-refused c.loop-clause.invariant.2 (omega arith) _ _ _ (rw (clause-number c.loop-clause.clause-index (omega arith)) at c.in_err-behind.ensures))

@@ -1,16 +1,15 @@
 -- `read_insert`: `columns`, its names, the rows.
-use mathlib.Core.Path.{◌∙◌}
 use mathlib.Core.List.{[]}
 use Rattle.std.proofs.lemmas.Result.{err_from_is_err_and}
 use Rattle.read_expression.specs.Given.{given-done}
 use Rattle.statement.specs.InsertReads.{insert-refused, insert-names-refused, names-position, insert-read}
 use Rattle.statement.proofs.bodies.read_insert.Goals as goal
 
-pub read_names-requires : goal.read_names-requires
-read_names-requires c = record { fact_1 = (given-done _ _ _ _ _ _ _ _ (c.in_ok-columns.ensures 0)).position; fact_2 = (c.read_section.auto.cells ∙ c.requires.fact_2.0, c.read_section.auto.parts ∙ c.requires.fact_2.1) }
+pub read_names-requires-clause-fact_1 : goal.read_names-requires-clause-fact_1
+read_names-requires-clause-fact_1 c = (given-done _ _ _ _ _ _ _ _ (c.in_ok-columns.ensures 0)).position
 
-pub read_some-requires : goal.read_some-requires
-read_some-requires c = record { fact_1 = names-position _ (record { bytes = []; start = 0 }) _ _ _ [] _ _ _ (c.in_ok-columns.ensures 0) _ _ _ c.in_ok-names.ensures; fact_2 = (c.read_names.auto.cells ∙ c.read_section.auto.cells ∙ c.requires.fact_2.0, c.read_names.auto.parts ∙ c.read_section.auto.parts ∙ c.requires.fact_2.1) }
+pub read_some-requires-clause-fact_1 : goal.read_some-requires-clause-fact_1
+read_some-requires-clause-fact_1 c = names-position _ (record { bytes = []; start = 0 }) _ _ _ [] _ _ _ (c.in_ok-columns.ensures 0) _ _ _ c.in_ok-names.ensures
 
 pub returns-in_err-columns : goal.returns-in_err-columns
 returns-in_err-columns c = λ n froms. let p = err_from_is_err_and c.from_residual.result c.from_residual.ensures.1 in rw (p.1, p.2) (insert-refused _ n _ _ _ froms _ _ _ (c.in_err-columns.ensures 0))

@@ -1,19 +1,15 @@
 -- `read_select`: the items, FROM, the clauses; then the number of FROM rows is stored.
-use native.Mathlib.Omega.{arith}
 use mathlib.Core.Path.{◌∙◌}
 use Rattle.std.proofs.lemmas.Result.{err_from_is_err_and}
 use Rattle.read_expression.specs.Given.{given-done}
 use Rattle.statement.specs.SelectReads.{select-refused, select-from-refused, from-took, select_read, select-run-refused}
 use Rattle.statement.proofs.bodies.read_select.Goals as goal
 
-pub read_froms-requires : goal.read_froms-requires
-read_froms-requires c = record { fact_1 = (given-done _ _ _ _ _ _ _ _ (c.in_ok-items.ensures 0)).position; fact_2 = (c.read_some.auto.cells ∙ c.requires.fact_2.rows, c.requires.fact_2.from-rows) }
+pub read_froms-requires-clause-fact_1 : goal.read_froms-requires-clause-fact_1
+read_froms-requires-clause-fact_1 c = (given-done _ _ _ _ _ _ _ _ (c.in_ok-items.ensures 0)).position
 
 pub read_clauses-requires : goal.read_clauses-requires
 read_clauses-requires c = ((from-took _ _ _ _ _ _ _ (c.in_ok-items.ensures 0) _ _ _ c.in_ok-f.ensures).position, c.read_froms.auto.cells ∙ c.read_some.auto.cells ∙ c.requires.fact_2.rows, c.read_some.auto.parts ∙ c.requires.fact_2.numbers)
-
-pub bounds-parts-2367 : goal.bounds-parts-2367
-bounds-parts-2367 c = omega (arith, c.read_clauses.auto.parts ∙ c.read_some.auto.parts ∙ c.requires.fact_2.numbers)
 
 pub returns-in_err-items : goal.returns-in_err-items
 returns-in_err-items c = let p = err_from_is_err_and c.from_residual.result c.from_residual.ensures.1 in rw (p.1, p.2) (select-refused _ _ _ _ _ _ _ _ (c.in_err-items.ensures 0))

@@ -1,12 +1,11 @@
 -- `read_update`: the sets, then `where`.
-use mathlib.Core.Path.{◌∙◌}
 use Rattle.std.proofs.lemmas.Result.{err_from_is_err_and}
 use Rattle.read_expression.specs.Given.{given-done}
 use Rattle.statement.specs.BodyReads.{update-refused, update-read}
 use Rattle.statement.proofs.bodies.read_update.Goals as goal
 
-pub read_section-requires : goal.read_section-requires
-read_section-requires c = record { fact_1 = (given-done _ _ _ _ _ _ _ _ (c.in_ok-sets.ensures 0)).position; fact_2 = (c.read_some.auto.cells ∙ c.requires.fact_2.0, c.read_some.auto.parts ∙ c.requires.fact_2.1) }
+pub read_section-requires-clause-fact_1 : goal.read_section-requires-clause-fact_1
+read_section-requires-clause-fact_1 c = (given-done _ _ _ _ _ _ _ _ (c.in_ok-sets.ensures 0)).position
 
 pub returns-in_err-sets : goal.returns-in_err-sets
 returns-in_err-sets c = λ n froms. let p = err_from_is_err_and c.from_residual.result c.from_residual.ensures.1 in rw (p.1, p.2) (update-refused _ n _ _ _ froms _ _ _ (c.in_err-sets.ensures 0))

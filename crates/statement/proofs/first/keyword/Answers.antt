@@ -1,38 +1,10 @@
--- `first::keyword`: by the keyword's number.
-use mathlib.Core.Path.{sym, ◌∙◌}
-use native.Mathlib.Omega.{arith}
+-- `first::keyword`: the table is the rules'.
 use Rattle.rules.specs.Lines.{bytes}
-use Rattle.statement.specs.FirstRecord.{first_words}
+use Rattle.rules.specs.ReadStatement.{statement_heads}
+use Rattle.text.specs.Beside.{beside-named}
+use Rattle.statement.specs.FirstRecord.{said_by}
 use Rattle.statement.proofs.first.keyword.Goals as goal
 
-pub returns-in-0 : goal.returns-in-0
-unfolding bytes first_words
-returns-in-0 c = sym c.in-0.is ∙ c.which.ensures
-
-pub returns-in-1 : goal.returns-in-1
-unfolding bytes first_words
-returns-in-1 c = sym c.in-1.is ∙ c.which.ensures
-
-pub returns-in-2 : goal.returns-in-2
-unfolding bytes first_words
-returns-in-2 c = sym c.in-2.is ∙ c.which.ensures
-
-pub returns-in-3 : goal.returns-in-3
-unfolding bytes first_words
-returns-in-3 c = sym c.in-3.is ∙ c.which.ensures
-
-pub returns-in-4 : goal.returns-in-4
-unfolding bytes first_words
-returns-in-4 c = sym c.in-4.is ∙ c.which.ensures
-
-pub returns-in-5 : goal.returns-in-5
-unfolding bytes first_words
-returns-in-5 c = sym c.in-5.is ∙ c.which.ensures
-
-pub returns-in-6 : goal.returns-in-6
-unfolding bytes first_words
-returns-in-6 c = sym c.in-6.is ∙ c.which.ensures
-
-pub returns-in_default : goal.returns-in_default
-unfolding bytes first_words
-returns-in_default c = omega (arith, c.which.ensures)
+pub returns : goal.returns
+unfolding statement_heads said_by bytes
+returns c = rw c.beside.ensures (beside-named said_by _ _)

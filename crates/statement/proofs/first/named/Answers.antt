@@ -1,15 +1,11 @@
 -- `named`: a name, or none.
-use native.Mathlib.Omega.{arith}
 use mathlib.Core.Path.{sym}
 use Rattle.statement.specs.FirstRecord.{first_said, named_none, named_some}
 use Rattle.statement.proofs.first.named.Goals as goal
 
-pub name_at-requires : goal.name_at-requires
-name_at-requires c = let i = c.requires.fact_1 in (omega (arith, i.short, i.inside), omega (arith, i.short, i.inside))
-
 pub returns-in_err-name : goal.returns-in_err-name
 unfolding first_said
-returns-in_err-name c b = rw c.from_residual.ensures (sym (named_none _ _ _ c.requires.fact_1 _ c.requires.fact_2.0 c.requires.fact_2.1 c.in_err-name.ensures))
+returns-in_err-name c b = rw c.from_residual.ensures (sym (named_none _ _ _ c.requires.fact_1 _ c.requires.fact_2 c.in_err-name.ensures))
 
 pub returns : goal.returns
-returns c b = named_some _ _ _ c.requires.fact_1 b _ c.in_ok-name.ensures.1 _ c.requires.fact_2.0 c.requires.fact_2.1 c.in_ok-name.ensures.0
+returns c b = named_some _ _ _ c.requires.fact_1 b _ c.in_ok-name.ensures.1 _ c.requires.fact_2 c.in_ok-name.ensures.0

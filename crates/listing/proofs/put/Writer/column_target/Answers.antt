@@ -5,9 +5,9 @@ use Rattle.listing.specs.Fields.{fields-same}
 use Rattle.listing.specs.Nodes.{target_none, target-some}
 use Rattle.listing.proofs.put.Writer.column_target.Goals as goal
 
-pub returns-then-x-eq0 : goal.returns-then-x-eq0
+pub returns-then-target-eq0 : goal.returns-then-target-eq0
 unfolding bytes
-returns-then-x-eq0 c = fields-same c.field.ensures (λ d q. target_none _ _ _ refl c.if-x-eq0.true)
+returns-then-target-eq0 c = fields-same c.field.ensures (λ d q. target_none _ _ _ refl c.if-target-eq0.true)
 
 pub returns : goal.returns
-returns c = fields-same c.number.ensures (λ d q. target-some _ _ _ refl c.if-x-eq0.false)
+returns c = fields-same c.number.ensures (λ d q. target-some _ _ _ refl c.if-target-eq0.false)
