@@ -5,7 +5,7 @@ ghost use Rattle.std.specs.Prelude.{◌≡◌};
 ghost use Rattle.std.proofs.Math.Option.{some};
 ghost use Rattle.answer_list.specs.Records.{sized, record_at};
 
-use text::{decimal, fields, holds};
+use text::{decimal, equal, fields};
 
 // A record: where its catalog starts, and how many bytes its catalog, its statement and its answer have, which stand there
 // one behind the other.
@@ -41,11 +41,11 @@ pub fn record_at(list: &[u8], at: usize) -> Option<Record>
     if line.count != 4 {
         return None;
     }
-    if !holds(list, line.starts[0], line.lens[0], b"case") {
+    if !equal(line.field(list, 0), b"case") {
         return None;
     }
-    let catalog = decimal(list, line.starts[1], line.lens[1], u64::MAX)?;
-    let statement = decimal(list, line.starts[2], line.lens[2], u64::MAX)?;
-    let answer = decimal(list, line.starts[3], line.lens[3], u64::MAX)?;
+    let catalog = decimal(line.field(list, 1), u64::MAX)?;
+    let statement = decimal(line.field(list, 2), u64::MAX)?;
+    let answer = decimal(line.field(list, 3), u64::MAX)?;
     whole(list, line.next, catalog, statement, answer)
 }

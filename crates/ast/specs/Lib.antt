@@ -1,4 +1,5 @@
 pub mod Behind
+pub mod Called
 pub mod Table
 pub mod Expressions
 pub mod Operands

@@ -9,8 +9,8 @@ use numbers::aggregates::Aggregate;
 use text::places::{Place, Texts};
 use text::words;
 
-// Which aggregate the name at a place is.
-pub fn is_aggregate(texts: &Texts, name: Place) -> Option<Aggregate>
+// Which aggregate the name at a place is, if any.
+pub fn aggregate_named(texts: &Texts, name: Place) -> Option<Aggregate>
     ensures { named_of result ≡ named aggregates (bytes_at texts.now.catalog.now texts.now.statement.now name.address
         name.length) }
 {

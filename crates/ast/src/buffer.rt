@@ -5,16 +5,25 @@ ghost use Rattle.ast.specs.Listed.{rows_in, Listed, ListedWithin};
 // A lent slice, and how many rows stand in it.
 #[derive(Drop)]
 pub struct Rows<'r> {
-    pub places: &'r mut [usize],
+    pub rows: &'r mut [usize],
     pub used: usize,
 }
 
 impl<'r> Rows<'r> {
+    // None stand in it.
+    pub fn new(rows: &'r mut [usize]) -> Rows<'r>
+        ensures used { result.used ≡ 0 }
+        ensures rows { result.rows.now ≡ rows.old }
+        ensures same { result.rows.ghost_name ≡ rows.entry.ghost_name }
+    {
+        Rows { rows, used: 0 }
+    }
+
     pub fn push(&mut self, r: usize)
-        requires { self.old.used + 1 ≤ length self.old.places.now }
+        requires { self.old.used + 1 ≤ length self.old.rows.now }
         ensures { Listed (r ∷ []) self.old self.new }
     {
-        self.places[self.used] = r;
+        self.rows[self.used] = r;
         self.used += 1;
     }
 
@@ -22,7 +31,7 @@ impl<'r> Rows<'r> {
     pub fn try_push(&mut self, r: usize) -> Option<()>
         ensures { ListedWithin (r ∷ []) self.old result self.new }
     {
-        if self.used < self.places.len() {
+        if self.used < self.rows.len() {
             self.push(r);
             return Some(());
         }
@@ -30,10 +39,10 @@ impl<'r> Rows<'r> {
     }
 
     // Those that stand in it.
-    pub fn seen(&self) -> &[usize]
-        requires { self.now.used ≤ length self.now.places.now }
+    pub fn listed(&self) -> &[usize]
+        requires { self.now.used ≤ length self.now.rows.now }
         ensures { result.now ≡ rows_in self.now }
     {
-        &self.places[..self.used]
+        &self.rows[..self.used]
     }
 }

@@ -8,7 +8,7 @@ ghost use Rattle.ast.specs.Operands.{kind_at};
 
 use crate::Expressions;
 use crate::row::{self, Kind};
-use crate::rows::{STAR, at, kind, next, operands};
+use crate::rows::{next, operands};
 use numbers::literals::{Literal, LiteralKind};
 use text::places::{Place, Texts};
 
@@ -94,8 +94,8 @@ fn same_trees(exprs: &Expressions, i: usize, j: usize) -> bool
 fn are_apart(table: &[u32], i: usize, j: usize) -> bool
     ensures { result ≡ (not (eqb (kind_at table.now j) 1) && not (eqb (kind_at table.now i) (kind_at table.now j))) }
 {
-    let k = kind(table, j);
-    k != STAR && at(table, i, 0) != k
+    let kind = row::kind_of(table, j);
+    kind != Kind::Star && row::kind_of(table, i) != kind
 }
 
 // Whether the trees at two rows are equal. For rows of two kinds, and for one row, no tree is walked.

@@ -2,7 +2,7 @@
 // whatever the table holds, since a row outside the table has 0 rows.
 ghost use Rattle.std.specs.Prelude.{◌≡◌, ◌+◌};
 ghost use Rattle.ast.specs.Table.{at, rows_at};
-ghost use Rattle.ast.specs.Operands.{kind_at, operands_at};
+ghost use Rattle.ast.specs.Operands.{operands_at};
 
 use crate::row::{Kind, kind_of};
 
@@ -13,9 +13,6 @@ pub const ROW_SIZE: usize = 8;
 pub const STATEMENT_ROWS: u32 = 512;
 
 pub const STARRED_ROWS: u32 = 256;
-
-// A star's number, as the table has it.
-pub const STAR: u32 = Kind::Star as u32;
 
 // Numbers of the whole table.
 pub const TABLE_SIZE: usize = ROW_SIZE * (STATEMENT_ROWS as usize + STARRED_ROWS as usize);
@@ -38,13 +35,6 @@ pub fn at(table: &[u32], r: usize, k: u32) -> u32
         return 0;
     }
     table[i]
-}
-
-// The number of the kind of the record at a row.
-pub fn kind(table: &[u32], r: usize) -> u32
-    ensures { result ≡ kind_at table.now r }
-{
-    u32::from(kind_of(table, r))
 }
 
 // How many operands it has: the first stands at the next row, each other behind the rows of the one before.

@@ -1,6 +1,8 @@
 // Walks over the expressions of the table (ast.rs, walk, contains, collect), for the aggregate functions.
 ghost use Rattle.std.specs.Prelude.{◌≡◌};
 ghost use Rattle.rules.specs.BuildAggregate.{walk_free, contains};
+ghost use Rattle.ast.specs.Aggregates.{named_of};
+ghost use Rattle.ast.specs.Called.{called_of};
 ghost use Rattle.ast.specs.Table.{root_at};
 ghost use Rattle.ast.specs.Expressions.{tree_in};
 ghost use Rattle.ast.specs.Walk.{is_aggregate_call};
@@ -8,20 +10,28 @@ ghost use Rattle.ast.specs.Collect.{collect_rows};
 ghost use Rattle.ast.specs.Listed.{ListedWithin};
 
 use crate::Expressions;
-use crate::aggregates::is_aggregate;
+use crate::aggregates::aggregate_named;
 use crate::buffer::Rows;
 use crate::row::{Kind, kind_of, name};
 use crate::rows::{next, operands};
+use numbers::aggregates::Aggregate;
+
+// Which aggregate the record at a row calls, if any.
+pub fn called(exprs: &Expressions, r: usize) -> Option<Aggregate>
+    ensures { named_of result ≡ called_of (tree_in exprs.now r) }
+{
+    if kind_of(exprs.table, r) != Kind::Call {
+        return None;
+    }
+    aggregate_named(&exprs.texts, name(exprs.table, r))
+}
 
 // Whether the record at a row is a call of an aggregate function.
 pub fn is_aggregate_call(exprs: &Expressions, r: usize) -> bool
     ensures { result ≡ is_aggregate_call (root_at exprs.now.texts.catalog.now exprs.now.texts.statement.now
         exprs.now.table.now r) }
 {
-    if kind_of(exprs.table, r) != Kind::Call {
-        return false;
-    }
-    is_aggregate(&exprs.texts, name(exprs.table, r)).is_some()
+    called(exprs, r).is_some()
 }
 
 // `walk` by a visitor that is false at an aggregate: whether it comes to the end. An operator's operands are walked until

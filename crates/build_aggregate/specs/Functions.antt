@@ -4,12 +4,11 @@ use Rattle.std.proofs.Common.{arith, add-one, sym, ◌∙◌, eqb-true}
 use Rattle.std.specs.Prelude as std
 use Rattle.std.specs.Prelude.{◌≡◌, Bool, true, false, ◌&&◌, List, [], ◌∷◌, length, eqb, Ok, Err}
 use Rattle.std.proofs.Math.Path.{refl, ap}
-use Rattle.std.proofs.Math.Option.{Option, none, some}
+use Rattle.std.proofs.Math.Option.{none, some}
 use Rattle.std.proofs.lemmas.Bool.{eqb-false}
 use Rattle.rules.specs.Refusals.{Answer, ok, refused, ◌>>=◌, refuse, argument_count, nested_aggregate}
 use Rattle.rules.specs.Lists.{Bytes, named, is_some}
 use Rattle.rules.specs.Lines.{Word}
-use Rattle.rules.specs.Places.{bytes_at, word_at}
 use Rattle.rules.specs.Schema.{bool}
 use Rattle.rules.specs.Ast.{Expr, star, column, literal, call, unary, binary, is, nil, cons, size, size_all}
 use Rattle.rules.specs.Views.{as_star, as_call}
@@ -27,12 +26,12 @@ use Rattle.numbers.specs.Values.{is_one}
 use Rattle.numbers.specs.declared.literals.LiteralKind.TheVariants as L
 use Rattle.ast.specs.Operands.{kind_of, kind_at, kind-at, tree-at, operands-inside, operands-call}
 use Rattle.ast.specs.Row as row
-use Rattle.ast.specs.Row.{line_at, row_name, first_operand, number_of, call-row}
+use Rattle.ast.specs.Row.{line_at, row_name, first_operand}
 use Rattle.ast.specs.Aggregates.{named_of}
+use Rattle.ast.specs.Called.{called_of, called-none, call-tree}
 use Rattle.numbers.specs.Aggregates.{aggregate_of}
 use Rattle.numbers.specs.declared.aggregates.Aggregate as A
 use Rattle.numbers.specs.declared.aggregates.Aggregate.TheVariants as AV
-use Rattle.ast.specs.declared.row.Kind.TheVariants as K
 use Rattle.plan.specs.Cells.{Room, room-less, Puts}
 use Rattle.plan.specs.Emits.{Emitting, Written, Emits, accepts, refuses, emits-same}
 use Rattle.numbers.specs.Reasons.{named as named_reason}
@@ -40,22 +39,8 @@ use Rattle.numbers.specs.declared.refusals.Reason.TheVariants as Re
 use Rattle.build_expression.specs.Calls.{one_argument}
 use Rattle.build_expression.specs.Builds.{scope_at, Builds}
 
--- the aggregate that an expression calls
-unfoldable pub called_of : Expr → Option Aggregate
-called_of e = elim (as_call e) [ none ↦ none | some c ↦ named aggregates c.name.bytes ]
-
 true-false : false ≡ true → ⊥
 true-false e = absurd (let z : ◌≡◌ {A = ℕ} 0 1 = cc in omega arith)
-
-only_calls : (e : Expr) → (kind_of e ≡ 4 → ⊥) → called_of e ≡ none
-unfolding called_of as_call kind_of
-only_calls (star l) h = refl
-only_calls (column l t n) h = refl
-only_calls (literal l v) h = refl
-only_calls (call l n as') h = absurd (h refl)
-only_calls (unary l o a) h = refl
-only_calls (binary l o a b) h = refl
-only_calls (is l a v) h = refl
 
 -- the record at row r calls the aggregate g
 pub record Calls (c q : Bytes) (t : List ℕ) (r : ℕ) (g : Aggregate) : Type 0 where
@@ -84,21 +69,6 @@ pub record FunctionBuilds (c q : Bytes) (t xs ms ts : List ℕ) (r n : ℕ) (are
   pub is : (h : ℕ) → Emits (function_step (scope_at c q t xs ms ts h) n (tree_at c q t r)) n area area' x
 
 -- WHICH ONE
-module _ (c q : Bytes) (t : List ℕ) (r : ℕ) where
-  pub called-none : (kind_at t r ≡ 4 → ⊥) → none ≡ called_of (tree_at c q t r)
-  called-none h = sym (only_calls _ (λ e. h (sym (kind-at (tree_at c q t) c q t r)
-      ∙ sym (ap kind_of (tree-at c q t r)) ∙ e)))
-
-  call-tree : kind_at t r ≡ 4 → tree_at c q t r ≡ call (line_at t r) (row_name c q t r)
-      (arguments_at (tree_at c q t) t (row.argument_count t r) (first_operand r))
-  unfolding number_of
-  call-tree h = call-row c q t r K.Call (sym h) refl
-
-  pub called-some : (a n : ℕ) (o : Option Aggregate) → kind_at t r ≡ 4 → a ≡ row.name_address t r
-      → n ≡ row.name_length t r → o ≡ named aggregates (bytes_at c q a n) → o ≡ called_of (tree_at c q t r)
-  unfolding called_of as_call word_at
-  called-some a n o h ha hn e = e ∙ (λ i. named aggregates (bytes_at c q (ha i) (hn i))) ∙ rw (call-tree h)
-
 -- by the answer of `called`
 pub calls : (c q : Bytes) (t : List ℕ) (r : ℕ) (x : std.Option A.Aggregate) (a : A.Aggregate) → named_of x ≡ called_of (tree_at c q t r)
     → x ≡ std.Some a → Calls c q t r (aggregate_of a)

@@ -37,7 +37,8 @@ use Rattle.plan.specs.Pushed.{Pushed, kept-all, pushed-on}
 use Rattle.plan.specs.declared.nodes.Nodes.{Nodes}
 use Rattle.plan.specs.Parts.{functions-on}
 use Rattle.build_expression.specs.Builds.{scope_at, Builds}
-use Rattle.build_aggregate.specs.Functions.{called_of, Calls, step_of, function_step, FunctionBuilds}
+use Rattle.ast.specs.Called.{called_of}
+use Rattle.build_aggregate.specs.Functions.{Calls, step_of, function_step, FunctionBuilds}
 use Rattle.build_aggregate.specs.Entries.{step-gave, lists-refused, Listing, Adds}
 
 -- HOW MANY CELLS

@@ -4,12 +4,10 @@ ghost use Rattle.rules.specs.Lists.{Bytes};
 ghost use Rattle.rules.specs.Ast.{size};
 ghost use Rattle.ast.specs.Table.{tree_at};
 ghost use Rattle.ast.specs.Expressions.{tree_in};
-ghost use Rattle.ast.specs.Aggregates.{named_of};
 ghost use Rattle.numbers.specs.Aggregates.{aggregate_of};
 ghost use Rattle.plan.specs.Cells.{Room};
-ghost use Rattle.build_aggregate.specs.Functions.{called_of, Calls, starred, OperandBuilds, FunctionBuilds};
+ghost use Rattle.build_aggregate.specs.Functions.{Calls, starred, OperandBuilds, FunctionBuilds};
 
-use ast::aggregates::is_aggregate;
 use ast::row::Kind;
 use ast::{Expressions, row, walk};
 use build_expression::build_expression;
@@ -25,17 +23,6 @@ const TRUE: Literal = Literal {
     first: 1,
     second: 0,
 };
-
-// Which aggregate the record at row r calls, if any.
-pub fn called(exprs: &Expressions, r: usize) -> Option<Aggregate>
-    ensures { named_of result
-        ≡ called_of (tree_in exprs.now r) }
-{
-    if row::kind_of(exprs.table, r) != Kind::Call {
-        return None;
-    }
-    is_aggregate(&exprs.texts, row::name(exprs.table, r))
-}
 
 // Whether the record at row r is a star, and the aggregate takes one.
 fn takes_star(table: &[u32], r: usize, aggregate: Aggregate) -> bool

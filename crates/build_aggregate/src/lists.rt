@@ -9,7 +9,8 @@ ghost use Rattle.plan.specs.Cells.{Room};
 ghost use Rattle.build_aggregate.specs.Entries.{Adds, AddsAll};
 ghost use Rattle.build_aggregate.specs.Kinds.{groups_listing, functions_listing};
 
-use crate::function::{build_function, called};
+use crate::function::build_function;
+use ast::walk::called;
 use ast::{Expressions, row};
 use build_expression::build_expression;
 use numbers::refusals::{Reason, Refusal};

@@ -34,10 +34,7 @@ fn build_filter(
 {
     let cell = build_expression(exprs, r, scope, area, at.cell)?;
     filter(nodes, at.node - 1, cell - 1);
-    Ok(Step {
-        cell,
-        node: at.node + 1,
-    })
+    Ok(at.next(cell))
 }
 
 // WHERE over FROM's scope.
@@ -62,7 +59,8 @@ pub fn build_where(
     build_filter(exprs, clause.row, scope, area, nodes, at)
 }
 
-// HAVING, which wants a group or an aggregate. (Not one function with WHERE: what it asks first stands between the same two lines.)
+// HAVING, which wants a group or an aggregate. (It does not end in build_where, whose contract says that a stage is made: HAVING
+// makes a node.)
 pub fn build_having(
     exprs: &Expressions,
     clause: Option<Clause>,

@@ -98,8 +98,5 @@ pub fn build_order(
     begin(nodes, Kind::Order, at.node - 1);
     let cell = put_keys(exprs, parts, scope, area, nodes, at.cell)?;
     end(nodes, start);
-    Ok(Step {
-        cell,
-        node: at.node + 1,
-    })
+    Ok(at.next(cell))
 }

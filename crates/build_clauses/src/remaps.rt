@@ -35,8 +35,5 @@ pub fn build_remap(width: u32, hidden: u32, nodes: &mut Nodes, at: Step) -> Step
     begin(nodes, Kind::Remap, at.node - 1);
     push_targets(width, hidden, nodes);
     end(nodes, start);
-    Step {
-        cell: at.cell,
-        node: at.node + 1,
-    }
+    at.next(at.cell)
 }

@@ -44,10 +44,7 @@ fn build_rows(
     };
     let count = row_count(exprs, clause.row, reason.at(clause.line))?;
     rows(nodes, kind, at.node - 1, count);
-    Ok(Step {
-        cell: at.cell,
-        node: at.node + 1,
-    })
+    Ok(at.next(at.cell))
 }
 
 // All rows but the first ones.

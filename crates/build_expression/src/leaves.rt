@@ -63,7 +63,7 @@ pub fn qualified(
     n: u32,
 ) -> Result<u32, Refusal>
     requires room { Room n 1 area.old }
-    requires r_value { kind_at exprs.now.table.now r ≡ 3 }
+    requires qualified { kind_at exprs.now.table.now r ≡ 3 }
     requires unmatched { Unmatched exprs.now.texts.catalog.now exprs.now.texts.statement.now exprs.now.table.now
         scope.now.matches.now r }
     ensures { Builds exprs.now.texts.catalog.now exprs.now.texts.statement.now exprs.now.table.now

@@ -16,7 +16,7 @@ use plan::cells;
 // A unary operator, where m is the next cell.
 pub fn unary(area: &mut [u32], m: u32, operator: Unary) -> u32
     requires room { Room m 1 area.old }
-    requires m_nonzero { 0 < m }
+    requires operand_built { 0 < m }
     ensures { Emits (unary_step (unary_operator operator) m) m area.old area.new (Ok result) }
 {
     cells::unary(area, m, operator, m - 1);
@@ -26,7 +26,7 @@ pub fn unary(area: &mut [u32], m: u32, operator: Unary) -> u32
 // The record of `is` at row r.
 pub fn is(table: &[u32], r: usize, area: &mut [u32], m: u32) -> Result<u32, Refusal>
     requires room { Room m 1 area.old }
-    requires m_nonzero { 0 < m }
+    requires operand_built { 0 < m }
     ensures { (c q : Bytes) → Emits
         (is_step (line_at table.now r) (row_literal c q table.now r) m)
         m area.old area.new result }
@@ -42,8 +42,8 @@ pub fn is(table: &[u32], r: usize, area: &mut [u32], m: u32) -> Result<u32, Refu
 // The binary operator at row r: m is the cell behind its left operand, k that behind its right one.
 pub fn binary(table: &[u32], r: usize, area: &mut [u32], m: u32, k: u32) -> u32
     requires room { Room k 3 area.old }
-    requires m_nonzero { 0 < m }
-    requires k_nonzero { 0 < k }
+    requires left_built { 0 < m }
+    requires right_built { 0 < k }
     ensures { Emits (binary_step (binary_at (operator_at table.now r)) m k)
         k area.old area.new (Ok result) }
 {

@@ -100,12 +100,22 @@ in-order (inl e) = (rw e, rw e)
 in-order (inr (inl e)) = (rw e, rw e)
 in-order (inr (inr e)) = (rw e, rw e)
 
--- neither outer nor right
+-- by a kind of join
 pub plain-kind : {k : Kind} → (k ≡ K.Table) ⊎ ((k ≡ K.Cross) ⊎ (k ≡ K.Inner))
-    → (false ≡ outer_kind k) × (false ≡ right_kind k)
-plain-kind (inl e) = (rw e, rw e)
-plain-kind (inr (inl e)) = (rw e, rw e)
-plain-kind (inr (inr e)) = (rw e, rw e)
+    → false ≡ outer_kind k
+plain-kind (inl e) = rw e
+plain-kind (inr (inl e)) = rw e
+plain-kind (inr (inr e)) = rw e
+
+pub outer-joins : {k : Kind} → (k ≡ K.Left) ⊎ (k ≡ K.Right) → true ≡ outer_kind k
+outer-joins (inl e) = rw e
+outer-joins (inr e) = rw e
+
+pub not-right : {k : Kind} → (k ≡ K.Table) ⊎ ((k ≡ K.Cross) ⊎ ((k ≡ K.Inner) ⊎ (k ≡ K.Left))) → false ≡ right_kind k
+not-right (inl e) = rw e
+not-right (inr (inl e)) = rw e
+not-right (inr (inr (inl e))) = rw e
+not-right (inr (inr (inr e))) = rw e
 
 module _ (froms : List ℕ) (r : ℕ) {k : Kind} (e : k ≡ kind_at froms r) where
   pub behind : is_join k ≡ true → 1 ≤ r
@@ -141,10 +151,13 @@ module _ (froms : List ℕ) (r : ℕ) {k : Kind} (e : k ≡ kind_at froms r) whe
         };
       }
 
-  pub joining-is : {a b : Bool} → a ≡ outer_kind k → b ≡ right_kind k
-      → (a ≡ is_outer (join_at froms r)) × (b ≡ is_right (join_at froms r))
+  pub outer-row : {a : Bool} → a ≡ outer_kind k → a ≡ is_outer (join_at froms r)
   unfolding join_at
-  joining-is h g = (rw (← e, outer-is k) h, rw (← e, right_is k) g)
+  outer-row h = rw (← e, outer-is k) h
+
+  pub is-right : {a : Bool} → a ≡ right_kind k → a ≡ is_right (join_at froms r)
+  unfolding join_at
+  is-right h = rw (← e, right_is k) h
 
 -- TREES
 abbrev pub join_row : Bytes → Bytes → List ℕ → List ℕ → ℕ → From → From → From

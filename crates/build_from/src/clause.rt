@@ -39,10 +39,7 @@ fn join_item(
     Ok(Source {
         scope: s,
         line: b.line,
-        at: Step {
-            cell: b.at.cell,
-            node: b.at.node + 1,
-        },
+        at: b.at.next(b.at.cell),
     })
 }
 

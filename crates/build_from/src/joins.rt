@@ -5,7 +5,7 @@ use crate::Source;
 use crate::merges::merge_scopes;
 use crate::predicates::build_predicate;
 use crate::remaps::push_remap;
-use crate::rows::join_kind;
+use crate::rows::{is_outer, is_right};
 use ast::Expressions;
 use from::row;
 use numbers::refusals::Refusal;
@@ -33,10 +33,10 @@ pub fn build_join(
     let s = merge_scopes(&exprs.texts, a.scope, b.scope, b.line)?;
     let p = build_predicate(exprs, froms, r, &s.view(), area, b.at.cell)?;
     let l = row::line(froms, r);
-    let kind = join_kind(froms, r);
+    let outer = is_outer(froms, r);
     let m = b.at.node;
-    nodes::join(nodes, a.at.node - 1, m - 1, kind.outer, p.root);
-    if kind.right {
+    nodes::join(nodes, a.at.node - 1, m - 1, outer, p.root);
+    if is_right(froms, r) {
         push_remap(nodes, m, first, second);
         return Ok(Source {
             scope: s.swap(first, second),

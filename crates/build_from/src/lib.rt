@@ -6,7 +6,7 @@ pub mod joins; // joins.rt: a join from its sides
 pub mod merges; // merges.rt: the scopes of a join's sides, merged
 pub mod predicates; // predicates.rt: a join's predicate
 mod remaps; // remaps.rt: a right join's columns swapped back
-pub mod rows; // rows.rt: a join's sides and its kind
+pub mod rows; // rows.rt: a join's sides, and whether it is outer or right
 mod tables; // tables.rt: a table of FROM
 
 ghost use Rattle.from.specs.Layout.{from_at};

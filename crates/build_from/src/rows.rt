@@ -1,4 +1,4 @@
-// The rows of a join's sides, and its kind.
+// The rows of a join's sides, and whether it is outer or right.
 ghost use Rattle.std.specs.Prelude.{◌≡◌};
 ghost use Rattle.rules.specs.BuildFrom.{is_outer, is_right};
 ghost use Rattle.build_from.specs.Rows.{join_at, SidesAt};
@@ -11,12 +11,6 @@ use from::row::{Kind, kind_of};
 pub struct Sides {
     pub first: u32,
     pub second: u32,
-}
-
-#[derive(Clone, Copy, Debug, PartialEq, Eq)]
-pub struct Joining {
-    pub outer: bool,
-    pub right: bool,
 }
 
 // The sides of the item in row r, none of a table. A right join's right side is built first.
@@ -38,23 +32,22 @@ pub fn rows_of(froms: &[u32], r: u32) -> Option<Sides>
     }
 }
 
-// Whether the join in row r is outer, and whether it is a right one.
-pub fn join_kind(froms: &[u32], r: u32) -> Joining
-    ensures { (result.outer ≡ is_outer (join_at froms.now r)) × (result.right ≡ is_right (join_at froms.now r)) }
+// Whether the join in row r is outer.
+pub fn is_outer(froms: &[u32], r: u32) -> bool
+    ensures { result ≡ is_outer (join_at froms.now r) }
 {
-    let kind = kind_of(froms, r);
-    match kind {
-        Kind::Table | Kind::Cross | Kind::Inner => Joining {
-            outer: false,
-            right: false,
-        },
-        Kind::Left => Joining {
-            outer: true,
-            right: false,
-        },
-        Kind::Right => Joining {
-            outer: true,
-            right: true,
-        },
+    match kind_of(froms, r) {
+        Kind::Table | Kind::Cross | Kind::Inner => false,
+        Kind::Left | Kind::Right => true,
+    }
+}
+
+// Whether it is a right one.
+pub fn is_right(froms: &[u32], r: u32) -> bool
+    ensures { result ≡ is_right (join_at froms.now r) }
+{
+    match kind_of(froms, r) {
+        Kind::Table | Kind::Cross | Kind::Inner | Kind::Left => false,
+        Kind::Right => true,
     }
 }

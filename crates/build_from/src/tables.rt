@@ -36,6 +36,7 @@ fn scan_row(texts: &Texts, froms: &[u32], r: u32, nodes: &mut Nodes)
 }
 
 // The item in row r, which is a table.
+// (It leaves `area` alone: the contract says of it what it says of every item, that it has room and what stands in it.)
 pub fn build_table(
     exprs: &Expressions,
     tables: &[u32],
@@ -63,9 +64,6 @@ pub fn build_table(
     Ok(Source {
         scope: s,
         line: l,
-        at: Step {
-            cell: at.cell,
-            node: at.node + 1,
-        },
+        at: at.next(at.cell),
     })
 }

@@ -21,7 +21,7 @@ collect-on {ys = ys} {zs} k a = listing-on k (within-listed a (omega (arith, k.r
 -- THE ROWS of the entries from the i-th on
 module _ {xs : List ℕ} (parts : List ℕ) (kind i n : ℕ) {s s' : Rows}
     (k : Listing xs (entry_rows parts kind i (n - i)) s s') where
-  pub row_room : i < n → s'.used + 1 ≤ length s'.places.now
+  pub row_room : i < n → s'.used + 1 ≤ length s'.rows.now
   row_room l = omega (arith, k.room, ap length (entries-more parts kind i n l))
 
   pub row_put : {e : Entry} {r : ℕ} {s'' : Rows} → i < n → e ≡ numbers_at parts kind i → r ≡ first_row e
@@ -55,8 +55,8 @@ module _ (c q : Bytes) (t parts : List ℕ) where
   abbrev having : Option Clause → List ℕ
   having x = collect_each_rows c q t (clause_rows x)
 
-  module _ (s : Rows) (h : s.used + length (function_rows c q t parts) ≤ length s.places.now) where
-    pub items-room : s.used + length items ≤ length s.places.now
+  module _ (s : Rows) (h : s.used + length (function_rows c q t parts) ≤ length s.rows.now) where
+    pub items-room : s.used + length items ≤ length s.rows.now
     unfolding function_rows
     items-room = omega (arith, h, length-append items (having (clause_at parts having_kind) ++ keys))
 

@@ -89,12 +89,12 @@ module _ {e : ℕ → Expr} {gs fs rows : List ℕ} {g : ℕ} (k : RowsKept e gs
 -- retained one after the other
 module _ (e : ℕ → Expr) (gs fs : List ℕ) {s s₁ : Rows} (z : s.used ≡ 0) (a : Listed (retained e (rows_in s) gs) s s₁) where
   kept-first : rows_in s₁ ≡ retained_groups e gs
-  kept-first = listed-first z a ∙ ap (λ n. retained e (take n s.places.now) gs) z
+  kept-first = listed-first z a ∙ ap (λ n. retained e (take n s.rows.now) gs) z
 
   groups-first : s₁.used ≡ length (retained_groups e gs)
   groups-first = omega (arith, rw z at a.used)
 
-  pub second-room : length gs + length fs ≤ length s.places.now → s₁.used + length fs ≤ length s₁.places.now
+  pub second-room : length gs + length fs ≤ length s.rows.now → s₁.used + length fs ≤ length s₁.rows.now
   second-room h = omega (arith, h, groups-first, retained-length e [] gs, listed-all a)
 
   pub retained-both : {s₂ : Rows} → Listed (retained e (rows_in s₁) fs) s₁ s₂ → RowsKept e gs fs (rows_in s₂) s₁.used

@@ -51,10 +51,7 @@ fn build_retained(
     let child = scope.add_aggregates(exprs, rows);
     Ok(Stage {
         scope: child,
-        at: Step {
-            cell,
-            node: at.node + 1,
-        },
+        at: at.next(cell),
     })
 }
 
@@ -75,13 +72,10 @@ pub fn build_aggregate(
         (map (tree_in exprs.now) groups.now) (map (tree_in exprs.now) functions.now))
         at.cell at.node area.old nodes.old area.new nodes.new result }
 {
-    let mut places = [0usize; GROUPS + FUNCTIONS];
-    let mut kept = Rows {
-        places: &mut places,
-        used: 0,
-    };
+    let mut rows = [0usize; GROUPS + FUNCTIONS];
+    let mut kept = Rows::new(&mut rows);
     retain(exprs, groups, &mut kept);
     let kept_groups = kept.used;
     retain(exprs, functions, &mut kept);
-    build_retained(exprs, kept.seen(), kept_groups, scope, area, nodes, at)
+    build_retained(exprs, kept.listed(), kept_groups, scope, area, nodes, at)
 }

@@ -34,25 +34,19 @@ pub fn build_groups(
         (functions_at exprs.now.texts.catalog.now exprs.now.texts.statement.now exprs.now.table.now parts.now)
         at.cell at.node area.old nodes.old area.new nodes.new result }
 {
-    let mut places = [0usize; GROUPS];
-    let mut groups = Rows {
-        places: &mut places,
-        used: 0,
-    };
+    let mut rows = [0usize; GROUPS];
+    let mut groups = Rows::new(&mut rows);
     group_rows(parts, &mut groups);
-    let mut places = [0usize; FUNCTIONS];
-    let mut functions = Rows {
-        places: &mut places,
-        used: 0,
-    };
+    let mut rows = [0usize; FUNCTIONS];
+    let mut functions = Rows::new(&mut rows);
     function_rows(exprs, parts, &mut functions);
     if groups.used + functions.used == 0 {
         return Ok(Stage { scope, at });
     }
     build_aggregate(
         exprs,
-        groups.seen(),
-        functions.seen(),
+        groups.listed(),
+        functions.listed(),
         scope,
         area,
         nodes,

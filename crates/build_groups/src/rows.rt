@@ -15,7 +15,7 @@ use statement::access::clause_at;
 
 // The groups.
 pub fn group_rows(parts: &[u32], rows: &mut Rows)
-    requires { rows.old.used + length (section_rows parts.now group_kind) ≤ length rows.old.places.now }
+    requires { rows.old.used + length (section_rows parts.now group_kind) ≤ length rows.old.rows.now }
     ensures { Listed (section_rows parts.now group_kind) rows.old rows.new }
 {
     let n = count(parts, Section::Group);
@@ -27,13 +27,14 @@ pub fn group_rows(parts: &[u32], rows: &mut Rows)
 // The aggregates of a section's entries.
 fn collect_section(exprs: &Expressions, parts: &[u32], kind: Section, rows: &mut Rows)
     requires { rows.old.used + length (collect_each_rows exprs.now.texts.catalog.now exprs.now.texts.statement.now
-        exprs.now.table.now (section_rows parts.now (number_of kind))) ≤ length rows.old.places.now }
+        exprs.now.table.now (section_rows parts.now (number_of kind))) ≤ length rows.old.rows.now }
     ensures { Listed (collect_each_rows exprs.now.texts.catalog.now exprs.now.texts.statement.now exprs.now.table.now
         (section_rows parts.now (number_of kind))) rows.old rows.new }
 {
     let n = count(parts, kind);
     for i in 0..n {
         let r = first_row(entry_at(parts, kind, i));
+        // There is room, so none is lost.
         collect(exprs, r, rows);
     }
 }
@@ -41,12 +42,13 @@ fn collect_section(exprs: &Expressions, parts: &[u32], kind: Section, rows: &mut
 // The aggregates of the items, of HAVING and of ORDER.
 pub fn function_rows(exprs: &Expressions, parts: &[u32], rows: &mut Rows)
     requires { rows.old.used + length (function_rows exprs.now.texts.catalog.now exprs.now.texts.statement.now
-        exprs.now.table.now parts.now) ≤ length rows.old.places.now }
+        exprs.now.table.now parts.now) ≤ length rows.old.rows.now }
     ensures { Listed (function_rows exprs.now.texts.catalog.now exprs.now.texts.statement.now exprs.now.table.now parts.now)
         rows.old rows.new }
 {
     collect_section(exprs, parts, Section::Item, rows);
     if let Some(having) = clause_at(parts, Section::Having) {
+        // There is room, so none is lost.
         collect(exprs, having.row, rows);
     }
     collect_section(exprs, parts, Section::Order, rows);

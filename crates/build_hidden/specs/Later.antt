@@ -39,7 +39,7 @@ pub record KeysFit (cells parts : List ℕ) (s : Rows) : Type 0 where
   pub c : Bytes
   pub q : Bytes
   pub table : length cells ≡ table_size
-  pub fits : s.used + total size (expressions_of (keys_at c q cells parts)) ≤ length s.places.now
+  pub fits : s.used + total size (expressions_of (keys_at c q cells parts)) ≤ length s.rows.now
 
 -- the rows of the keys stand behind those of s
 pub record KeysVisited (cells parts : List ℕ) (s s' : Rows) : Type 0 where
@@ -52,7 +52,7 @@ pub record LaterFit (cells parts : List ℕ) (s : Rows) : Type 0 where
   pub c : Bytes
   pub q : Bytes
   pub table : length cells ≡ table_size
-  pub fits : (froms : List ℕ) → s.used + total size (later_of (select_at c q cells froms parts)) ≤ length s.places.now
+  pub fits : (froms : List ℕ) → s.used + total size (later_of (select_at c q cells froms parts)) ≤ length s.rows.now
 
 pub record LaterVisited (cells parts : List ℕ) (s s' : Rows) : Type 0 where
   pub seen : List ℕ

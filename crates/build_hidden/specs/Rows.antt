@@ -14,7 +14,7 @@ use Rattle.build_hidden.specs.Visits.{Walks, Walking, walking-begin, walking-end
 pub record RowsFit (t : List ℕ) (r : ℕ) (s : Rows) : Type 0 where
   pub c : Bytes
   pub q : Bytes
-  pub fits : s.used + size (tree_at c q t r) ≤ length s.places.now
+  pub fits : s.used + size (tree_at c q t r) ≤ length s.rows.now
 
 -- the rows of the walk of the tree at row r, whose answer is b, stand behind those of s
 pub record RowsVisited (t : List ℕ) (r : ℕ) (s s' : Rows) (b : Bool) : Type 0 where
@@ -56,7 +56,7 @@ pub record Visiting (t : List ℕ) (r : ℕ) (any : Bool) (s : Rows) (k p : ℕ)
   pub most : (c q : Bytes) → suc (length seen) + size_all (arguments_at (tree_at c q t) t k p) ≤ size (tree_at c q t r)
 
 -- the row itself
-pub first_fits : {t : List ℕ} {r : ℕ} {s : Rows} → RowsFit t r s → s.used + 1 ≤ length s.places.now
+pub first_fits : {t : List ℕ} {r : ℕ} {s : Rows} → RowsFit t r s → s.used + 1 ≤ length s.rows.now
 first_fits {t} {r} f = omega (arith, f.fits, size-some f.c f.q t r)
 
 pub visiting-begin : (t : List ℕ) (r : ℕ) {s s' : Rows} {b : Bool} (k : ℕ) → Listed (r ∷ []) s s'

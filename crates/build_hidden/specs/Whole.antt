@@ -10,7 +10,7 @@ use Rattle.build_hidden.specs.Later.{LaterFit}
 
 -- there are places for all rows
 pub later-fits : {c q : Bytes} {cells parts labels matches tables : List ℕ} {child : Scope} {positions : List ℕ} (s : Rows)
-    → Hideable c q cells parts labels matches tables child positions → s.used ≡ 0 → length s.places.now ≡ most_cells
+    → Hideable c q cells parts labels matches tables child positions → s.used ≡ 0 → length s.rows.now ≡ most_cells
     → LaterFit cells parts s
 later-fits {c} {q} s f z e = record {
   c = c;

@@ -33,11 +33,8 @@ pub fn build_select_hidden(
         parts.now parent.now.labels.now parent.now.matches.now
         parent.now.tables.now child positions.old positions.new result }
 {
-    let mut places = [0usize; STATEMENT_ROWS as usize];
-    let mut rows = Rows {
-        places: &mut places,
-        used: 0,
-    };
+    let mut room = [0usize; STATEMENT_ROWS as usize];
+    let mut rows = Rows::new(&mut room);
     later_rows(exprs.table, parts, &mut rows);
-    hide_rows(exprs, rows.seen(), parent, child, positions)
+    hide_rows(exprs, rows.listed(), parent, child, positions)
 }

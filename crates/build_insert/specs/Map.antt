@@ -73,7 +73,7 @@ module _ (c : ℕ) where
   mapped-behind p ps i (suc n) =
       ap (λ (b : Bool). elim (eqb (get_or ps i 0) c) [ true ↦ true | false ↦ b ]) (mapped-behind p ps (suc i) n)
 
-  mapped-all : (ps : List ℕ) → list_any (λ y. eqb y c) ps ≡ mapped (cindex c) (mappings ps 0 (length ps))
+  pub mapped-all : (ps : List ℕ) → list_any (λ y. eqb y c) ps ≡ mapped (cindex c) (mappings ps 0 (length ps))
   unfolding mapped any mappings same_position
   mapped-all [] = refl
   mapped-all (p ∷ ps) = go (eqb p c)
@@ -86,8 +86,8 @@ module _ (c : ℕ) where
 
   -- among the first n values
   pub mapped-first : (ps : List ℕ) (n : ℕ) → n ≤ length ps
-      → list_any (λ y. eqb y c) (take n ps) ≡ mapped (cindex c) (mappings ps 0 n)
-  mapped-first ps n h = mapped-all (take n ps) ∙ ap (mapped (cindex c)) (mappings-first ps n h)
+      → mapped (cindex c) (mappings (take n ps) 0 (length (take n ps))) ≡ mapped (cindex c) (mappings ps 0 n)
+  mapped-first ps n h = ap (mapped (cindex c)) (mappings-first ps n h)
 
 -- THE NAMES
 -- the columns of the i-th table
@@ -118,6 +118,11 @@ abbrev pub Within : List ℕ → Result (std.Option ℕ) Refusal → Type 0
 Within ps (Ok None) = ⊤
 Within ps (Ok (Some n)) = n ≤ length ps
 Within ps (Err w) = ⊤
+
+-- the number of values of a map that there is
+abbrev pub given_count : Result ℕ Refusal → Result (std.Option ℕ) Refusal
+given_count (Ok n) = Ok (Some n)
+given_count (Err w) = Err w
 
 pub record Maps (a : Answer (Option (List Mapping))) (ps ps' : List ℕ) (r : Result (std.Option ℕ) Refusal) : Type 0 where
   pub kept : length ps' ≡ length ps

@@ -37,7 +37,7 @@ fn end_insert(
     cells: u32,
 )
     requires area_room { least_area ≤ length area.old }
-    requires cells_le_most_plan_cells { cells ≤ most_plan_cells }
+    requires few_cells { cells ≤ most_plan_cells }
     requires map_fits { MapFits (given_map (option_copied columns)) nodes.old }
     ensures { InsertEnds texts.now.catalog.now texts.now.statement.now name.address name.length
         (given_map (option_copied columns.entry)) cells nodes.old nodes.new area.old area.new }

@@ -1,5 +1,5 @@
 // The column map of INSERT: the column of each value, where the statement names columns.
-ghost use Rattle.std.specs.Prelude.{◌≡◌, ◌≤◌, ◌<◌, length, set, get_or};
+ghost use Rattle.std.specs.Prelude.{◌≡◌, ◌≤◌, ◌<◌, length, set};
 ghost use Rattle.std.proofs.Math.Option.{some};
 ghost use Rattle.rules.specs.Plan.{cindex};
 ghost use Rattle.rules.specs.BuildStatement.{mapped, column_map};
@@ -10,7 +10,6 @@ ghost use Rattle.build_insert.specs.Map as map;
 
 use ast::Expressions;
 use entries::Section;
-use numbers::number;
 use numbers::refusals::{Reason, Refusal};
 use schema::column_at;
 use sections::entry;
@@ -24,13 +23,6 @@ pub struct TablePosition(pub u32);
 #[derive(Clone, Copy, Debug, PartialEq, Eq)]
 pub struct ValuePosition(pub u32);
 
-// The column that a value is for.
-pub fn column_of(columns: &[u32], value: ValuePosition) -> TablePosition
-    ensures { result.0 ≡ get_or columns.now value.0 0 }
-{
-    TablePosition(number(columns, value.0 as usize))
-}
-
 // A value is for a column.
 fn map_value(columns: &mut [u32], value: ValuePosition, column: TablePosition)
     requires { value.0 < length columns.old }
@@ -40,28 +32,27 @@ fn map_value(columns: &mut [u32], value: ValuePosition, column: TablePosition)
     columns[i] = column.0;
 }
 
-// Whether a column is among those of the first n values.
-fn is_mapped(columns: &[u32], n: u32, column: TablePosition) -> bool
-    requires { n ≤ length columns.now }
-    ensures { result ≡ mapped (cindex column.0) (map.mappings columns.now 0 n) }
+// Whether a column is among the values' columns.
+fn is_mapped(columns: &[u32], column: TablePosition) -> bool
+    ensures { result ≡ mapped (cindex column.0) (map.mappings columns.now 0 (length columns.now)) }
 {
-    columns[..n as usize].contains(&column.0)
+    columns.contains(&column.0)
 }
 
-// The column of each name in the i-th table, in order. Refused at the name of no column, and at one that was given before.
+// The column of each name in the i-th table, in order, and how many there are. Refused at the name of no column, and at one that was given before.
 fn map_names(
     exprs: &Expressions,
     tables: &[u32],
     i: u32,
     parts: &[u32],
     columns: &mut [u32],
-) -> Result<Option<u32>, Refusal>
+) -> Result<u32, Refusal>
     requires { length (section_at exprs.now.texts.catalog.now exprs.now.texts.statement.now exprs.now.table.now parts.now
         name_kind) ≤ length columns.old }
     ensures { map.Maps
         (column_map (table_at exprs.now.texts.catalog.now exprs.now.texts.statement.now tables.now i).columns
         (some (map.names_at exprs.now.texts.catalog.now exprs.now.texts.statement.now exprs.now.table.now parts.now)))
-        columns.old columns.new result }
+        columns.old columns.new (map.given_count result) }
 {
     let count = entry::count(parts, Section::Name);
     for v in 0..count {
@@ -72,12 +63,12 @@ fn map_names(
             return Err(Reason::UnknownInsertColumn.at(e.line));
         };
         let column = TablePosition(j);
-        if is_mapped(columns, v, column) {
+        if is_mapped(&columns[..v as usize], column) {
             return Err(Reason::RepeatedInsertColumn.at(e.line));
         }
         map_value(columns, ValuePosition(v), column);
     }
-    Ok(Some(count))
+    Ok(count)
 }
 
 // The statement's map into the i-th table: of how many values, or none. A `columns` of no names is not no `columns`.
@@ -98,5 +89,6 @@ pub fn column_map(
     if entry::count(parts, Section::Columns) == 0 {
         return Ok(None);
     }
-    map_names(exprs, tables, i, parts, columns)
+    let count = map_names(exprs, tables, i, parts, columns)?;
+    Ok(Some(count))
 }

@@ -10,7 +10,6 @@ ghost use Rattle.plan.specs.Places.{place_numbers};
 ghost use Rattle.build_insert.specs.Map.{mappings, given_map};
 ghost use Rattle.build_insert.specs.Own.{map_numbers_of, MapFits};
 
-use crate::map::{ValuePosition, column_of};
 use plan::nodes::Nodes;
 use plan::own::{insert, mapping};
 use text::places::Place;
@@ -21,10 +20,8 @@ fn put_mappings(columns: &[u32], nodes: &mut Nodes)
     requires room { nodes.old.used + mapping_size * length columns.now ≤ length nodes.old.numbers.now }
     ensures { Pushed (map_numbers_of (mappings columns.now 0 (length columns.now))) nodes.old nodes.new }
 {
-    for v in 0..columns.len() {
-        let value = ValuePosition(v as u32);
-        let column = column_of(columns, value);
-        mapping(nodes, column.0, value.0);
+    for (v, &column) in columns.iter().enumerate() {
+        mapping(nodes, column, v as u32);
     }
 }
 

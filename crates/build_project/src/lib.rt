@@ -70,9 +70,6 @@ pub fn build_projection(
     end(nodes, start);
     Ok(Stage {
         scope: widened,
-        at: Step {
-            cell: cell + widened.hidden,
-            node: at.node + 1,
-        },
+        at: at.next(cell + widened.hidden),
     })
 }

@@ -1,5 +1,6 @@
 -- The row of an item and the place of its alias, by the item's number.
 use Rattle.std.specs.Prelude.{ℕ, ◌≤◌, ◌<◌, ◌≡◌, refl, Bool, true, false, List, [], ◌∷◌, ltb, length}
+use Rattle.std.proofs.Common.{ap, sym, ◌∙◌}
 use borrow.Author.Tests.{lt-ltb, le-ltb}
 use Rattle.rules.specs.Lists.{Bytes}
 use Rattle.rules.specs.Places.{bytes_at, word_at}
@@ -11,6 +12,7 @@ use Rattle.sections.specs.Expressions.{first_row}
 use Rattle.sections.specs.declared.entry.Entry.{Entry}
 use Rattle.std.specs.Prelude as std
 use Rattle.text.specs.declared.places.Place.{Place}
+use Rattle.text.specs.Places.{option_numbers}
 use Rattle.statement.specs.Access.{name_or}
 use Rattle.statement.specs.EntryAccess.{word_of}
 use Rattle.build_projection.specs.Stars.{starred_at}
@@ -29,6 +31,17 @@ alias_length c q parts x = elim (ltb x statement_rows) [
   | false ↦ 0
 ]
 
+-- the place of its alias, as many bytes of it as there are
+unfoldable pub clipped_place : Bytes → Bytes → std.Option Place → std.Option Place
+clipped_place c q std.None = std.None
+clipped_place c q (std.Some p) = std.Some (record { address = p.address; length = length (bytes_at c q p.address p.length) })
+
+unfoldable pub alias_place : Bytes → Bytes → List ℕ → ℕ → std.Option Place
+alias_place c q parts x = elim (ltb x statement_rows) [
+  | true ↦ clipped_place c q (numbers_at parts item_kind x).name
+  | false ↦ std.None
+]
+
 -- its expression is the tree at its row
 pub item-tree : (c q : Bytes) (cells parts : List ℕ) (x : ℕ)
     → (item_of c q cells parts x).expr ≡ tree_at c q cells (row_of parts x)
@@ -44,27 +57,24 @@ module _ (parts : List ℕ) (x : ℕ) where
   unfolding row_of
   row-starred h = rw (row_of, le-ltb x statement_rows h)
 
-  pub address-starred : statement_rows ≤ x → 0 ≡ alias_address parts x
-  unfolding alias_address
-  address-starred h = rw (alias_address, le-ltb x statement_rows h)
-
-  pub length-starred : (c q : Bytes) → statement_rows ≤ x → 0 ≡ alias_length c q parts x
-  unfolding alias_length
-  length-starred c q h = rw (alias_length, le-ltb x statement_rows h)
+  pub place-starred : (c q : Bytes) → statement_rows ≤ x → std.None ≡ alias_place c q parts x
+  unfolding alias_place
+  place-starred c q h = rw (alias_place, le-ltb x statement_rows h)
 
   module _ (h : x < statement_rows) (e : Entry) (g : e ≡ numbers_at parts item_kind x) where
     pub row-entry : (r : ℕ) → r ≡ first_row e → r ≡ row_of parts x
     unfolding row_of
     row-entry r f = rw (row_of, lt-ltb x statement_rows h, ← g) f
 
-    pub address-entry : (p : Place) → p ≡ name_or e.name → p.address ≡ alias_address parts x
-    unfolding alias_address
-    address-entry p f = rw (alias_address, lt-ltb x statement_rows h, ← g, f)
+    pub place-none : (c q : Bytes) → e.name ≡ std.None → std.None ≡ alias_place c q parts x
+    unfolding alias_place clipped_place
+    place-none c q f = rw (alias_place, lt-ltb x statement_rows h, ← g, f)
 
-    pub length-entry : (c q : Bytes) (a : Place) (r : ℕ) → a ≡ name_or e.name → r ≡ length (bytes_at c q a.address a.length)
-        → r ≡ alias_length c q parts x
-    unfolding alias_length word_at
-    length-entry c q a r f l = rw (alias_length, lt-ltb x statement_rows h, ← g, ← f) l
+    pub place-some : (c q : Bytes) {o p : Place} → e.name ≡ std.Some o → p.address ≡ o.address
+        → p.length ≡ length (bytes_at c q o.address o.length) → std.Some p ≡ alias_place c q parts x
+    unfolding alias_place clipped_place
+    place-some c q f a l = rw (alias_place, lt-ltb x statement_rows h, ← g, f)
+        (λ i. std.Some (record { address = a i; length = l i }))
 
 -- the place of its alias, as a plan has it
 entry-span : (c q : Bytes) (o : std.Option Place)
@@ -72,6 +82,35 @@ entry-span : (c q : Bytes) (o : std.Option Place)
 unfolding option_span span word_at bytes_at option_name name_or
 entry-span c q std.None = refl
 entry-span c q (std.Some p) = refl
+
+entry_numbers : (c q : Bytes) (o : std.Option Place) → option_numbers (clipped_place c q o)
+    ≡ (name_or o).address ∷ length (word_at c q (name_or o).address (name_or o).length).bytes ∷ []
+unfolding word_at bytes_at clipped_place name_or
+entry_numbers c q std.None = refl
+entry_numbers c q (std.Some p) = refl
+
+pub alias-numbers : (c q : Bytes) (parts : List ℕ) (x : ℕ)
+    → option_numbers (alias_place c q parts x) ≡ alias_address parts x ∷ alias_length c q parts x ∷ []
+unfolding alias_place alias_address alias_length
+alias-numbers c q parts x = go (ltb x statement_rows) refl
+  where
+    go : (b : Bool) → ltb x statement_rows ≡ b
+        → option_numbers (alias_place c q parts x) ≡ alias_address parts x ∷ alias_length c q parts x ∷ []
+    go true e = rw (alias_place, alias_address, alias_length, e) (entry_numbers c q (numbers_at parts item_kind x).name)
+    go false e = rw (alias_place, alias_address, alias_length, e)
+
+module _ (c q : Bytes) (parts : List ℕ) (x : ℕ) {o : std.Option Place} (f : o ≡ alias_place c q parts x) where
+  pub alias-some : {p : Place} → o ≡ std.Some p → (p.address ≡ alias_address parts x) × (p.length ≡ alias_length c q parts x)
+  alias-some {p} e =
+      let y : p.address ∷ p.length ∷ [] ≡ alias_address parts x ∷ alias_length c q parts x ∷ [] =
+      sym (ap option_numbers e) ∙ ap option_numbers f ∙ alias-numbers c q parts x in
+      (cc, cc)
+
+  pub alias-none : o ≡ std.None → alias_length c q parts x ≡ 0
+  alias-none e =
+      let y : 0 ∷ 0 ∷ [] ≡ alias_address parts x ∷ alias_length c q parts x ∷ [] =
+      sym (ap option_numbers e) ∙ ap option_numbers f ∙ alias-numbers c q parts x in
+      cc
 
 pub alias-span : (c q : Bytes) (cells parts : List ℕ) (x : ℕ)
     → option_span (item_of c q cells parts x).alias ≡ alias_address parts x ∷ alias_length c q parts x ∷ []

@@ -50,9 +50,10 @@ pub fn item_label(
     ensures { result ≡ label_number exprs.now.texts.catalog.now exprs.now.texts.statement.now exprs.now.table.now parts.now
         scope.now.labels.now scope.now.matches.now scope.now.tables.now x }
 {
-    let alias = alias_at(&exprs.texts, parts, x);
-    if alias.length != 0 {
-        return label(0, alias);
+    if let Some(alias) = alias_at(&exprs.texts, parts, x) {
+        if alias.length != 0 {
+            return label(0, alias);
+        }
     }
     let r = item_row(parts, x);
     if used.matches.len() == 0 {

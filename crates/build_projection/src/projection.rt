@@ -5,7 +5,7 @@ ghost use Rattle.rules.specs.Ast.{size};
 ghost use Rattle.plan.specs.Cells.{Room};
 ghost use Rattle.plan.specs.Layout.{item_size};
 ghost use Rattle.build_projection.specs.Items.{item_of};
-ghost use Rattle.build_projection.specs.Aliases.{row_of, alias_address, alias_length};
+ghost use Rattle.build_projection.specs.Aliases.{row_of, alias_place};
 ghost use Rattle.build_projection.specs.Labels.{label_number};
 ghost use Rattle.build_projection.specs.Pushes.{ItemPut, ItemsFit, ItemsPut, Labelled};
 
@@ -19,7 +19,6 @@ use plan::nodes::Nodes;
 use plan::parts::item;
 use scope::view::View;
 use sections::entry::{entry_at, first_row};
-use statement::access::name_or;
 use text::places::{Place, Texts};
 
 // The row of item x.
@@ -33,22 +32,16 @@ pub fn item_row(parts: &[u32], x: u32) -> usize
     x as usize
 }
 
-// The place of its alias, as many bytes of it as there are; 0 0 for none.
-pub(crate) fn alias_at(texts: &Texts, parts: &[u32], x: u32) -> Place
-    ensures { result ≡ record {
-      address = alias_address parts.now x;
-      length = alias_length texts.now.catalog.now
-          texts.now.statement.now parts.now x;
-    } }
+// The place of its alias, as many bytes of it as there are.
+pub(crate) fn alias_at(texts: &Texts, parts: &[u32], x: u32) -> Option<Place>
+    ensures { result ≡ alias_place texts.now.catalog.now texts.now.statement.now parts.now x }
 {
     if x < STATEMENT_ROWS {
         let e = entry_at(parts, Section::Item, x);
-        return texts.clipped(name_or(e.name));
+        let name = e.name?;
+        return Some(texts.clipped(name));
     }
-    Place {
-        address: 0,
-        length: 0,
-    }
+    None
 }
 
 // Item x: its cells, and its part of the record. Gives the next cell.
@@ -71,7 +64,7 @@ fn put_item(
     let row = item_row(parts, x);
     let next = build_item(exprs, row, scope, area, cell)?;
     let alias = alias_at(&exprs.texts, parts, x);
-    item(nodes, next - 1, Some(alias));
+    item(nodes, next - 1, alias);
     Ok(next)
 }
 

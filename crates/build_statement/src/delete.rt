@@ -29,7 +29,7 @@ fn end_delete(
     cells: u32,
 )
     requires free { Free area.old nodes.old }
-    requires cells_le_most_plan_cells { cells ≤ most_plan_cells }
+    requires few_cells { cells ≤ most_plan_cells }
     ensures { DeleteEnds texts.now.catalog.now texts.now.statement.now tables.now i name.address name.length cells
         area.old area.new }
 {

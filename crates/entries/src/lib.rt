@@ -1,16 +1,15 @@
 // What one record of a section says (specs/Entries.antt).
 #![tactic(auto)]
 
-ghost use Rattle.std.specs.Prelude.{◌≡◌, ℕ, ◌-◌, ◌≤◌, ◌<◌, get_or, take, drop, Some, None};
+ghost use Rattle.std.specs.Prelude.{◌≡◌, ℕ, ◌-◌, ◌≤◌, Some, None};
 ghost use Rattle.std.proofs.Math.Option.{Option, none, some};
 ghost use Rattle.rules.specs.Refusals.{statement};
 ghost use Rattle.rules.specs.Limits.{most_bytes};
 ghost use Rattle.rules.specs.Lists.{named, map_option};
 ghost use Rattle.rules.specs.Lines.{Word};
-ghost use Rattle.rules.specs.ReadColumn.{datatypes, nullness};
+ghost use Rattle.rules.specs.ReadColumn.{nullness};
 ghost use Rattle.rules.specs.ReadStatement as rules;
 ghost use Rattle.numbers.specs.Options.{option_of};
-ghost use Rattle.numbers.specs.Datatypes.{type_of};
 ghost use Rattle.text.specs.Lines.{field};
 ghost use Rattle.text.specs.Reading.{field_of};
 ghost use Rattle.text.specs.Fields.{Inside};
@@ -74,14 +73,6 @@ pub struct Head {
     pub words: Option<Words>,
 }
 
-// Field i of a line.
-fn field(t: &[u8], f: Line, i: usize) -> &[u8]
-    requires { i < 12 }
-    ensures { result.now ≡ take (get_or f.lens i 0) (drop (get_or f.starts i 0) t.now) }
-{
-    text::part(t, f.starts[i], f.lens[i])
-}
-
 // A record that says no more than how many expressions follow it.
 fn plain(expressions: u32) -> Head
     ensures { result ≡ saying expressions None None }
@@ -142,7 +133,7 @@ fn order(t: &[u8], p: usize, f: Line) -> Option<Head>
         return None;
     }
     let table: [(&[u8], bool); 2] = [(b"asc", false), (b"desc", true)];
-    let descends = beside(&table, field(t, f, 1))?;
+    let descends = beside(&table, f.field(t, 1))?;
     Some(Head {
         expressions: 1,
         name: None,
@@ -169,7 +160,7 @@ fn row(t: &[u8], p: usize, f: Line) -> Option<Head>
     if f.count != 2 {
         return None;
     }
-    let v = text::count(t, f.starts[1], f.lens[1])?;
+    let v = text::count(f.field(t, 1))?;
     Some(plain(v as u32))
 }
 
@@ -208,29 +199,16 @@ fn set(t: &[u8], p: usize, f: Line, last: Option<Place>) -> Option<Head>
     }
     let a = f.starts[1];
     let m = f.lens[1];
-    if !rises(t, last, field(t, f, 1)) {
+    if !rises(t, last, f.field(t, 1)) {
         return None;
     }
     if n == 2 {
         return name_head(t, a, m, 1);
     }
-    if !text::equal(b"default", field(t, f, 2)) {
+    if !text::equal(b"default", f.field(t, 2)) {
         return None;
     }
     name_head(t, a, m, 0)
-}
-
-// The type that a word names.
-fn datatype(word: &[u8]) -> Option<DataType>
-    ensures { map_option type_of (option_of result) ≡ named datatypes word.now }
-{
-    let table: [(&[u8], DataType); 4] = [
-        (b"bool", DataType::Boolean),
-        (b"int", DataType::Integer),
-        (b"float", DataType::Float),
-        (b"text", DataType::String),
-    ];
-    beside(&table, word)
 }
 
 // What a word says of nulls: that they are allowed, that they are not, or neither.
@@ -258,12 +236,12 @@ fn column_words(t: &[u8], f: Line, name: Place, reference: Option<Place>) -> Opt
     ensures { (w : Word) (r : Option Word) → NameIs t.now (some w) (Some name) → NameIs t.now r reference
         → HeadIs t.now (column_said w (field_of statement t.now f) r) result }
 {
-    let datatype = datatype(field(t, f, 2))?;
-    let key = flag(b"pk", field(t, f, 3))?;
-    let nullable = nullable(field(t, f, 4))?;
-    let unique = flag(b"unique", field(t, f, 5))?;
-    let index = flag(b"index", field(t, f, 6))?;
-    let default = flag(b"default", field(t, f, 7))?;
+    let datatype = words::datatype(f.field(t, 2))?;
+    let key = flag(b"pk", f.field(t, 3))?;
+    let nullable = nullable(f.field(t, 4))?;
+    let unique = flag(b"unique", f.field(t, 5))?;
+    let index = flag(b"index", f.field(t, 6))?;
+    let default = flag(b"default", f.field(t, 7))?;
     Some(Head {
         expressions: u32::from(default),
         name: Some(name),
@@ -351,7 +329,7 @@ pub fn entry_head(
     ensures { (l c k : ℕ) → IsHead t.now (number_of kind) (last_name t.now last) at.line
         (here t.now at.position l c k) result }
 {
-    if text::packed(t, f.starts[0], f.lens[0]) != keyword(kind) {
+    if text::packed(f.field(t, 0)) != keyword(kind) {
         return Ok(None);
     }
     match fields_head(t, at.position, f, kind, last) {

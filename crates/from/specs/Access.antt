@@ -1,8 +1,8 @@
 -- FROM's rows by name, and the tree at a row by its kind: in all rows and at every row.
 use Prim.Native.Nat.{ℕ, zero, suc, ◌+◌, ◌-◌, ◌≤◌, ◌<◌}
-use Rattle.std.proofs.Common.{arith, sub-one, sym, ap, ◌∙◌}
+use Rattle.std.proofs.Common.{arith, sym, ap, ◌∙◌}
 use Rattle.std.proofs.Math.Decide.{dec_lt}
-use Rattle.std.specs.Prelude.{◌≡◌, refl, List, [], ◌∷◌}
+use Rattle.std.specs.Prelude.{◌≡◌, refl, List, [], ◌∷◌, SomeIff}
 use Rattle.std.proofs.Math.Option.{Option, none, some}
 use Rattle.rules.specs.Lists.{Bytes}
 use Rattle.rules.specs.Places.{word_at}
@@ -38,11 +38,6 @@ module _ (froms : List ℕ) (r : ℕ) where
   alias_length = at froms r 6
 
 -- PREDICATES
--- what stands for a predicate's row: 0 where there is none
-abbrev pub number_of_row : std.Option ℕ → ℕ
-number_of_row std.None = 0
-number_of_row (std.Some r) = r + 1
-
 unfoldable pub predicate_row : ℕ → std.Option ℕ
 predicate_row zero = std.None
 predicate_row (suc r) = std.Some r
@@ -56,15 +51,12 @@ unfolding predicate_at predicate_of predicate_row
 predicate-at b q cells zero = refl
 predicate-at b q cells (suc r) = refl
 
-pub predicate-none : (x : ℕ) → x ≡ 0 → std.None ≡ predicate_row x
+pub predicate-before : (x : ℕ) (o : std.Option ℕ) → SomeIff o (1 ≤ x) (x - 1) → o ≡ predicate_row x
 unfolding predicate_row
-predicate-none zero h = refl
-predicate-none (suc x) h = absurd (omega arith)
-
-pub predicate-some : (x : ℕ) → (x ≡ 0 → ⊥) → std.Some (x - 1) ≡ predicate_row x
-unfolding predicate_row
-predicate-some zero h = absurd (h refl)
-predicate-some (suc x) h = rw (sub-one (suc x))
+predicate-before zero std.None h = refl
+predicate-before zero (std.Some r) h = absurd (omega (arith, h.0))
+predicate-before (suc x) std.None h = absurd (omega (arith, h))
+predicate-before (suc x) (std.Some r) h = let e : r ≡ x = omega (arith, h.0, h.1) in rw e
 
 -- KINDS
 -- the kind by its number

@@ -7,7 +7,7 @@ use Rattle.std.proofs.Math.ListN.{length}
 use Rattle.rules.specs.Limits.{most_bytes}
 use Rattle.rules.specs.Refusals.{statement}
 use Rattle.rules.specs.Lists.{Bytes, same, named, any, map_option}
-use Rattle.rules.specs.Lines.{bytes}
+use Rattle.rules.specs.Lines.{Word, bytes}
 use Rattle.rules.specs.Ast.{Join}
 use Rattle.rules.specs.Reader.{base_address, key, rest, line_here, apply, one_of, name, word, both, two_fields, optional_name, name_alias}
 use Rattle.rules.specs.ReadStatement.{FromHead, joins, predicates, from_heads}
@@ -137,36 +137,36 @@ unfolding both
 neither none = refl
 neither (some a) = refl
 
-module _ (t : Bytes) (a n b m : ℕ) (es : List (Bor (List ℕ) × Kind))
+module _ (w v : Word) (es : List (Bor (List ℕ) × Kind))
     (e : map {B = Bytes × ℕ} (λ x. (x.0.now, number_of x.1)) es ≡ map (λ x. (x.0, join_number x.1)) joins) {r : std.Option Kind}
-    (h : r ≡ beside es (take n (drop a t))) where
-  joins-is : option_of (option_map number_of r) ≡ map_option join_number (word joins (field most_bytes t a n))
-  unfolding word field
-  joins-is = rw h (beside-numbers number_of join_number (take n (drop a t)) es joins e)
+    (h : r ≡ beside es w.bytes) where
+  joins-is : option_of (option_map number_of r) ≡ map_option join_number (word joins w)
+  unfolding word
+  joins-is = rw h (beside-numbers number_of join_number w.bytes es joins e)
 
-  pub join-none : r ≡ None → join_fields (field most_bytes t a n ∷ field most_bytes t b m ∷ []) ≡ none
+  pub join-none : r ≡ None → join_fields (w ∷ v ∷ []) ≡ none
   unfolding join_fields map_option two_fields both
   join-none z = rw (no-join _ (rw z at joins-is))
 
   module _ (fs : List (Bor (List ℕ) × Bool)) (f : map (λ x. (x.0.now, x.1)) fs ≡ predicates) {o : std.Option Bool}
-      (g : o ≡ beside fs (take m (drop b t))) where
-    predicates-is : word predicates (field most_bytes t b m) ≡ option_of o
-    unfolding word field
-    predicates-is = sym (rw g (whole (beside fs (take m (drop b t))) ∙ beside-named (λ x. x) (take m (drop b t)) fs
-        ∙ ap (λ x. named x (take m (drop b t))) f))
+      (g : o ≡ beside fs v.bytes) where
+    predicates-is : word predicates v ≡ option_of o
+    unfolding word
+    predicates-is = sym (rw g (whole (beside fs v.bytes) ∙ beside-named (λ x. x) v.bytes fs
+        ∙ ap (λ x. named x v.bytes) f))
       where
         whole : (o : std.Option Bool) → option_of o ≡ option_of (option_map (λ x. x) o)
         whole (Some x) = refl
         whole None = refl
 
-    pub predicate-none : o ≡ None → join_fields (field most_bytes t a n ∷ field most_bytes t b m ∷ []) ≡ none
+    pub predicate-none : o ≡ None → join_fields (w ∷ v ∷ []) ≡ none
     unfolding join_fields map_option two_fields
-    predicate-none z = rw (predicates-is, z, neither (word joins (field most_bytes t a n)))
+    predicate-none z = rw (predicates-is, z, neither (word joins w))
 
-    pub join-some : (l : ℕ) (k : Kind) (on : Bool) → r ≡ Some k → o ≡ Some on
-        → IsFromRow t l (join_fields (field most_bytes t a n ∷ field most_bytes t b m ∷ [])) (Some (record { said = S.Join k on; next = l }))
+    pub join-some : (t : Bytes) (l : ℕ) (k : Kind) (on : Bool) → r ≡ Some k → o ≡ Some on
+        → IsFromRow t l (join_fields (w ∷ v ∷ [])) (Some (record { said = S.Join k on; next = l }))
     unfolding RowSays Says join_fields map_option two_fields both
-    join-some l k on z y =
+    join-some t l k on z y =
         let u = join-of k _ (rw z at joins-is) in
         record {
           says = rw (u.is, predicates-is, y) (record {

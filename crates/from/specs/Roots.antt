@@ -77,9 +77,6 @@ module _ (froms : List ℕ) where
     pub is : c + length (roots_before froms n) ≡ length (roots_before froms N)
     pub few : c + n ≤ N
 
-  pub counts-begin : (N : ℕ) → Counts N N 0
-  counts-begin N = record { is = omega arith; few = omega arith }
-
   pub counts-on : (N n c f : ℕ) → (n ≡ 0 → ⊥) → f ≡ first_at froms (n - 1) → Counts N n c → Counts N f (c + 1)
   counts-on N zero c f z e h = absurd (z refl)
   counts-on N (suc r) c f z e h =

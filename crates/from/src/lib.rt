@@ -14,7 +14,8 @@ ghost use Rattle.read_expression.specs.Reading.{Position, Given};
 ghost use Rattle.from.specs.Numbers.{number_of};
 ghost use Rattle.from.specs.Records.{alias_first, alias_second};
 ghost use Rattle.from.specs.Terms.{FromsRead};
-ghost use Rattle.from.specs.Access.{number_of_row};
+ghost use Rattle.rules.specs.Area.{option_number};
+ghost use Rattle.numbers.specs.Options.{option_of};
 ghost use Rattle.from.specs.Trees.{Closed, TreeReady, TreeRead};
 ghost use Rattle.from.specs.Turns.{TreeBegun, RowsBegun, TurnFrom};
 
@@ -22,8 +23,8 @@ use self::record::{Said, from_record, from_stands};
 use self::roots::sides;
 use self::row::Kind;
 use ast::rows::ROW_SIZE;
-use numbers::put_four;
 use numbers::refusals::{Reason, Refusal};
+use numbers::{options, put_four};
 use read_expression::reading::{Cursor, read_expressions};
 use text::places::Place;
 
@@ -71,18 +72,6 @@ struct Stand {
     done: bool,
 }
 
-// Behind a record, at the start of the next line.
-fn behind(at: Cursor, next: usize) -> Cursor
-    requires { at.line + 1 < 2 ^ 32 }
-    ensures { result ≡ record { position = next; line = at.line + 1; rows = at.rows } }
-{
-    Cursor {
-        position: next,
-        line: at.line + 1,
-        ..at
-    }
-}
-
 // A table in row n.
 fn put_table(rows: &mut [u32], n: u32, line: u32, name: Place, alias: Option<Place>)
     requires { row_size * n + row_size ≤ length rows.old }
@@ -98,20 +87,24 @@ fn put_table(rows: &mut [u32], n: u32, line: u32, name: Place, alias: Option<Pla
 // A join in row n: its line and kind, its predicate's row if it has one, and how many rows its sides have.
 fn put_join(rows: &mut [u32], n: u32, join: Open, predicate: Option<u32>, sides: u32)
     requires fact_1 { row_size * n + row_size ≤ length rows.old }
-    requires fact_2 { number_of_row predicate < 2 ^ 32 }
-    ensures { rows.new ≡ sets rows.old (row_size * n) (number_of join.kind ∷ join.line ∷ number_of_row predicate ∷ 0 ∷ 0 ∷ 0 ∷ 0 ∷
+    requires fact_2 { option_number (option_of predicate) < 2 ^ 32 }
+    ensures { rows.new ≡ sets rows.old (row_size * n) (number_of join.kind ∷ join.line ∷ option_number (option_of predicate) ∷ 0 ∷ 0 ∷ 0 ∷ 0 ∷
         sides ∷ []) }
 {
     let i = ROW_SIZE * n as usize;
-    let number = match predicate {
-        None => 0,
-        Some(row) => row + 1,
-    };
-    put_four(rows, i, u32::from(join.kind), join.line, number, 0);
+    put_four(
+        rows,
+        i,
+        u32::from(join.kind),
+        join.line,
+        options::number_of(predicate),
+        0,
+    );
     put_four(rows, i + 4, 0, 0, 0, sides);
 }
 
 // The predicate of an open join, if it has one, and its row.
+#[tactic(auto, unfolding(rules::specs::Area::option_number))]
 fn close_join(
     t: &[u8],
     at: Cursor,
@@ -127,9 +120,9 @@ fn close_join(
 {
     let s = sides(rows, n);
     if join.on {
-        let behind = read_expressions(t, at, 1, cells)?;
+        let end = read_expressions(t, at, 1, cells)?;
         put_join(rows, n, join, Some(at.rows), s);
-        return Ok(behind);
+        return Ok(end);
     }
     put_join(rows, n, join, None, s);
     Ok(at)
@@ -151,7 +144,7 @@ fn next_side(
         return Err(Reason::WrongRecord.at(at.line));
     };
     let froms = Froms {
-        at: behind(at, h.next),
+        at: at.behind(h.next),
         ..s.froms
     };
     match h.said {
@@ -299,7 +292,7 @@ fn read_tree(t: &[u8], froms: Froms, cells: &mut [u32], rows: &mut [u32]) -> Res
     }
     put_table(rows, froms.rows, at.line, name, alias);
     Ok(Froms {
-        at: behind(at, h.next),
+        at: at.behind(h.next),
         tables: froms.tables + 1,
         rows: froms.rows + 1,
     })

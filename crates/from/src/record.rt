@@ -1,11 +1,10 @@
 // What one record of FROM says.
-ghost use Rattle.std.specs.Prelude.{◌≡◌, [], ◌∷◌, ℕ, ◌≤◌, length};
-ghost use Rattle.rules.specs.Limits.{most_bytes};
+ghost use Rattle.std.specs.Prelude.{◌≡◌, List, [], ◌∷◌, ℕ, ◌≤◌, length};
 ghost use Rattle.rules.specs.Lists.{same, any};
 ghost use Rattle.rules.specs.Lines.{bytes};
 ghost use Rattle.rules.specs.Reader.{key, line_here, one_of, rest};
 ghost use Rattle.rules.specs.ReadStatement.{from_heads};
-ghost use Rattle.text.specs.Lines.{field, line_end};
+ghost use Rattle.text.specs.Lines.{line_end};
 ghost use Rattle.text.specs.Lines.{Fields};
 ghost use Rattle.read_expression.specs.Reading.{here};
 ghost use Rattle.from.specs.declared.row.Kind.TheVariants.{Table};
@@ -55,8 +54,9 @@ fn table_record(t: &[u8], p: usize, f: Line) -> Option<FromRecord>
 }
 
 // A join's two words.
-fn join_record(t: &[u8], a: usize, n: usize, b: usize, m: usize, e: usize) -> Option<FromRecord>
-    ensures { IsFromRow t.now e (join_fields (field most_bytes t.now a n ∷ field most_bytes t.now b m ∷ [])) result }
+fn join_record(kind: &[u8], predicate: &[u8], next: usize) -> Option<FromRecord>
+    ensures { (t : List ℕ) (o q : ℕ) → IsFromRow t next
+        (join_fields (record { bytes = kind.now; start = o } ∷ record { bytes = predicate.now; start = q } ∷ [])) result }
 {
     let kinds: [(&[u8], Kind); 4] = [
         (b"cross", Kind::Cross),
@@ -65,11 +65,11 @@ fn join_record(t: &[u8], a: usize, n: usize, b: usize, m: usize, e: usize) -> Op
         (b"right", Kind::Right),
     ];
     let predicates: [(&[u8], bool); 2] = [(b"on", true), (b"bare", false)];
-    let kind = words::beside(&kinds, text::part(t, a, n))?;
-    let on = words::beside(&predicates, text::part(t, b, m))?;
+    let kind = words::beside(&kinds, kind)?;
+    let on = words::beside(&predicates, predicate)?;
     Some(FromRecord {
         said: Said::Join(kind, on),
-        next: e,
+        next,
     })
 }
 
@@ -79,18 +79,17 @@ pub fn from_record(t: &[u8], p: usize) -> Option<FromRecord>
     ensures { (l c k : ℕ) → IsFromRow t.now (line_end t.now p) (one_of from_heads (line_here (here t.now p l c k))) result }
 {
     let f = text::fields(t, p);
-    let a = f.starts[0];
-    let n = f.lens[0];
-    if text::holds(t, a, n, b"from") {
+    let word = f.field(t, 0);
+    if text::equal(word, b"from") {
         return table_record(t, p, f);
     }
-    if !text::holds(t, a, n, b"join") {
+    if !text::equal(word, b"join") {
         return None;
     }
     if f.count != 3 {
         return None;
     }
-    join_record(t, f.starts[1], f.lens[1], f.starts[2], f.lens[2], f.next)
+    join_record(f.field(t, 1), f.field(t, 2), f.next)
 }
 
 // Whether the record at a position is meant to be one of FROM.
@@ -98,10 +97,9 @@ pub fn from_stands(t: &[u8], p: usize) -> bool
     ensures { (l c k : ℕ) → result ≡ any (same (key (here t.now p l c k))) (bytes "from" ∷ bytes "join" ∷ []) }
 {
     let f = text::fields(t, p);
-    let a = f.starts[0];
-    let n = f.lens[0];
-    if text::holds(t, a, n, b"from") {
+    let word = f.field(t, 0);
+    if text::equal(word, b"from") {
         return true;
     }
-    text::holds(t, a, n, b"join")
+    text::equal(word, b"join")
 }

@@ -59,11 +59,7 @@ pub fn line(rows: &[u32], r: u32) -> u32
 pub fn predicate_of(rows: &[u32], r: u32) -> Option<u32>
     ensures { result ≡ access.predicate_row (access.predicate_number rows.now r) }
 {
-    let x = at(rows, r as usize, 2);
-    if x == 0 {
-        return None;
-    }
-    Some(x - 1)
+    at(rows, r as usize, 2).checked_sub(1)
 }
 
 // The place of a table's name.

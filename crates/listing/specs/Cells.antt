@@ -1,5 +1,6 @@
 -- The lines of cells, from their numbers.
 use Rattle.std.specs.Prelude.{ℕ, ◌+◌, ◌*◌, ◌^◌, ◌≤◌, ◌<◌, ◌≡◌, true, false, List, [], ◌∷◌, eqb, ltb, get_or, drop}
+use Rattle.std.proofs.Common.{sym, ap, ◌∙◌}
 use borrow.Author.Tests.{eq-eqb, ne_eqb, lt-ltb, le-ltb}
 use Rattle.rules.specs.Lists.{Bytes}
 use Rattle.rules.specs.Lines.{bytes}
@@ -7,8 +8,12 @@ use Rattle.rules.specs.Places.{bytes_at}
 use Rattle.rules.specs.Print.{decimal_of, integer_of, hex_of}
 use Rattle.rules.specs.Area.{header_size}
 use Rattle.numbers.specs.Bits.{signed}
+use Rattle.numbers.specs.Codes.{coded, or_least, count_from, least_kept, coded-map, coded-least}
+use Rattle.numbers.specs.Literals.{kind_number, kind_at}
+use Rattle.numbers.specs.declared.literals.LiteralKind.{LiteralKind}
+use Rattle.numbers.specs.declared.literals.LiteralKind.TheVariants as L
 use Rattle.listing.specs.Words.{word_of}
-use Rattle.listing.specs.Choices.{choose}
+use Rattle.listing.specs.Choices.{choose, choose-none, Misses}
 use Rattle.listing.specs.Lines.{listed, each}
 
 -- the word of a kind
@@ -51,7 +56,21 @@ unfoldable pub cell_lines : Bytes → Bytes → List ℕ → List (List Bytes)
 cell_lines c q a = each (get_or a 2 0) 4 (cell_line c q) (drop header_size a)
 
 -- BY KIND
+-- the number of a literal's kind that is no null
+least-kind : (k : ℕ) → kind_number (kind_at k) ≡ or_least 1 5 k
+unfolding kind_at kind_number count_from
+least-kind k = coded-map kind_number L.Null (L.Null ∷ L.Bool ∷ L.Int ∷ L.Float ∷ L.Text ∷ []) 1 k ∙ coded-least 4 1 k
+
+pub kind_kept : (k : ℕ) (l : LiteralKind) → kind_at k ≡ l → (kind_number l ≡ 1 → ⊥) → k ≡ kind_number l
+kind_kept k l e ne = least_kept 1 5 k (kind_number l) (sym (least-kind k) ∙ ap kind_number e) ne
+
 module _ (c q : Bytes) (k : ℕ) (s : List ℕ) where
+  pub value-null : kind_at k ≡ L.Null → [] ≡ value_rest c q k s
+  unfolding value_rest Misses kind_at coded
+  value-null e =
+      let n : (j : ℕ) → (kind_at j ≡ L.Null → ⊥) → k ≡ j → ⊥ = λ j h z. h (sym (ap kind_at z) ∙ e) in
+      choose-none _ _ _ (n 2 (λ x. cc), (n 3 (λ x. cc), (n 4 (λ x. cc), (n 5 (λ x. cc), tt))))
+
   pub rest-constant : k < 6 → kind_rest c q k s ≡ value_rest c q k s
   unfolding kind_rest
   rest-constant h = rw (kind_rest, lt-ltb k 6 h)

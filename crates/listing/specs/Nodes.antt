@@ -1,6 +1,13 @@
 -- The lines of nodes, from their numbers.
 use Rattle.std.specs.Prelude.{ℕ, zero, suc, ◌+◌, ◌*◌, ◌-◌, ◌/◌, ◌^◌, ◌≡◌, true, false, List, [], ◌∷◌, ◌++◌, eqb, length, get_or, drop, take}
-use Rattle.std.proofs.Common.{sym, ◌∙◌, eq-eqb, ne_eqb}
+use Rattle.std.specs.Prelude.{◌≤◌, refl}
+use Rattle.std.proofs.Common.{arith, sym, ap, ◌∙◌, eq-eqb, ne_eqb}
+use Rattle.std.proofs.Math.Decide.{dec_lt}
+use Rattle.std.proofs.lemmas.List.{get_or_past}
+use Rattle.text.specs.Words.{words_of, push}
+use Rattle.plan.specs.Kinds.{node_number}
+use Rattle.plan.specs.declared.nodes.Kind.{Kind}
+use Rattle.plan.specs.declared.nodes.Kind.TheVariants as K
 use Rattle.rules.specs.Lists.{Bytes}
 use Rattle.rules.specs.Lines.{bytes}
 use Rattle.rules.specs.Places.{bytes_at}
@@ -97,6 +104,50 @@ node_rest c q k b = choose (
 
 unfoldable pub node_word : ℕ → Bytes
 node_word k = word_of (bytes " scan values join filter aggregate project order offset limit remap ") k
+
+-- the word of a kind is the one at its number
+unfoldable pub node_named : Kind → Bytes
+node_named K.Scan = bytes "scan"
+node_named K.Values = bytes "values"
+node_named K.Join = bytes "join"
+node_named K.Filter = bytes "filter"
+node_named K.Aggregate = bytes "aggregate"
+node_named K.Project = bytes "project"
+node_named K.Order = bytes "order"
+node_named K.Offset = bytes "offset"
+node_named K.Limit = bytes "limit"
+node_named K.Remap = bytes "remap"
+
+node-words : (kind : Kind) → node_named kind ≡ node_word (node_number kind)
+unfolding node_named node_word bytes words_of push
+node-words K.Scan = refl
+node-words K.Values = refl
+node-words K.Join = refl
+node-words K.Filter = refl
+node-words K.Aggregate = refl
+node-words K.Project = refl
+node-words K.Order = refl
+node-words K.Offset = refl
+node-words K.Limit = refl
+node-words K.Remap = refl
+
+pub node-is : (k : ℕ) (kind : Kind) → k ≡ node_number kind → node_named kind ≡ node_word k
+node-is k kind e = node-words kind ∙ ap node_word (sym e)
+
+node-first : [] ≡ node_word 0
+unfolding node_word bytes words_of push
+node-first = refl
+
+node-past : (k : ℕ) → 11 ≤ k → node_word k ≡ []
+unfolding node_word bytes words_of push
+node-past k h = get_or_past (words_of (bytes " scan values join filter aggregate project order offset limit remap ")) k [] h
+
+-- and there is none where no kind has the number
+pub node-none : (k : ℕ) → ((kind : Kind) → k ≡ node_number kind → ⊥) → [] ≡ node_word k
+node-none k n = elim (dec_lt k 11) [
+  | yes y ↦ let z : k ≡ 0 = omega (arith, y, n K.Scan, n K.Values, n K.Join, n K.Filter, n K.Aggregate, n K.Project, n K.Order, n K.Offset, n K.Limit, n K.Remap) in node-first ∙ ap node_word (sym z)
+  | no y ↦ sym (node-past k (omega (arith, y)))
+]
 
 -- the line of node i: its kind, how many numbers it has, and those
 unfoldable pub node_line : Bytes → Bytes → ℕ → List ℕ → List (List Bytes)

@@ -1,6 +1,13 @@
 -- The statement's own lines and the whole listing, from the numbers of an area.
 use Rattle.std.specs.Prelude.{ℕ, ◌-◌, ◌≡◌, true, false, List, [], ◌∷◌, ◌++◌, eqb, get_or, drop}
-use Rattle.std.proofs.Common.{eq-eqb, ne_eqb}
+use Rattle.std.specs.Prelude.{◌≤◌, refl}
+use Rattle.std.proofs.Common.{arith, sym, ap, ◌∙◌, eq-eqb, ne_eqb}
+use Rattle.std.proofs.Math.Decide.{dec_lt}
+use Rattle.std.proofs.lemmas.List.{get_or_past}
+use Rattle.text.specs.Words.{words_of, push}
+use Rattle.plan.specs.Kinds.{statement_number}
+use Rattle.plan.specs.declared.finish.Kind.{Kind}
+use Rattle.plan.specs.declared.finish.Kind.TheVariants as K
 use Rattle.rules.specs.Lists.{Bytes}
 use Rattle.rules.specs.Lines.{bytes}
 use Rattle.rules.specs.Places.{bytes_at}
@@ -77,9 +84,49 @@ own_lines c q k n o = choose (
     ∷ []) k []
 
 -- THE WHOLE
+-- the word of the number of a kind of statement
+unfoldable pub statement_word : ℕ → Bytes
+statement_word k = word_of (bytes " select create drop delete insert update ") k
+
+-- the word of a kind is the one at its number
+unfoldable pub statement_named : Kind → Bytes
+statement_named K.Select = bytes "select"
+statement_named K.Create = bytes "create"
+statement_named K.Drop = bytes "drop"
+statement_named K.Delete = bytes "delete"
+statement_named K.Insert = bytes "insert"
+statement_named K.Update = bytes "update"
+
+statement-words : (kind : Kind) → statement_named kind ≡ statement_word (statement_number kind)
+unfolding statement_named statement_word bytes words_of push
+statement-words K.Select = refl
+statement-words K.Create = refl
+statement-words K.Drop = refl
+statement-words K.Delete = refl
+statement-words K.Insert = refl
+statement-words K.Update = refl
+
+pub statement-is : (k : ℕ) (kind : Kind) → k ≡ statement_number kind → statement_named kind ≡ statement_word k
+statement-is k kind e = statement-words kind ∙ ap statement_word (sym e)
+
+statement-first : [] ≡ statement_word 0
+unfolding statement_word bytes words_of push
+statement-first = refl
+
+statement-past : (k : ℕ) → 7 ≤ k → statement_word k ≡ []
+unfolding statement_word bytes words_of push
+statement-past k h = get_or_past (words_of (bytes " select create drop delete insert update ")) k [] h
+
+-- and there is none where no kind has the number
+pub statement-none : (k : ℕ) → ((kind : Kind) → k ≡ statement_number kind → ⊥) → [] ≡ statement_word k
+statement-none k n = elim (dec_lt k 7) [
+  | yes y ↦ let z : k ≡ 0 = omega (arith, y, n K.Select, n K.Create, n K.Drop, n K.Delete, n K.Insert, n K.Update) in statement-first ∙ ap statement_word (sym z)
+  | no y ↦ sym (statement-past k (omega (arith, y)))
+]
+
 unfoldable pub header_line : List ℕ → List (List Bytes)
 header_line a =
-    (bytes "plan" ∷ word_of (bytes " select create drop delete insert update ") (get_or a 1 0) ∷ decimal_of (get_or a 3 0)
+    (bytes "plan" ∷ statement_word (get_or a 1 0) ∷ decimal_of (get_or a 3 0)
     ∷ decimal_of (get_or a 2 0) ∷ []) ∷ []
 
 unfoldable pub area_lines : Bytes → Bytes → List ℕ → List (List Bytes)

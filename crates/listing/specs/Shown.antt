@@ -28,7 +28,7 @@ use Rattle.listing.specs.Words.{word_of}
 use Rattle.listing.specs.Lines.{listed, listed_same, each}
 use Rattle.listing.specs.Cells.{cell_line, cell_lines}
 use Rattle.listing.specs.Nodes.{node_line, nodes_from, node_lines, behind}
-use Rattle.listing.specs.Own.{header_line, own_lines, area_lines, show_area}
+use Rattle.listing.specs.Own.{statement_word, header_line, own_lines, area_lines, show_area}
 use Rattle.listing.specs.ShownCells.{cells-shown}
 use Rattle.listing.specs.ShownNodes.{nodes-shown}
 use Rattle.listing.specs.ShownOwn.{own-shown}
@@ -87,7 +87,7 @@ module _ (h1 h2 h3 h4 h5 h6 : ℕ) (cs ns o z : List ℕ) where
 -- THE LINES OF A PLAN'S AREA
 module _ (c q : Bytes) (ts : Catalog) (p : Plan Built) (z : List ℕ) (h : Readable c q ts p) where
   header-shown : header_line (plan_numbers p ++ z) ≡ show_header p ∷ []
-  unfolding header_line plan_numbers header show_header
+  unfolding statement_word header_line plan_numbers header show_header
   header-shown = rw (kind-word p)
 
   cells-part : cell_lines c q (plan_numbers p ++ z) ≡ show_cells (plan_cells p)

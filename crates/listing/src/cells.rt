@@ -7,30 +7,14 @@ ghost use Rattle.listing.specs.Cells.{value_rest, cell_fields, cell_line, cell_l
 
 use crate::put::Writer;
 use numbers::halves::joined;
+use numbers::literals::LiteralKind;
 use numbers::number;
+use plan::cells::{COLUMN, IS_NAN, IS_NULL};
+use plan::{CELL_SIZE, HEADER_SIZE};
 use text::places::Place;
 
-// Kinds of cells: the constants that have something behind the kind, the first that is no constant, the tests for null and
-// NaN, and the first with two operands. What a cell has goes by ranges of kinds, so an enum of them all is no plainer.
-const BOOL: u32 = 2;
-
-const INTEGER: u32 = 3;
-
-const FLOAT: u32 = 4;
-
-const TEXT: u32 = 5;
-
-const COLUMN: u32 = 6;
-
-const IS_NULL: u32 = 14;
-
-const IS_NAN: u32 = 15;
-
+// The first kind with two operands. What a cell has goes by ranges of kinds, so an enum of them all is no plainer.
 const BINARY: u32 = 16;
-
-pub const CELL: usize = 4;
-
-pub const HEADER: usize = 6;
 
 // The numbers from p on.
 pub fn tail(s: &[u32], p: usize) -> &[u32]
@@ -57,15 +41,15 @@ impl<'a> Writer<'a> {
     {
         let a = number(s, 1);
         let b = number(s, 2);
-        match k {
-            BOOL => self.word(b"f t ", a),
-            INTEGER => self.integer(joined(a, b)),
-            FLOAT => self.bits(joined(a, b)),
-            TEXT => self.place(Place {
+        match LiteralKind::of_number(k) {
+            LiteralKind::Null => {}
+            LiteralKind::Bool => self.word(b"f t ", a),
+            LiteralKind::Int => self.integer(joined(a, b)),
+            LiteralKind::Float => self.bits(joined(a, b)),
+            LiteralKind::Text => self.place(Place {
                 address: a,
                 length: b,
             }),
-            _ => {}
         }
     }
 
@@ -109,9 +93,9 @@ impl<'a> Writer<'a> {
     pub fn cells(&mut self, area: &[u32])
         ensures { LinesIn self.old self.new (λ c q. cell_lines c q area.now) }
     {
-        let cells = tail(area, HEADER);
+        let cells = tail(area, HEADER_SIZE);
         for i in 0..number(area, 2) {
-            self.cell(i, tail(cells, i as usize * CELL));
+            self.cell(i, tail(cells, i as usize * CELL_SIZE));
         }
     }
 }

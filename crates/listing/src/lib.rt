@@ -7,14 +7,15 @@ mod own; // own.rt: the statement's own lines
 mod parts; // parts.rt: the repeated parts of a node's line
 pub mod put; // put.rt: bytes and fields
 
-ghost use Rattle.std.specs.Prelude.{drop};
+ghost use Rattle.std.specs.Prelude.{◌≡◌, drop};
 ghost use Rattle.rules.specs.Print.{show_lines};
 ghost use Rattle.listing.specs.Lines.{Lines, LinesIn};
-ghost use Rattle.listing.specs.Own.{header_line, area_lines, show_area};
+ghost use Rattle.listing.specs.Own.{statement_word, header_line, area_lines, show_area};
 ghost use Rattle.listing.specs.Listed.{Told, Holds, refusal_line};
 
 use cells::tail;
 use numbers::number;
+use plan::finish::Kind;
 use put::Writer;
 use text::places::Texts;
 
@@ -33,15 +34,29 @@ fn told(left: usize) -> Option<usize>
     Some(WINDOW.saturating_sub(left))
 }
 
+// The word of the number of a statement's kind, and none where no kind has it.
+fn kind_word(k: u32) -> &'static [u8]
+    ensures { result.now ≡ statement_word k }
+{
+    let Ok(kind) = Kind::try_from(k) else {
+        return b"";
+    };
+    match kind {
+        Kind::Select => b"select",
+        Kind::Create => b"create",
+        Kind::Drop => b"drop",
+        Kind::Delete => b"delete",
+        Kind::Insert => b"insert",
+        Kind::Update => b"update",
+    }
+}
+
 impl<'a> Writer<'a> {
     fn header(&mut self, area: &[u32])
         ensures { Lines self.old self.new (header_line area.now) }
     {
         self.bytes(b"plan");
-        self.word(
-            b" select create drop delete insert update ",
-            number(area, 1),
-        );
+        self.field(kind_word(number(area, 1)));
         self.number(number(area, 3));
         self.number(number(area, 2));
         self.byte(b'\n');

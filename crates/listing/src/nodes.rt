@@ -3,13 +3,14 @@ ghost use Rattle.std.specs.Prelude.{◌≡◌, ◌+◌, get_or, drop, take};
 ghost use Rattle.listing.specs.Fields.{Fields, FieldsIn};
 ghost use Rattle.listing.specs.Lines.{LinesIn};
 ghost use Rattle.listing.specs.Nodes.{scan_fields, join_fields, filter_fields, aggregate_fields, project_fields};
-ghost use Rattle.listing.specs.Nodes.{order_fields, limit_fields, remap_fields, node_rest, node_line, node_lines};
+ghost use Rattle.listing.specs.Nodes.{order_fields, limit_fields, remap_fields, node_rest, node_word, node_line, node_lines};
 
-use crate::cells::{CELL, HEADER, place_at, tail};
+use crate::cells::{place_at, tail};
 use crate::put::Writer;
 use numbers::halves::joined;
 use numbers::number;
 use plan::nodes::Kind;
+use plan::{CELL_SIZE, HEADER_SIZE};
 
 // The first n numbers, or as many as there are.
 fn front(s: &[u32], n: usize) -> &[u32]
@@ -25,12 +26,33 @@ fn behind(s: &[u32]) -> &[u32]
     tail(s, 2 + number(s, 1) as usize)
 }
 
+// The word of the number of a node's kind, and none where no kind has it.
+fn kind_word(k: u32) -> &'static [u8]
+    ensures { result.now ≡ node_word k }
+{
+    let Ok(kind) = Kind::try_from(k) else {
+        return b"";
+    };
+    match kind {
+        Kind::Scan => b"scan",
+        Kind::Values => b"values",
+        Kind::Join => b"join",
+        Kind::Filter => b"filter",
+        Kind::Aggregate => b"aggregate",
+        Kind::Project => b"project",
+        Kind::Order => b"order",
+        Kind::Offset => b"offset",
+        Kind::Limit => b"limit",
+        Kind::Remap => b"remap",
+    }
+}
+
 impl<'a> Writer<'a> {
     fn scan(&mut self, s: &[u32])
         ensures { FieldsIn self.old self.new (λ c q. scan_fields c q s.now) }
     {
         self.place(place_at(s, 0));
-        self.alias(place_at(s, 3));
+        self.alias(number(s, 3), number(s, 4));
         self.given(number(s, 2));
     }
 
@@ -116,10 +138,7 @@ impl<'a> Writer<'a> {
         let k = number(s, 0);
         self.bytes(b"node");
         self.number(i);
-        self.word(
-            b" scan values join filter aggregate project order offset limit remap ",
-            k,
-        );
+        self.field(kind_word(k));
         self.node_rest(k, front(tail(s, 2), number(s, 1) as usize));
         self.byte(b'\n');
     }
@@ -128,7 +147,7 @@ impl<'a> Writer<'a> {
     pub fn nodes(&mut self, area: &[u32])
         ensures { LinesIn self.old self.new (λ c q. node_lines c q area.now) }
     {
-        let mut rest = tail(area, HEADER + number(area, 2) as usize * CELL);
+        let mut rest = tail(area, HEADER_SIZE + number(area, 2) as usize * CELL_SIZE);
         for i in 0..number(area, 3) {
             self.node(i, rest);
             rest = behind(rest);

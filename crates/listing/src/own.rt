@@ -60,23 +60,21 @@ impl<'a> Writer<'a> {
     fn map(&mut self, x: u32, s: &[u32])
         ensures { Lines self.old self.new (map_lines x s.now) }
     {
-        if x == 0 {
-            return;
+        if let Some(n) = x.checked_sub(1) {
+            self.bytes(b"columns");
+            self.number(n);
+            self.byte(b'\n');
+            self.pairs(b"map", n, s);
         }
-        self.bytes(b"columns");
-        self.number(x - 1);
-        self.byte(b'\n');
-        self.pairs(b"map", x - 1, s);
     }
 
     // A reference, where there is one.
-    fn reference(&mut self, reference: Place)
-        ensures { FieldsIn self.old self.new (λ c q. reference_fields c q reference.address reference.length) }
+    fn reference(&mut self, address: u32, length: u32)
+        ensures { FieldsIn self.old self.new (λ c q. reference_fields c q address length) }
     {
-        if reference.length == 0 {
-            return;
+        if let Some(reference) = Place::of_numbers(address, length) {
+            self.place(reference);
         }
-        self.place(reference);
     }
 
     // The line of a created column.
@@ -89,7 +87,7 @@ impl<'a> Writer<'a> {
         self.word(b"notnull null ", number(s, 3));
         self.word(b"- unique ", number(s, 4));
         self.word(b"- index ", number(s, 5));
-        self.reference(place_at(s, 6));
+        self.reference(number(s, 6), number(s, 7));
         self.byte(b'\n');
     }
 

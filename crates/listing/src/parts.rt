@@ -7,7 +7,7 @@ ghost use Rattle.listing.specs.Nodes.{item_fields, items_fields, key_fields, key
 ghost use Rattle.listing.specs.Nodes.{row_fields};
 ghost use Rattle.listing.specs.Rows.{row_field};
 
-use crate::cells::{place_at, tail};
+use crate::cells::tail;
 use crate::put::Writer;
 use numbers::number;
 use text::places::Place;
@@ -15,24 +15,22 @@ use text::places::Place;
 // The loops below differ in one call: a function that takes it as a closure is no plainer.
 impl<'a> Writer<'a> {
     // An alias, where there is one.
-    pub fn alias(&mut self, alias: Place)
-        ensures { FieldsIn self.old self.new (λ c q. alias_fields c q alias.address alias.length) }
+    pub fn alias(&mut self, address: u32, length: u32)
+        ensures { FieldsIn self.old self.new (λ c q. alias_fields c q address length) }
     {
-        if alias.length == 0 {
-            return;
+        if let Some(alias) = Place::of_numbers(address, length) {
+            self.field(b"as");
+            self.place(alias);
         }
-        self.field(b"as");
-        self.place(alias);
     }
 
     // A number that stands as one more than it is, where there is one.
     pub fn given(&mut self, x: u32)
         ensures { Fields self.old self.new (given_fields x) }
     {
-        if x == 0 {
-            return;
+        if let Some(n) = x.checked_sub(1) {
+            self.number(n);
         }
-        self.number(x - 1);
     }
 
     // The first n numbers.
@@ -65,7 +63,7 @@ impl<'a> Writer<'a> {
         ensures { FieldsIn self.old self.new (λ c q. item_fields c q 0 s.now) }
     {
         self.number(number(s, 0));
-        self.alias(place_at(s, 1));
+        self.alias(number(s, 1), number(s, 2));
     }
 
     pub fn items(&mut self, s: &[u32])
@@ -96,10 +94,10 @@ impl<'a> Writer<'a> {
     fn column_target(&mut self, target: u32)
         ensures { Fields self.old self.new (target_fields 0 (target ∷ [])) }
     {
-        if target == 0 {
-            return self.field(b"-");
+        match target.checked_sub(1) {
+            Some(column) => self.number(column),
+            None => self.field(b"-"),
         }
-        self.number(target - 1);
     }
 
     pub fn targets(&mut self, s: &[u32])

@@ -92,7 +92,7 @@ impl<'a> Writer<'a> {
         self.field(&digits[..k]);
     }
 
-    // The field that is the k-th of some words.
+    // The field that is the k-th of some words: a word's place in the list is the number as the plan has it.
     pub fn word(&mut self, words: &[u8], k: u32)
         ensures { Fields self.old self.new (get_or (words_of words.now) k [] ∷ []) }
     {

@@ -76,29 +76,32 @@ module _ (w : Word) where
   unfolding literal_by apply
   no-literal k h = rw (nth-none literals k (unfold literals in h))
 
+module _ (x : Bytes) (es : List (Bor (List ℕ) × Bool)) (e : map (λ x. (x.0.now, x.1)) es ≡ flags) {o : std.Option Bool}
+    (h : o ≡ beside es x) where
+  flag_is : named flags x ≡ option_of o
+  flag_is = sym (rw h (whole (beside es x) ∙ beside-named (λ b. b) x es ∙ ap (λ w. named w x) e))
+    where
+      whole : (o : std.Option Bool) → option_of o ≡ option_of (option_map (λ b. b) o)
+      whole (std.Some b) = refl
+      whole std.None = refl
+
+  pub flag-none : o ≡ std.None → map_option bool (named flags x) ≡ none
+  unfolding map_option
+  flag-none g = rw (flag_is, g)
+
+  pub flag-some : (base : ℕ) (t : Bytes) (b : Bool) (r : Literal) → o ≡ std.Some b → (r.kind ≡ L.Bool) × (r.first ≡ flag b) × (r.second ≡ 0)
+      → IsLiteral base t (map_option bool (named flags x)) (std.Some r)
+  unfolding map_option
+  flag-some base t b r g y = rw (flag_is, g) (record {
+    is = unfold value_numbers kind_number in rw (y.0, y.1, y.2);
+    fits = λ k e c q f. unfold LiteralFits ValueFits in tt;
+  })
+
 module _ (base : ℕ) (t : Bytes) (a n : ℕ) where
-  module _ (es : List (Bor (List ℕ) × Bool)) (e : map (λ x. (x.0.now, x.1)) es ≡ flags) {o : std.Option Bool}
-      (h : o ≡ beside es (take n (drop a t))) where
-    flag_is : literal_by 1 (field base t a n) ≡ map_option bool (option_of o)
-    unfolding literal_by literals nth apply one_field word field
-    flag_is = ap (map_option bool) (sym (rw h (whole (beside es (take n (drop a t)))
-        ∙ beside-named (λ b. b) (take n (drop a t)) es ∙ ap (λ x. named x (take n (drop a t))) e)))
-      where
-        whole : (o : std.Option Bool) → option_of o ≡ option_of (option_map (λ b. b) o)
-        whole (std.Some b) = refl
-        whole std.None = refl
-
-    pub flag-none : o ≡ std.None → literal_by 1 (field base t a n) ≡ none
-    unfolding map_option
-    flag-none g = flag_is ∙ rw g
-
-    pub flag-some : (b : Bool) (r : Literal) → o ≡ std.Some b → (r.kind ≡ L.Bool) × (r.first ≡ flag b) × (r.second ≡ 0)
-        → IsLiteral base t (literal_by 1 (field base t a n)) (std.Some r)
-    unfolding map_option
-    flag-some b r g x = rw (flag_is, g) (record {
-      is = unfold value_numbers kind_number in rw (x.0, x.1, x.2);
-      fits = λ k e c q f. unfold LiteralFits ValueFits in tt;
-    })
+  -- a flag by its bytes
+  pub flag-field : literal_by 1 (field base t a n) ≡ map_option bool (named flags (take n (drop a t)))
+  unfolding literal_by literals nth apply one_field word field
+  flag-field = refl
 
   text-fits : Inside t a n → (k : Text) → base_address k ≡ base → (c q : Bytes) → text_of k c q ≡ t → WordFits c q (field base t a n)
   unfolding WordFits field

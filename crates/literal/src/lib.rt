@@ -4,7 +4,8 @@
 pub mod planned;
 pub mod record;
 
-ghost use Rattle.std.specs.Prelude.{◌≡◌, take, drop, pos};
+ghost use Rattle.std.specs.Prelude.{◌≡◌, pos};
+ghost use Rattle.std.proofs.Math.Option.{some};
 ghost use Rattle.rules.specs.Lists.{map_option};
 ghost use Rattle.rules.specs.Lines as lines;
 ghost use Rattle.numbers.specs.Options.{option_of};
@@ -14,10 +15,9 @@ ghost use Rattle.numbers.specs.Bits.{signed};
 const GREATEST: u64 = 9223372036854775807;
 
 // An integer with no sign, in two's complement.
-fn positive(d: Option<u64>) -> Option<u64>
-    ensures { map_option signed (option_of result) ≡ map_option pos (lines.within 9223372036854775807 (option_of d)) }
+fn positive(m: u64) -> Option<u64>
+    ensures { map_option signed (option_of result) ≡ map_option pos (lines.within 9223372036854775807 (some m)) }
 {
-    let m = d?;
     if GREATEST < m {
         return None;
     }
@@ -25,10 +25,9 @@ fn positive(d: Option<u64>) -> Option<u64>
 }
 
 // An integer behind its sign, in two's complement; `-0` is none.
-fn negative(d: Option<u64>) -> Option<u64>
-    ensures { map_option signed (option_of result) ≡ lines.negated (lines.within 9223372036854775808 (option_of d)) }
+fn negative(m: u64) -> Option<u64>
+    ensures { map_option signed (option_of result) ≡ lines.negated (lines.within 9223372036854775808 (some m)) }
 {
-    let m = d?;
     if GREATEST + 1 < m {
         return None;
     }
@@ -38,19 +37,17 @@ fn negative(d: Option<u64>) -> Option<u64>
     Some(m.wrapping_neg())
 }
 
-// The integer that the n bytes at a are, by its 64 bits in two's complement.
-pub fn int(t: &[u8], a: usize, n: usize) -> Option<u64>
-    ensures { map_option signed (option_of result) ≡ lines.integer (take n (drop a t.now)) }
+// The integer that bytes are, by its 64 bits in two's complement.
+pub fn int(x: &[u8]) -> Option<u64>
+    ensures { map_option signed (option_of result) ≡ lines.integer x.now }
 {
-    let x = text::part(t, a, n);
-    let len = x.len();
-    if len == 0 {
+    if x.is_empty() {
         return None;
     }
     if x[0] == b'-' {
-        return negative(text::decimal(x, 1, len, GREATEST + 2));
+        return negative(text::decimal(&x[1..], GREATEST + 2)?);
     }
-    positive(text::decimal(x, 0, len, GREATEST + 2))
+    positive(text::decimal(x, GREATEST + 2)?)
 }
 
 // A hexadecimal digit's value.
@@ -64,11 +61,10 @@ fn hex_digit(b: u8) -> Option<u64>
     }
 }
 
-// The bits of the float that the n bytes at a are.
-pub fn float(t: &[u8], a: usize, n: usize) -> Option<u64>
-    ensures { option_of result ≡ lines.float (take n (drop a t.now)) }
+// The bits of the float that bytes are.
+pub fn float(x: &[u8]) -> Option<u64>
+    ensures { option_of result ≡ lines.float x.now }
 {
-    let x = text::part(t, a, n);
     if x.len() != 16 {
         return None;
     }

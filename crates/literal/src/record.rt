@@ -2,10 +2,12 @@
 ghost use Rattle.std.specs.Prelude.{◌≡◌, ℕ, ◌/◌, ◌%◌, ◌^◌, ◌≤◌, length};
 ghost use Rattle.rules.specs.Limits.{most_bytes};
 ghost use Rattle.rules.specs.Refusals.{Text};
-ghost use Rattle.rules.specs.Reader.{base_address, line_here, one_of, literals};
-ghost use Rattle.text.specs.Lines.{field, Fields};
+ghost use Rattle.rules.specs.Lists.{Bytes, map_option, named};
+ghost use Rattle.rules.specs.Schema as rules;
+ghost use Rattle.rules.specs.Reader.{base_address, line_here, one_of, flags, literals};
+ghost use Rattle.text.specs.Lines.{Fields};
 ghost use Rattle.text.specs.Reading.{place};
-ghost use Rattle.literal.specs.Records.{IsLiteral, literal_by};
+ghost use Rattle.literal.specs.Records.{IsLiteral};
 
 use numbers::halves::{high, low};
 use numbers::literals::{Literal, LiteralKind};
@@ -23,11 +25,11 @@ fn halves(kind: LiteralKind, bits: u64) -> Literal
 }
 
 // A boolean by its field.
-fn flag(t: &[u8], a: usize, n: usize) -> Option<Literal>
-    ensures { (base : ℕ) → IsLiteral base t.now (literal_by 1 (field base t.now a n)) result }
+fn flag(word: &[u8]) -> Option<Literal>
+    ensures { (base : ℕ) (t : Bytes) → IsLiteral base t (map_option rules.bool (named flags word.now)) result }
 {
     let table: [(&[u8], bool); 2] = [(b"t", true), (b"f", false)];
-    let set = words::beside(&table, text::part(t, a, n))?;
+    let set = words::beside(&table, word)?;
     Some(Literal {
         kind: LiteralKind::Bool,
         first: u32::from(set),
@@ -42,7 +44,7 @@ pub fn literal_at(t: &[u8], base: u32, p: usize, f: Line) -> Option<Literal>
     ensures { (k : Text) (l c n : ℕ) → base_address k ≡ base → IsLiteral base t.now (one_of literals (line_here
         (place k t.now p l c n))) result }
 {
-    let word = text::packed(t, f.starts[0], f.lens[0]);
+    let word = text::packed(f.field(t, 0));
     if word == words::NULL {
         return match f.count {
             1 => Some(Literal {
@@ -56,16 +58,15 @@ pub fn literal_at(t: &[u8], base: u32, p: usize, f: Line) -> Option<Literal>
     if f.count != 2 {
         return None;
     }
-    let a = f.starts[1];
-    let n = f.lens[1];
+    let value = f.field(t, 1);
     match word {
-        words::BOOL => flag(t, a, n),
-        words::INT => Some(halves(LiteralKind::Int, crate::int(t, a, n)?)),
-        words::FLOAT => Some(halves(LiteralKind::Float, crate::float(t, a, n)?)),
+        words::BOOL => flag(value),
+        words::INT => Some(halves(LiteralKind::Int, crate::int(value)?)),
+        words::FLOAT => Some(halves(LiteralKind::Float, crate::float(value)?)),
         words::TEXT => Some(Literal {
             kind: LiteralKind::Text,
-            first: base + a as u32,
-            second: n as u32,
+            first: base + f.starts[1] as u32,
+            second: f.lens[1] as u32,
         }),
         _ => None,
     }

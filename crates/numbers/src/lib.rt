@@ -6,6 +6,7 @@ pub mod datatypes; // datatypes.rt: the datatypes of columns
 pub mod halves;
 pub mod literals; // literals.rt: literals by their kinds and two numbers
 pub mod operators; // operators.rt: the operators of expressions
+pub mod options; // options.rt: numbers that may be missing
 pub mod refusals; // refusals.rt: why a statement is refused, and where
 
 ghost use Rattle.std.specs.Prelude.{◌≡◌, [], ◌∷◌, ◌+◌, ◌≤◌, length, get_or};

@@ -19,11 +19,11 @@ use numbers::put_four;
 use text::places::Texts;
 
 // The kinds of cells that are neither a literal's nor an operator's: docs/PLAN.md.
-const COLUMN: u32 = 6;
+pub const COLUMN: u32 = 6;
 
-const IS_NULL: u32 = 14;
+pub const IS_NULL: u32 = 14;
 
-const IS_NAN: u32 = 15;
+pub const IS_NAN: u32 = 15;
 
 // A cell of a kind and three numbers.
 fn put_cell(area: &mut [u32], n: u32, kind: u32, a: u32, b: u32, c: u32)

@@ -17,6 +17,8 @@ ghost use Rattle.plan.specs.Places.{place_numbers};
 ghost use Rattle.text.specs.Places.{option_numbers};
 ghost use Rattle.plan.specs.Records.{rows_numbers};
 
+use numbers::halves::{high, low};
+use numbers::options::number_of;
 use numbers::put_four;
 use text::places::Place;
 
@@ -61,18 +63,6 @@ impl<'n> Nodes<'n> {
             Some(place) => self.pair(place.address, place.length),
             None => self.pair(0, 0),
         }
-    }
-}
-
-// One more than a number, or 0 for none.
-#[tactic(auto, unfolding(rules::specs::Area::option_number))]
-pub(crate) fn number_of(x: Option<u32>) -> u32
-    requires { option_number (option_of x) < 2 ^ 32 }
-    ensures { result ≡ option_number (option_of x) }
-{
-    match x {
-        Some(x) => x + 1,
-        None => 0,
     }
 }
 
@@ -136,9 +126,6 @@ const FILTER_LENGTH: u32 = 2;
 
 const ROWS_LENGTH: u32 = 3;
 
-// One more than the greatest half of 64 bits.
-const HALF: u64 = 4294967296;
-
 // The head of a record: its kind, and how many numbers follow.
 pub fn head(nodes: &mut Nodes, kind: Kind, count: u32)
     requires { nodes.old.used + record_head ≤ length nodes.old.numbers.now }
@@ -195,5 +182,5 @@ pub fn rows(nodes: &mut Nodes, kind: Kind, source: u32, n: u64)
 {
     head(nodes, kind, ROWS_LENGTH);
     nodes.push(source);
-    nodes.pair((n % HALF) as u32, (n / HALF) as u32);
+    nodes.pair(low(n), high(n));
 }

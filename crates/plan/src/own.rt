@@ -19,9 +19,10 @@ ghost use Rattle.text.specs.Places.{option_numbers};
 ghost use Rattle.plan.specs.Own.{inserting, updating, creating, column_numbers};
 
 use crate::CELL_SIZE;
-use crate::nodes::{Nodes, number_of};
+use crate::nodes::Nodes;
 use numbers::datatypes::DataType;
 use numbers::literals::{Literal, put_given};
+use numbers::options::number_of;
 use text::places::Place;
 
 // A name and a number.

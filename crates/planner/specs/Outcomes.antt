@@ -17,6 +17,8 @@ use Rattle.numbers.specs.Reasons.{reason_of, noted, reason-named}
 use Rattle.numbers.specs.declared.refusals.Refusal as code
 use Rattle.reader.specs.Texts.{read_texts}
 use Rattle.reader.specs.Entry.{planned, entry-reads}
+use Rattle.reader.specs.Reading.{text_of}
+use Rattle.reader.specs.declared.TextRefusal.{TextRefusal}
 use Rattle.build_statement.specs.Plans.{planned_of, Plans}
 use Rattle.planner.specs.declared.Outcome.{Outcome}
 
@@ -29,6 +31,10 @@ pub record Answers (o : rules.Outcome) (r : Outcome) (area : List ℕ) : Type 0 
   pub area-is : area ≡ o.area
 
 -- A REFUSAL
+-- what is told of it
+unfoldable pub told : TextRefusal → Outcome
+told w = record { number = refusal_number (reason_of w.reason); text = text_number (text_of w.text); line = w.line; count = 0 }
+
 -- the area is cleared
 pub record Refused (number text line : ℕ) (area area' : List ℕ) (r : Outcome) : Type 0 where
   pub number_is : r.number ≡ number
@@ -36,6 +42,14 @@ pub record Refused (number text line : ℕ) (area area' : List ℕ) (r : Outcome
   pub line-is : r.line ≡ line
   pub none : r.count ≡ 0
   pub zero : area' ≡ replicate (length area) 0
+
+abbrev pub RefusedWith : TextRefusal → List ℕ → List ℕ → Outcome → Type 0
+RefusedWith w = Refused (refusal_number (reason_of w.reason)) (text_number (text_of w.text)) w.line
+
+pub refused-told : (w : TextRefusal) {area area' : List ℕ} {r : Outcome} → r ≡ told w → area' ≡ replicate (length area) 0
+    → RefusedWith w area area' r
+unfolding told
+refused-told w e z = rw e (record { number_is = refl; text-is = refl; line-is = refl; none = refl; zero = z })
 
 pub refused-answer : {a : Answer (Plan Built)} (area₀ : List ℕ) {x t l : ℕ} {area area' : List ℕ} {r : Outcome} (w : Refusal)
     → a ≡ refused w → least_area ≤ length area₀ → length area ≡ length area₀ → x ≡ refusal_number w.reason

@@ -11,13 +11,13 @@ ghost use Rattle.rules.specs.Entry.{outcome, plan};
 ghost use Rattle.schema.specs.Layout.{catalog_at};
 ghost use Rattle.schema.specs.Room.{numbers_for};
 ghost use Rattle.statement.specs.Layout.{statement_at};
-ghost use Rattle.planner.specs.Outcomes.{built_of, Answers, Refused};
+ghost use Rattle.planner.specs.Outcomes.{built_of, told, Answers, RefusedWith};
 ghost use Rattle.planner.specs.Kinds.{StatementReady};
 
 use building::build;
 use numbers::refusals::Reason;
 use plan::finish::{LAYOUT, clear};
-use reader::{Text, read_texts};
+use reader::{Text, TextRefusal, read_texts};
 use schema::NUMBERS;
 use schema::read::{SMALL_NUMBERS, numbers_for};
 use statement::{CELL_NUMBERS, FROM_NUMBERS, PART_NUMBERS};
@@ -36,17 +36,26 @@ pub struct Outcome {
     pub count: u32,
 }
 
+impl From<TextRefusal> for Outcome {
+    ghost from_gives = { λ refusal result. result ≡ told refusal };
+
+    #[tactic(auto, unfolding(crate::specs::Outcomes::told))]
+    fn from(refusal: TextRefusal) -> Outcome {
+        Outcome {
+            number: u32::from(refusal.reason),
+            text: u32::from(refusal.text),
+            line: refusal.line,
+            count: 0,
+        }
+    }
+}
+
 // A refusal: the area is all zero.
-fn refuse(area: &mut [u32], number: u32, text: u32, line: u32) -> Outcome
-    ensures { Refused number text line area.old area.new result }
+fn refuse(area: &mut [u32], refusal: TextRefusal) -> Outcome
+    ensures { RefusedWith refusal area.old area.new result }
 {
     clear(area);
-    Outcome {
-        number: number,
-        text: text,
-        line: line,
-        count: 0,
-    }
+    Outcome::from(refusal)
 }
 
 // The plan of a statement that was read.
@@ -60,7 +69,7 @@ fn plan_read(
 ) -> Outcome
     requires statement_ready { StatementReady texts.now.catalog.now texts.now.statement.now tables.now cells.old froms.now
         parts.now }
-    requires least_area_in_bounds { least_area ≤ length area.old }
+    requires area_room { least_area ≤ length area.old }
     ensures { Answers (outcome area.old (build_statement
         (catalog_at texts.now.catalog.now texts.now.statement.now tables.now)
         (statement_at texts.now.catalog.now texts.now.statement.now cells.old froms.now parts.now)))
@@ -73,35 +82,22 @@ fn plan_read(
             line: 0,
             count: n,
         },
-        Err(w) => refuse(
-            area,
-            u32::from(w.reason),
-            u32::from(Text::Statement),
-            w.line,
-        ),
+        Err(w) => refuse(area, Text::Statement.refuses(w)),
     }
 }
 
 // Both texts read and planned; `tables` has enough numbers for the catalog.
 fn plan_with(texts: &Texts, tables: &mut [u32], area: &mut [u32]) -> Outcome
-    requires catalog_in_bounds { numbers_for (length texts.now.catalog.now) ≤ length tables.old }
-    requires least_area_in_bounds { least_area ≤ length area.old }
+    requires tables_room { numbers_for (length texts.now.catalog.now) ≤ length tables.old }
+    requires area_room { least_area ≤ length area.old }
     ensures { Answers (outcome area.old (built_of texts.now.catalog.now texts.now.statement.now)) result
         area.new }
 {
     let mut cells = [0u32; CELL_NUMBERS];
     let mut froms = [0u32; FROM_NUMBERS];
     let mut parts = [0u32; PART_NUMBERS];
-    let read = read_texts(
-        texts.catalog,
-        texts.statement,
-        tables,
-        &mut cells,
-        &mut froms,
-        &mut parts,
-    );
-    match read {
-        Err(w) => refuse(area, u32::from(w.reason), u32::from(w.text), w.line),
+    match read_texts(texts, tables, &mut cells, &mut froms, &mut parts) {
+        Err(w) => refuse(area, w),
         Ok(_) => plan_read(texts, tables, &mut cells, &froms, &parts, area),
     }
 }
@@ -111,12 +107,7 @@ pub fn planner_plan(catalog: &[u8], statement: &[u8], area: &mut [u32]) -> Outco
     ensures { Answers (plan catalog.now statement.now area.old) result area.new }
 {
     if area.len() < LEAST_AREA {
-        return Outcome {
-            number: u32::from(Reason::ShortArea),
-            text: u32::from(Text::Statement),
-            line: 0,
-            count: 0,
-        };
+        return Outcome::from(Text::Statement.refuses(Reason::ShortArea.at(0)));
     }
     let texts = Texts {
         catalog: catalog,

@@ -2,10 +2,11 @@
 use Prim.Native.Nat.{ℕ, ◌+◌}
 use Rattle.std.proofs.Common.{arith, ap, ◌∙◌}
 use Rattle.std.proofs.Math.Path.{◌≡◌, sym}
-use Rattle.std.specs.Prelude.{refl, true, false, [], ◌∷◌, take, drop, Some}
-use Rattle.std.proofs.Math.Option.{Option, none, some}
+use Rattle.std.specs.Prelude.{refl, true, false, [], ◌∷◌, Some}
+use Rattle.std.proofs.Math.Option.{none, some}
 use Rattle.rules.specs.Limits.{most_bytes}
 use Rattle.rules.specs.Lists.{Bytes, map_option}
+use Rattle.rules.specs.Lines.{Word}
 use Rattle.rules.specs.Reader.{base_address, name, both, two_fields, count_field}
 use Rattle.rules.specs.ReadExpression.{column_fields, call_fields}
 use Rattle.text.specs.Lines.{field}
@@ -49,27 +50,23 @@ module _ (t : Bytes) (a n : ℕ) (i : Inside t a n) where
     });
   }
 
-  module _ (b m : ℕ) where
-    pub call-unnamed : is_name n ≡ false → call_fields (field most_bytes t a n ∷ field most_bytes t b m ∷ []) ≡ none
+  module _ (w : Word) where
+    pub call-unnamed : is_name n ≡ false → call_fields (field most_bytes t a n ∷ w ∷ []) ≡ none
     unfolding call_fields two_fields both map_option
     call-unnamed h = rw (field-none h)
 
-    counted-as : (v : Option ℕ) → ((o : ℕ) → v ≡ count_field (record { bytes = take m (drop b t); start = o })) → count_field (field most_bytes t b m) ≡ v
-    unfolding field
-    counted-as v g = sym (g (most_bytes + b))
-
-    pub call-uncounted : is_name n ≡ true → ((o : ℕ) → none ≡ count_field (record { bytes = take m (drop b t); start = o })) → call_fields (field most_bytes t a n ∷ field most_bytes t b m ∷ []) ≡ none
+    pub call-uncounted : is_name n ≡ true → none ≡ count_field w → call_fields (field most_bytes t a n ∷ w ∷ []) ≡ none
     unfolding call_fields two_fields both map_option
-    call-uncounted h g = rw (field-name h, counted-as none g)
+    call-uncounted h g = rw (field-name h, ← g)
 
-    pub call-some : (k : ℕ) (r : Row) → is_name n ≡ true → ((o : ℕ) → some k ≡ count_field (record { bytes = take m (drop b t); start = o }))
-        → numbers_of r ≡ 4 ∷ k ∷ (most_bytes + a) ∷ n ∷ 0 ∷ 0 ∷ [] → r.operands ≡ k → RowOf t (call_fields (field most_bytes t a n ∷ field most_bytes t b m ∷ [])) (Some r)
+    pub call-some : (k : ℕ) (r : Row) → is_name n ≡ true → some k ≡ count_field w
+        → numbers_of r ≡ 4 ∷ k ∷ (most_bytes + a) ∷ n ∷ 0 ∷ 0 ∷ [] → r.operands ≡ k → RowOf t (call_fields (field most_bytes t a n ∷ w ∷ [])) (Some r)
     unfolding RowSays call_fields two_fields both map_option
     call-some k r h g e o = record {
-      says = rw (field-name h, counted-as (some k) g) (record {
+      says = rw (field-name h, ← g) (record {
         is = unfold head_numbers field in rw (field-length t a n i) (sym e);
         many = unfold arity in o;
-        small = omega (arith, count_small _ k (g 0));
+        small = omega (arith, count_small _ k g);
         fits = λ c. unfold HeadFits in field_fits c;
       });
     }

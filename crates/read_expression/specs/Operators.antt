@@ -1,16 +1,13 @@
 -- The operators' rows, by their number in the table of words.
-use Rattle.std.specs.Prelude.{ℕ, ◌≤◌, ◌≡◌, refl, [], ◌∷◌, take, drop, Some}
+use Rattle.std.specs.Prelude.{ℕ, ◌≤◌, ◌≡◌, refl, [], ◌∷◌, Some}
 use Rattle.std.specs.Prelude as std
 use Rattle.std.proofs.Common.{arith, sym, ◌∙◌}
 use Rattle.std.proofs.Math.Option.{none, some}
-use Rattle.rules.specs.Limits.{most_bytes}
-use Rattle.rules.specs.Lists.{Bytes}
+use Rattle.rules.specs.Lists.{Bytes, named}
 use Rattle.rules.specs.Lines.{bytes}
 use Rattle.rules.specs.Codes.{unary_code, binary_code}
 use Rattle.rules.specs.Ast.{Unary, Binary}
-use Rattle.rules.specs.Reader.{word}
 use Rattle.rules.specs.ReadExpression.{Head, star_head, is_head, unary_head, binary_head, operators}
-use Rattle.text.specs.Lines.{field}
 use Rattle.text.specs.Words.{find, words_of, push, keys, nth, named_by, nth-none}
 use Rattle.text.specs.Packed.{Keywords, number, numbers, are_bytes, is_word, are_words}
 use Rattle.read_expression.specs.declared.heads.Row.{Row}
@@ -60,13 +57,12 @@ pub operator-table : Keywords (bytes "and not or eq gt ge is lt le ne add div po
 unfolding words_of push bytes number numbers are_bytes is_word are_words
 operator-table = record { are = refl; is = refl }
 
-module _ (t : Bytes) (a n k : ℕ) (words : Bytes) (e : keys operators ≡ words_of words) (h : k ≡ find (words_of words) (take n (drop a t))) where
-  operator-is : word operators (field most_bytes t a n) ≡ nth operators k
-  unfolding word field
-  operator-is = named_by operators words (take n (drop a t)) k e h
+module _ (x : Bytes) (k : ℕ) (words : Bytes) (e : keys operators ≡ words_of words) (h : k ≡ find (words_of words) x) where
+  operator-is : named operators x ≡ nth operators k
+  operator-is = named_by operators words x k e h
 
-  pub operator-none : 20 ≤ k → word operators (field most_bytes t a n) ≡ none
+  pub operator-none : 20 ≤ k → named operators x ≡ none
   operator-none l = operator-is ∙ nth-none operators k (unfold operators in l)
 
-  pub operator-as : {r : std.Option Row} → RowOf t (nth operators k) r → RowOf t (word operators (field most_bytes t a n)) r
-  operator-as {r} s = row-of-as t _ _ r operator-is s
+  pub operator-as : {r : std.Option Row} → ((t : Bytes) → RowOf t (nth operators k) r) → (t : Bytes) → RowOf t (named operators x) r
+  operator-as {r} s t = row-of-as t _ _ r operator-is (s t)

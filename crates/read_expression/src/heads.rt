@@ -3,9 +3,9 @@ ghost use Rattle.std.specs.Prelude.{List, [], ◌∷◌, ℕ, ◌≤◌, length,
 ghost use Rattle.std.proofs.Math.Option.{Option, some};
 ghost use Rattle.rules.specs.Refusals.{statement};
 ghost use Rattle.rules.specs.Limits.{most_bytes};
-ghost use Rattle.rules.specs.Lists.{map_option};
+ghost use Rattle.rules.specs.Lists.{map_option, named};
 ghost use Rattle.rules.specs.Schema.{Value};
-ghost use Rattle.rules.specs.Reader.{line_here, one_of, word};
+ghost use Rattle.rules.specs.Reader.{line_here, one_of};
 ghost use Rattle.rules.specs.ReadExpression.{unary_head, binary_head, value_head, operators, column_fields, call_fields, heads};
 ghost use Rattle.text.specs.Lines.{field, Fields};
 ghost use Rattle.text.specs.Reading.{place};
@@ -63,11 +63,10 @@ fn binary(operator: Binary) -> Row
 }
 
 // An operator by its field.
-fn operator(t: &[u8], a: usize, n: usize) -> Option<Row>
-    ensures { RowOf t.now (word operators (field most_bytes t.now a n)) result }
+fn operator(word: &[u8]) -> Option<Row>
+    ensures { (t : List ℕ) → RowOf t (named operators word.now) result }
 {
-    let w = text::packed(t, a, n);
-    match w {
+    match text::packed(word) {
         text::words::AND => Some(binary(Binary::And)),
         text::words::NOT => Some(unary(Unary::Not)),
         text::words::OR => Some(binary(Binary::Or)),
@@ -135,14 +134,15 @@ fn qualified(t: &[u8], a: usize, n: usize, b: usize, m: usize) -> Option<Row>
 }
 
 // A function's name and the number of its arguments.
-fn call(t: &[u8], a: usize, n: usize, b: usize, m: usize) -> Option<Row>
+fn call(t: &[u8], a: usize, n: usize, arguments: &[u8]) -> Option<Row>
     requires { Inside t.now a n }
-    ensures { RowOf t.now (call_fields (field most_bytes t.now a n ∷ field most_bytes t.now b m ∷ [])) result }
+    ensures { (o : ℕ) → RowOf t.now (call_fields (field most_bytes t.now a n ∷ record { bytes = arguments.now; start = o } ∷
+        [])) result }
 {
     if !text::is_name(n) {
         return None;
     }
-    let v = text::count(t, b, m)?;
+    let v = text::count(arguments)?;
     let k = v as u32;
     Some(Row {
         kind: Kind::Call,
@@ -156,19 +156,19 @@ fn call(t: &[u8], a: usize, n: usize, b: usize, m: usize) -> Option<Row>
 }
 
 // A literal as an expression.
-fn literal_row(literal: Option<Literal>) -> Option<Row>
-    ensures { (t : List ℕ) (o : Option Value) → IsLiteral most_bytes t o literal → RowOf t (map_option value_head o) result }
+fn literal_row(literal: Literal) -> Row
+    ensures { (t : List ℕ) (o : Option Value) → IsLiteral most_bytes t o (Some literal)
+        → RowOf t (map_option value_head o) (Some result) }
 {
-    let v = literal?;
-    Some(Row {
+    Row {
         kind: Kind::Literal,
-        code: u32::from(v.kind),
-        a: v.first,
-        b: v.second,
+        code: u32::from(literal.kind),
+        a: literal.first,
+        b: literal.second,
         c: 0,
         d: 0,
         operands: 0,
-    })
+    }
 }
 
 // The expression record at a position, by its fields.
@@ -177,9 +177,9 @@ pub fn head(t: &[u8], p: usize, f: Line) -> Option<Row>
     requires fact_2 { Fields t.now p f }
     ensures { (l c k : ℕ) → RowOf t.now (one_of heads (line_here (place statement t.now p l c k))) result }
 {
-    match text::packed(t, f.starts[0], f.lens[0]) {
+    match text::packed(f.field(t, 0)) {
         text::words::OP => match f.count {
-            2 => operator(t, f.starts[1], f.lens[1]),
+            2 => operator(f.field(t, 1)),
             _ => None,
         },
         text::words::COL => match f.count {
@@ -188,13 +188,13 @@ pub fn head(t: &[u8], p: usize, f: Line) -> Option<Row>
             _ => None,
         },
         text::words::FN => match f.count {
-            3 => call(t, f.starts[1], f.lens[1], f.starts[2], f.lens[2]),
+            3 => call(t, f.starts[1], f.lens[1], f.field(t, 2)),
             _ => None,
         },
         text::words::STAR => match f.count {
             1 => Some(plain_row(Kind::Star, 0, 0)),
             _ => None,
         },
-        _ => literal_row(literal_at(t, MOST_BYTES, p, f)),
+        _ => Some(literal_row(literal_at(t, MOST_BYTES, p, f)?)),
     }
 }

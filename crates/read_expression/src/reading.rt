@@ -1,5 +1,5 @@
 // The statement's expressions from their records into the table: root first, each row written behind its operands' rows.
-ghost use Rattle.std.specs.Prelude.{◌≡◌, [], ◌∷◌, ℕ, ◌+◌, ◌*◌, ◌≤◌, ◌<◌, length};
+ghost use Rattle.std.specs.Prelude.{◌≡◌, [], ◌∷◌, ℕ, ◌+◌, ◌*◌, ◌^◌, ◌≤◌, ◌<◌, length};
 ghost use Rattle.std.proofs.lemmas.List.Edits.{sets};
 ghost use Rattle.rules.specs.Limits.{most_cells};
 ghost use Rattle.rules.specs.Ast.{cons, nil};
@@ -27,6 +27,20 @@ pub struct Cursor {
     pub line: u32,
     pub rows: u32,
     pub position: usize,
+}
+
+impl Cursor {
+    // Behind a record here, at the start of the next line.
+    pub fn behind(self, next: usize) -> Cursor
+        requires { self.line + 1 < 2 ^ 32 }
+        ensures { result ≡ record { position = next; line = self.line + 1; rows = self.rows } }
+    {
+        Cursor {
+            position: next,
+            line: self.line + 1,
+            ..self
+        }
+    }
 }
 
 // The row c of a record: what it says, its line, and how many rows its tree has.
@@ -61,11 +75,7 @@ fn read_is(t: &[u8], at: Cursor, c: u32, line: u32, cells: &mut [u32]) -> Result
         operands: 1,
     };
     put_row(cells, c, line, at.rows - c, h);
-    Ok(Cursor {
-        position: f.next,
-        line: at.line + 1,
-        rows: at.rows,
-    })
+    Ok(at.behind(f.next))
 }
 
 // n expressions in a row, at most `depth` deep.

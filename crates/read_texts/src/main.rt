@@ -28,14 +28,7 @@ fn answer_with(texts: &Texts, tables: &mut [u32], out: &mut [u8; 64]) -> usize
     let mut cells = [0u32; CELL_NUMBERS];
     let mut froms = [0u32; FROM_NUMBERS];
     let mut parts = [0u32; PART_NUMBERS];
-    let t = reader::read_texts(
-        texts.catalog,
-        texts.statement,
-        tables,
-        &mut cells,
-        &mut froms,
-        &mut parts,
-    );
+    let t = reader::read_texts(texts, tables, &mut cells, &mut froms, &mut parts);
     line::put_texts(t, out)
 }
 

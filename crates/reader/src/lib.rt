@@ -10,6 +10,7 @@ use numbers::refusals::{Reason, Refusal};
 use schema::read::read_catalog;
 use statement::access::{Kind, kind_of, line};
 use statement::{CELL_NUMBERS, FROM_NUMBERS, PART_NUMBERS, read_statement};
+use text::places::Texts;
 
 // The two texts, by document 01's numbers.
 #[derive(Clone, Copy, Debug, PartialEq, Eq)]
@@ -29,7 +30,7 @@ impl From<Text> for u32 {
 
 impl Text {
     // A refusal of this text.
-    fn refuses(self, refusal: Refusal) -> TextRefusal
+    pub fn refuses(self, refusal: Refusal) -> TextRefusal
         ensures { result ≡ record { reason = refusal.reason; text = self; line = refusal.line } }
     {
         TextRefusal {
@@ -73,26 +74,25 @@ fn taken(kind: Kind, line: u32, cells: u32, tables: u32) -> Result<Contents, Tex
 // Both texts, whatever they are; `tables` has enough numbers for the catalog (schema::read::numbers_for). Where the texts
 // are refused the numbers in the slices mean nothing.
 pub fn read_texts(
-    catalog: &[u8],
-    statement: &[u8],
+    texts: &Texts,
     tables: &mut [u32],
     cells: &mut [u32; CELL_NUMBERS],
     froms: &mut [u32; FROM_NUMBERS],
     parts: &mut [u32; PART_NUMBERS],
 ) -> Result<Contents, TextRefusal>
-    requires { numbers_for (length catalog.now) ≤ length tables.old }
-    ensures { TextsRead catalog.now statement.now tables.new cells.new froms.new parts.new result }
+    requires { numbers_for (length texts.now.catalog.now) ≤ length tables.old }
+    ensures { TextsRead texts.now.catalog.now texts.now.statement.now tables.new cells.new froms.new parts.new result }
 {
-    if (text::MOST_BYTES as usize) < catalog.len() {
+    if (text::MOST_BYTES as usize) < texts.catalog.len() {
         return Err(Text::Catalog.refuses(Reason::LimitPassed.at(0)));
     }
-    if (text::MOST_BYTES as usize) < statement.len() {
+    if (text::MOST_BYTES as usize) < texts.statement.len() {
         return Err(Text::Statement.refuses(Reason::LimitPassed.at(0)));
     }
-    if let Err(w) = read_catalog(catalog, tables) {
+    if let Err(w) = read_catalog(texts.catalog, tables) {
         return Err(Text::Catalog.refuses(w));
     }
-    match read_statement(statement, cells, froms, parts) {
+    match read_statement(texts.statement, cells, froms, parts) {
         Ok(n) => taken(kind_of(parts), line(parts), n, tables[0]),
         Err(w) => Err(Text::Statement.refuses(w)),
     }

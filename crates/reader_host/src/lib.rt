@@ -13,6 +13,7 @@ ghost use Rattle.reader_host.specs.Numbers.{answered as answeredBy, answer_of};
 use reader::{Contents, TextRefusal};
 use schema::NUMBERS;
 use statement::{CELL_NUMBERS, FROM_NUMBERS, PART_NUMBERS};
+use text::places::Texts;
 
 // Document 01's number of a refusal, its text (1 catalog, 2 statement) and line; or 0, and the statement's kind, how many
 // expression cells it has and how many tables the catalog has.
@@ -73,5 +74,6 @@ pub extern "C" fn reader_read_texts(
               parts.new,
         ) ≡ x }
 {
-    answered(reader::read_texts(catalog, statement, tables, cells, froms, parts))
+    let texts = Texts { catalog, statement };
+    answered(reader::read_texts(&texts, tables, cells, froms, parts))
 }

@@ -14,7 +14,7 @@ use Rattle.text.specs.declared.Line.{Line}
 use Rattle.text.specs.Lines.{Fields, field}
 use Rattle.text.specs.Words.{words_of, push, keys, nth, named_by}
 use Rattle.text.specs.Packed.{Packed, find_number, packed-word}
-use Rattle.text.specs.Tables.{datatype-table, nullable-table}
+use Rattle.text.specs.Tables.{nullable-table}
 use Rattle.text.specs.Numbers.{is_name}
 use Rattle.text.specs.Reading.{field_of, at-is, rest-three, rest-other, name-yes, name-no}
 use Rattle.numbers.specs.Datatypes.{type_of}
@@ -107,19 +107,11 @@ module _ (t : Bytes) (p line : ℕ) (f : Line) (g : Fields t p f) {b : Bool} (ke
               first q l = field-here t q _ _ (field-most t p f g w 1 (omega arith))
 
 -- THE WORDS BY THEIR NUMBERS
-type-keys : keys datatypes ≡ words_of (bytes "bool int float text ")
-unfolding keys datatypes words_of bytes push
-type-keys = refl
-
 null-keys : keys nullables ≡ words_of (bytes "null notnull ")
 unfolding keys nullables words_of bytes push
 null-keys = refl
 
 module _ {x : Bytes} {r : ℕ} (p : Packed x r) (k : ℕ) where
-  pub type-packed : find_number (6114209634 ∷ 24407657 ∷ 1599362526310 ∷ 6249014644 ∷ []) r ≡ k → nth datatypes k ≡ named datatypes x
-  unfolding bytes
-  type-packed e = sym (named_by datatypes _ x k type-keys (packed-word _ _ x r k datatype-table p e))
-
   pub null-packed : find_number (6114014574 ∷ 102576143142776686 ∷ []) r ≡ k → nth nullables k ≡ named nullables x
   unfolding bytes
   null-packed e = sym (named_by nullables _ x k null-keys (packed-word _ _ x r k nullable-table p e))

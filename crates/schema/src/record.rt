@@ -1,12 +1,10 @@
 // One line of the catalog each: a table's record, a column's, a default's.
-ghost use Rattle.std.specs.Prelude.{◌≡◌, ℕ, ◌+◌, take, drop};
-ghost use Rattle.std.specs.Option.{option_map};
+ghost use Rattle.std.specs.Prelude.{◌≡◌, ℕ, ◌+◌};
 ghost use Rattle.rules.specs.Lists.{Bytes, same, any, named};
 ghost use Rattle.rules.specs.Places.{bytes_at};
 ghost use Rattle.rules.specs.Reader.{line_here, one_of, literals};
-ghost use Rattle.rules.specs.ReadColumn.{datatypes, nullables};
+ghost use Rattle.rules.specs.ReadColumn.{nullables};
 ghost use Rattle.rules.specs.ReadCatalog.{default_records};
-ghost use Rattle.numbers.specs.Datatypes.{type_of};
 ghost use Rattle.numbers.specs.Options.{option_of};
 ghost use Rattle.text.specs.Lines.{Fields};
 ghost use Rattle.schema.specs.Records.{Position, here, names, default_said, ColumnLine, TableLine};
@@ -37,24 +35,11 @@ pub struct TableRecord {
     pub next: usize,
 }
 
-// A column's type, by its field.
-fn column_type(t: &[u8], a: usize, n: usize) -> Option<DataType>
-    ensures { option_of (option_map type_of result) ≡ named datatypes (take n (drop a t.now)) }
-{
-    match text::packed(t, a, n) {
-        words::BOOL => Some(DataType::Boolean),
-        words::INT => Some(DataType::Integer),
-        words::FLOAT => Some(DataType::Float),
-        words::TEXT => Some(DataType::String),
-        _ => None,
-    }
-}
-
 // Whether a column may be null, by its field.
-fn may_be_null(t: &[u8], a: usize, n: usize) -> Option<bool>
-    ensures { option_of result ≡ named nullables (take n (drop a t.now)) }
+fn may_be_null(word: &[u8]) -> Option<bool>
+    ensures { option_of result ≡ named nullables word.now }
 {
-    match text::packed(t, a, n) {
+    match text::packed(word) {
         words::NULL => Some(true),
         words::NOTNULL => Some(false),
         _ => None,
@@ -67,7 +52,7 @@ pub fn column_record(catalog: &[u8], at: usize, line: u32) -> Result<Option<Colu
     ensures { ColumnLine catalog.now at line result }
 {
     let f = text::fields(catalog, at);
-    if !text::holds(catalog, f.starts[0], f.lens[0], b"column") {
+    if !text::equal(f.field(catalog, 0), b"column") {
         return Ok(None);
     }
     if f.count != 4 {
@@ -76,10 +61,10 @@ pub fn column_record(catalog: &[u8], at: usize, line: u32) -> Result<Option<Colu
     if !text::is_name(f.lens[1]) {
         return Err(Reason::WrongRecord.at(line));
     }
-    let Some(datatype) = column_type(catalog, f.starts[2], f.lens[2]) else {
+    let Some(datatype) = words::datatype(f.field(catalog, 2)) else {
         return Err(Reason::WrongRecord.at(line));
     };
-    let Some(nullable) = may_be_null(catalog, f.starts[3], f.lens[3]) else {
+    let Some(nullable) = may_be_null(f.field(catalog, 3)) else {
         return Err(Reason::WrongRecord.at(line));
     };
     Ok(Some(ColumnRecord {
@@ -121,7 +106,7 @@ pub fn table_record(catalog: &[u8], tables: &[u32], n: u32, at: usize) -> Option
     ensures { TableLine catalog.now tables.now n at result }
 {
     let f = text::fields(catalog, at);
-    if !text::holds(catalog, f.starts[0], f.lens[0], b"table") {
+    if !text::equal(f.field(catalog, 0), b"table") {
         return None;
     }
     if f.count != 3 {
@@ -130,7 +115,7 @@ pub fn table_record(catalog: &[u8], tables: &[u32], n: u32, at: usize) -> Option
     if !text::is_name(f.lens[1]) {
         return None;
     }
-    let k = text::count(catalog, f.starts[2], f.lens[2])?;
+    let k = text::count(f.field(catalog, 2))?;
     let name = Place {
         address: f.starts[1] as u32,
         length: f.lens[1] as u32,
@@ -152,7 +137,7 @@ pub fn default_record(catalog: &[u8], at: usize, f: Line) -> Option<Option<Liter
     ensures { (q : Bytes) (l : ℕ) → default_said catalog.now q result
         ≡ one_of (default_records literals) (line_here (here catalog.now at l)) }
 {
-    if text::holds(catalog, f.starts[0], f.lens[0], b"nodefault") {
+    if text::equal(f.field(catalog, 0), b"nodefault") {
         if f.count != 1 {
             return None;
         }

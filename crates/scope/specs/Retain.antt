@@ -28,7 +28,7 @@ retained e ks (r ∷ rs) = elim (has_equal e ks (e r)) [
 -- RETAINING
 -- behind the rows of s, the rows rs from the i-th on are still to be looked at
 pub record Retaining (e : ℕ → Expr) (rs : List ℕ) (s : Rows) (i : ℕ) (s' : Rows) : Type 0 where
-  pub room : s'.used + length (drop i rs) ≤ length s'.places.now
+  pub room : s'.used + length (drop i rs) ≤ length s'.rows.now
   pub rest : (u : Rows) → Listed (retained e (rows_in s') (drop i rs)) s' u → Listed (retained e (rows_in s) rs) s u
 
 module _ {e : ℕ → Expr} {rs : List ℕ} {s : Rows} {i : ℕ} {s' : Rows} (k : Retaining e rs s i s') where

@@ -59,7 +59,7 @@ pub fn has_table(texts: &Texts, tables: &[u32], name: &[u8]) -> bool
     tables.iter().any(|x| has_name(texts, *x, name))
 }
 
-// Why a name stands nowhere: 11 where something is matched, else 8.
+// Why a name stands nowhere: it is not aggregated where something is matched, else there is no such column.
 fn not_found(matches: &[u16]) -> Reason
     ensures { Missing matches.now result }
 {

@@ -19,11 +19,11 @@ fn has_equal(exprs: &Expressions, rows: &[usize], r: usize) -> bool
 
 // The rows whose expressions are not among the kept ones, each once, kept behind them.
 pub fn retain(exprs: &Expressions, rows: &[usize], kept: &mut Rows)
-    requires { kept.old.used + length rows.now ≤ length kept.old.places.now }
+    requires { kept.old.used + length rows.now ≤ length kept.old.rows.now }
     ensures { Listed (retained (tree_in exprs.now) (rows_in kept.old) rows.now) kept.old kept.new }
 {
     for r in rows {
-        if !has_equal(exprs, kept.seen(), *r) {
+        if !has_equal(exprs, kept.listed(), *r) {
             kept.push(*r);
         }
     }

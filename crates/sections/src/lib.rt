@@ -156,12 +156,7 @@ fn read_entry(
     if most <= run.count {
         return Err(Reason::LimitPassed.at(at.line));
     }
-    let first = Cursor {
-        position: f.next,
-        line: at.line + 1,
-        rows: at.rows,
-    };
-    let behind = read_expressions(t, first, h.expressions, cells)?;
+    let behind = read_expressions(t, at.behind(f.next), h.expressions, cells)?;
     let i = entry_start(kind, run.count);
     put_entry(parts, i, at.line, at.rows, h);
     Ok(Some(Run {

@@ -83,18 +83,18 @@ module _ (t : Bytes) (a n : ℕ) (i : Inside t a n) where
     named_some k (inr (inr (inr e))) h = rw (e, word-is, field-name h)
 
   -- `drop`
-  module _ (b m : ℕ) where
-    pub drop-unnamed : is_name n ≡ false → said_by K.Drop (field most_bytes t a n ∷ field most_bytes t b m ∷ []) ≡ none
+  module _ (w : Word) where
+    pub drop-unnamed : is_name n ≡ false → said_by K.Drop (field most_bytes t a n ∷ w ∷ []) ≡ none
     unfolding said_by two_fields both map_option
     drop-unnamed h = rw (field-none h)
 
-    module _ (y : std.Option Bool) (e : option_of y ≡ word answers (field most_bytes t b m)) (h : is_name n ≡ true) where
-      pub drop-unanswered : y ≡ None → said_by K.Drop (field most_bytes t a n ∷ field most_bytes t b m ∷ []) ≡ none
+    module _ (y : std.Option Bool) (e : option_of y ≡ word answers w) (h : is_name n ≡ true) where
+      pub drop-unanswered : y ≡ None → said_by K.Drop (field most_bytes t a n ∷ w ∷ []) ≡ none
       unfolding said_by two_fields both map_option
       drop-unanswered l = rw (field-name h, ← e, l)
 
       pub drop-some : (c : Bytes) (p : Place) (d : Bool) → y ≡ Some d → p ≡ record { address = most_bytes + a; length = n }
-          → first_said c t (Some (record { kind = K.Drop; name = Some p; if_exists = d })) ≡ said_by K.Drop (field most_bytes t a n ∷ field most_bytes t b m ∷ [])
+          → first_said c t (Some (record { kind = K.Drop; name = Some p; if_exists = d })) ≡ said_by K.Drop (field most_bytes t a n ∷ w ∷ [])
       unfolding first_said name_or head_of coded said_by two_fields both map_option
       drop-some c p d l q = rw (word-is c p q, field-name h, ← e, l)
 

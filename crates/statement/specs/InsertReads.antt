@@ -1,6 +1,6 @@
 -- INSERT: the names behind a `columns`, and the rows.
-use Rattle.std.specs.Prelude.{ℕ, zero, suc, ◌*◌, ◌≤◌, refl, List, [], ◌∷◌, get_or, Result, Ok, Err}
-use Rattle.std.proofs.Common.{arith, sym, ◌∙◌}
+use Rattle.std.specs.Prelude.{ℕ, ◌*◌, ◌≤◌, refl, List, [], ◌∷◌, Result, Ok, Err, length}
+use Rattle.std.proofs.Common.{arith, ◌∙◌}
 use Rattle.std.proofs.Math.Path.{◌≡◌, ap}
 use Rattle.rules.specs.Lists.{Bytes}
 use Rattle.rules.specs.Lines.{Word}
@@ -11,7 +11,7 @@ use Rattle.numbers.specs.Kept.{Kept, kept-all, kept-first}
 use Rattle.ast.specs.Table.{row_size}
 use Rattle.read_expression.specs.Reading.{here, Position, Took, Given}
 use Rattle.entries.specs.Entries.{Entry, most_of, section, some_section}
-use Rattle.sections.specs.Layout.{start_of, entries_at, section_at}
+use Rattle.sections.specs.Layout.{start_of, section_at}
 use Rattle.statement.specs.Layout.{to_names, insert_of}
 use Rattle.sections.specs.Terms.{end_of, SectionRead}
 use Rattle.statement.specs.Bodies.{names_behind, insert_sections, sections_of}
@@ -29,24 +29,11 @@ pub record NamesRead (t : Bytes) (cs : List Entry) (c : ℕ) (cells cells' parts
   pub cells-kept : Kept 0 (row_size * c) cells cells'
   pub parts-kept : Kept 0 21 parts parts'
 
--- a section has as many entries as its first number says
-section-none : (b t : Bytes) (cells parts : List ℕ) → get_or parts 8 0 ≡ 0 → section_at b t cells parts 7 ≡ []
-unfolding section_at start_of entries_at
-section-none b t cells parts e = rw e
-
-section-some : (b t : Bytes) (cells parts : List ℕ) → (get_or parts 8 0 ≡ 0 → ⊥) → section_at b t cells parts 7 ≡ [] → ⊥
-unfolding section_at start_of entries_at
-section-some b t cells parts n e = go (get_or parts 8 0) refl
-  where
-    go : (k : ℕ) → get_or parts 8 0 ≡ k → ⊥
-    go zero h = n h
-    go (suc k) h = let x = (rw h at e) in let z : ◌≡◌ {A = ℕ} 0 1 = cc in omega arith
-
-module _ (t : Bytes) (cs : List Entry) (p l c k : ℕ) (cells parts : List ℕ) (d : (b : Bytes) → section_at b t cells parts 7 ≡ cs) where
-  pub names-none : Position t p l c → get_or parts 8 0 ≡ 0 → Given (names_behind cs) (NamesRead t cs c cells cells parts parts) t p l c k (Ok (record { position = p; line = l; rows = c }))
-  names-none h e = go cs (sym (d []) ∙ section-none [] t cells parts e)
+module _ (t : Bytes) (cs : List Entry) (p l c k : ℕ) (cells parts : List ℕ) where
+  pub names-none : Position t p l c → length cs ≡ 0 → Given (names_behind cs) (NamesRead t cs c cells cells parts parts) t p l c k (Ok (record { position = p; line = l; rows = c }))
+  names-none h e = go cs e
     where
-      go : (cs : List Entry) → cs ≡ [] → Given (names_behind cs) (NamesRead t cs c cells cells parts parts) t p l c k (Ok (record { position = p; line = l; rows = c }))
+      go : (cs : List Entry) → length cs ≡ 0 → Given (names_behind cs) (NamesRead t cs c cells cells parts parts) t p l c k (Ok (record { position = p; line = l; rows = c }))
       go [] z = unfold Given names_behind give in record {
         value = [];
         is = refl;
@@ -55,14 +42,14 @@ module _ (t : Bytes) (cs : List Entry) (p l c k : ℕ) (cells parts : List ℕ) 
         more = omega arith;
         holds = record { is = λ x y f g b. unfold to_names in refl; cells-kept = kept-all 0 _ _; parts-kept = kept-all 0 _ _ };
       }
-      go (c ∷ cs) z = absurd (let z : ◌≡◌ {A = ℕ} 0 1 = cc in omega arith)
+      go (c ∷ cs) z = absurd (omega arith)
 
-  pub names-some : (get_or parts 8 0 ≡ 0 → ⊥) → (cells' parts' : List ℕ) (r : Result Cursor code.Refusal) → Given (section 8) (SectionRead t 8 c cells cells' parts parts') t p l c k r
+  pub names-some : (length cs ≡ 0 → ⊥) → (cells' parts' : List ℕ) (r : Result Cursor code.Refusal) → Given (section 8) (SectionRead t 8 c cells cells' parts parts') t p l c k r
       → Given (names_behind cs) (NamesRead t cs c cells cells' parts parts') t p l c k r
-  names-some n cells' parts' r g = go cs (d [])
+  names-some n cells' parts' r g = go cs n
     where
-      go : (cs : List Entry) → section_at [] t cells parts 7 ≡ cs → Given (names_behind cs) (NamesRead t cs c cells cells' parts parts') t p l c k r
-      go [] z = absurd (section-some [] t cells parts n z)
+      go : (cs : List Entry) → (length cs ≡ 0 → ⊥) → Given (names_behind cs) (NamesRead t cs c cells cells' parts parts') t p l c k r
+      go [] z = absurd (z refl)
       go (e ∷ es) z = unfold names_behind in given-map (section 8) (SectionRead t 8 c cells cells' parts parts') (NamesRead t (e ∷ es) c cells cells' parts parts') t p l c k r (λ c' ns s. record {
         is = λ x y f h b. ap (to_names (e ∷ es)) (s.is x y f (unfold end_of start_of most_of in h) b);
         cells-kept = s.cells-kept;

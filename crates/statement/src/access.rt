@@ -13,15 +13,15 @@ use sections::entry::{count, entry_at, first_row};
 use text::places::Place;
 
 // Where the statement's own numbers stand in the parts, which are lent zeroed (reader_read_texts) and so stay numbers.
-const KIND: usize = 0;
+pub const KIND: usize = 0;
 
-const LINE: usize = 1;
+pub const LINE: usize = 1;
 
-const NAME_ADDRESS: usize = 2;
+pub const NAME_ADDRESS: usize = 2;
 
-const NAME_LENGTH: usize = 3;
+pub const NAME_LENGTH: usize = 3;
 
-const FLAG: usize = 4;
+pub const FLAG: usize = 4;
 
 pub const FROM_ROWS: usize = 2367;
 

@@ -19,6 +19,7 @@ use entries::Section;
 use from::read_froms;
 use numbers::refusals::Refusal;
 use read_expression::reading::Cursor;
+use sections::entry::count;
 use sections::{read_section, read_some};
 
 // The clauses of a SELECT behind its FROM.
@@ -30,9 +31,6 @@ const CLAUSES: [Section; 6] = [
     Section::Offset,
     Section::Limit,
 ];
-
-// The part that says how many `columns` there are.
-const COLUMNS_COUNT: usize = 8;
 
 // The clauses that stand here.
 fn read_clauses(
@@ -84,7 +82,7 @@ fn read_names(t: &[u8], at: Cursor, cells: &mut [u32], parts: &mut [u32]) -> Res
         → Given (names_behind cs) (NamesRead t.now cs at.rows cells.old cells.new parts.old parts.new) t.now at.position
         at.line at.rows k result }
 {
-    if parts[COLUMNS_COUNT] == 0 {
+    if count(parts, Section::Columns) == 0 {
         return Ok(at);
     }
     read_section(t, at, Section::Name, cells, parts)

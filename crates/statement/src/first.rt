@@ -1,5 +1,5 @@
 // A statement's first record, and its numbers at the start of the parts (specs/Layout.antt).
-ghost use Rattle.std.specs.Prelude.{◌≡◌, [], ◌∷◌, ◌≤◌, length};
+ghost use Rattle.std.specs.Prelude.{◌≡◌, ℕ, [], ◌∷◌, ◌≤◌, length};
 ghost use Rattle.std.specs.Option.{option_map};
 ghost use Rattle.std.proofs.lemmas.List.Edits.{sets};
 ghost use Rattle.rules.specs.Lists.{Bytes, named};
@@ -16,7 +16,7 @@ ghost use Rattle.statement.specs.Access.{name_or};
 ghost use Rattle.statement.specs.declared.access.Kind.TheVariants as kinds;
 ghost use Rattle.statement.specs.FirstRecord.{first_said, said_by, OneName};
 
-use crate::access::{Kind, name_or};
+use crate::access::{FLAG, KIND, Kind, LINE, NAME_ADDRESS, NAME_LENGTH, name_or};
 use text::places::{Place, name_at};
 use text::words::beside;
 
@@ -59,14 +59,14 @@ fn named(t: &[u8], kind: Kind, a: usize, n: usize) -> Option<First>
 }
 
 // A `drop`: a name, and yes or no.
-fn dropped(t: &[u8], a: usize, n: usize, b: usize, m: usize) -> Option<First>
+fn dropped(t: &[u8], a: usize, n: usize, answer: &[u8]) -> Option<First>
     requires { Inside t.now a n }
-    ensures { (c : Bytes) → first_said c t.now result ≡ said_by kinds.Drop
-        (field most_bytes t.now a n ∷ field most_bytes t.now b m ∷ []) }
+    ensures { (c : Bytes) (o : ℕ) → first_said c t.now result ≡ said_by kinds.Drop
+        (field most_bytes t.now a n ∷ record { bytes = answer.now; start = o } ∷ []) }
 {
     let name = name_at(a, n)?;
     let table: [(&[u8], bool); 2] = [(b"yes", true), (b"no", false)];
-    let if_exists = beside(&table, text::part(t, b, m))?;
+    let if_exists = beside(&table, answer)?;
     Some(First {
         kind: Kind::Drop,
         name: Some(name),
@@ -81,7 +81,7 @@ pub fn first_record(t: &[u8], f: text::Line) -> Option<First>
     ensures { (c : Bytes) → first_said c t.now result ≡ one_of statement_heads (line_here (here t.now 0 1 0 0)) }
 {
     let n = f.count;
-    let kind = keyword(text::part(t, f.starts[0], f.lens[0]))?;
+    let kind = keyword(f.field(t, 0))?;
     match kind {
         Kind::Select | Kind::Other => {
             if n != 1 {
@@ -97,7 +97,7 @@ pub fn first_record(t: &[u8], f: text::Line) -> Option<First>
             if n != 3 {
                 return None;
             }
-            dropped(t, f.starts[1], f.lens[1], f.starts[2], f.lens[2])
+            dropped(t, f.starts[1], f.lens[1], f.field(t, 2))
         }
         Kind::Delete | Kind::Insert | Kind::Update | Kind::Create => {
             if n != 2 {
@@ -115,9 +115,9 @@ pub fn put_first(parts: &mut [u32], f: First)
         flag f.if_exists ∷ []) }
 {
     let name = name_or(f.name);
-    parts[0] = u32::from(f.kind);
-    parts[1] = 1;
-    parts[2] = name.address;
-    parts[3] = name.length;
-    parts[4] = u32::from(f.if_exists);
+    parts[KIND] = u32::from(f.kind);
+    parts[LINE] = 1;
+    parts[NAME_ADDRESS] = name.address;
+    parts[NAME_LENGTH] = name.length;
+    parts[FLAG] = u32::from(f.if_exists);
 }

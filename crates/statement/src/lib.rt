@@ -39,7 +39,7 @@ fn read_end(t: &[u8], at: Cursor) -> Result<Cursor, Refusal>
     ensures { (s : Statement) (k : ℕ) → Given (ended s) (Is s) t.now at.position at.line at.rows k result }
 {
     let f = text::fields(t, at.position);
-    if !text::holds(t, f.starts[0], f.lens[0], b"end") {
+    if !text::equal(f.field(t, 0), b"end") {
         return Err(Reason::WrongRecord.at(at.line));
     }
     if f.count != 1 {
@@ -48,11 +48,7 @@ fn read_end(t: &[u8], at: Cursor) -> Result<Cursor, Refusal>
     if f.next < t.len() {
         return Err(Reason::WrongRecord.at(at.line + 1));
     }
-    Ok(Cursor {
-        position: f.next,
-        line: at.line + 1,
-        rows: at.rows,
-    })
+    Ok(at.behind(f.next))
 }
 
 // All behind the first record, which is of a kind.

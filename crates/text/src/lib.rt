@@ -1,7 +1,7 @@
 // The line texts: bytes, lines and their fields, keywords, names and decimals.
 #![tactic(auto)]
 
-ghost use Rattle.std.specs.Prelude.{◌≡◌, ℕ, ◌+◌, ◌*◌, min, take, drop};
+ghost use Rattle.std.specs.Prelude.{◌≡◌, ℕ, ◌+◌, ◌*◌, ◌<◌, min, get_or, take, drop};
 ghost use Rattle.rules.specs.Lists.{same, map_option};
 ghost use Rattle.rules.specs.Lines as rules;
 ghost use Rattle.rules.specs.Reader as reader;
@@ -73,6 +73,16 @@ pub struct Line {
     pub lens: [usize; 12],
     pub count: usize,
     pub next: usize,
+}
+
+impl Line {
+    // The bytes of field i, in the text that the line is of.
+    pub fn field<'t>(&self, t: &'t [u8], i: usize) -> &'t [u8]
+        requires { i < 12 }
+        ensures { result.now ≡ take (get_or self.now.lens i 0) (drop (get_or self.now.starts i 0) t.now) }
+    {
+        part(t, self.starts[i], self.lens[i])
+    }
 }
 
 // The fields of the line at a position, of any line. A line that no LF closes has two empty fields more.
@@ -199,12 +209,11 @@ pub fn compare(x: &[u8], y: &[u8]) -> Ordering
 // Numbers below this have room for a byte more.
 const ROOM: u64 = 0x100000000000000;
 
-// The n bytes at a as one number, the first byte lowest, with a 1 above the last; 0, which no word has, where there are more
-// than seven. An Option is no plainer: callers compare the number with those of words.
-pub fn packed(t: &[u8], a: usize, n: usize) -> u64
-    ensures { Packed (take n (drop a t.now)) result }
+// Bytes as one number, the first byte lowest, with a 1 above the last; 0, which no word has, where there are more than seven.
+// An Option is no plainer: callers compare the number with those of words.
+pub fn packed(word: &[u8]) -> u64
+    ensures { Packed word.now result }
 {
-    let word = part(t, a, n);
     let mut v: u64 = 1;
     for &b in word.iter().rev() {
         if ROOM <= v {
@@ -213,13 +222,6 @@ pub fn packed(t: &[u8], a: usize, n: usize) -> u64
         v = v * 256 + b as u64;
     }
     v
-}
-
-// Whether the n bytes at a are a word.
-pub fn holds(t: &[u8], a: usize, n: usize, word: &[u8]) -> bool
-    ensures { result ≡ same (take n (drop a t.now)) word.now }
-{
-    equal(part(t, a, n), word)
 }
 
 // Whether a name may have n bytes.
@@ -250,11 +252,10 @@ fn digits(x: &[u8], most: u64) -> Option<u64>
     Some(v)
 }
 
-// The decimal that the n bytes at a are, of any length: `most` stands for all above it.
-pub fn decimal(t: &[u8], a: usize, n: usize, most: u64) -> Option<u64>
-    ensures { option_of result ≡ map_option (min most) (rules.decimal (take n (drop a t.now))) }
+// The decimal that bytes are, of any length: `most` stands for all above it.
+pub fn decimal(x: &[u8], most: u64) -> Option<u64>
+    ensures { option_of result ≡ map_option (min most) (rules.decimal x.now) }
 {
-    let x = part(t, a, n);
     if x.is_empty() {
         return None;
     }
@@ -264,10 +265,10 @@ pub fn decimal(t: &[u8], a: usize, n: usize, most: u64) -> Option<u64>
     digits(x, most)
 }
 
-// The count or position that the n bytes at a are: 513 stands for all above 512.
+// The count or position that bytes are: 513 stands for all above 512.
 #[tactic(auto, unfolding(rules::specs::Reader::count_field))]
-pub fn count(t: &[u8], a: usize, n: usize) -> Option<u64>
-    ensures { (o : ℕ) → option_of result ≡ reader.count_field (record { bytes = take n (drop a t.now); start = o }) }
+pub fn count(word: &[u8]) -> Option<u64>
+    ensures { (o : ℕ) → option_of result ≡ reader.count_field (record { bytes = word.now; start = o }) }
 {
-    decimal(t, a, n, MOST_CELLS + 1)
+    decimal(word, MOST_CELLS + 1)
 }

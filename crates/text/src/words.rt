@@ -1,6 +1,13 @@
 // Keywords: as the numbers that `packed` makes of them, the word's bytes, the first one lowest, below a 1; and tables of words with values.
 ghost use Rattle.std.specs.Prelude.{◌≡◌};
+ghost use Rattle.std.specs.Option.{option_map};
+ghost use Rattle.rules.specs.Lists.{named};
+ghost use Rattle.rules.specs.ReadColumn.{datatypes};
+ghost use Rattle.numbers.specs.Datatypes.{type_of};
+ghost use Rattle.numbers.specs.Options.{option_of};
 ghost use Rattle.text.specs.Beside.{beside};
+
+use numbers::datatypes::DataType;
 
 // Expressions that are no literals.
 pub const OP: u64 = 0x1706f;
@@ -97,4 +104,17 @@ pub fn beside<T: Copy>(table: &[(&[u8], T)], word: &[u8]) -> Option<T>
 {
     let entry = table.iter().find(|entry| crate::equal(entry.0, word))?;
     Some(entry.1)
+}
+
+// The type of a column that a word names.
+pub fn datatype(word: &[u8]) -> Option<DataType>
+    ensures { option_of (option_map type_of result) ≡ named datatypes word.now }
+{
+    match crate::packed(word) {
+        BOOL => Some(DataType::Boolean),
+        INT => Some(DataType::Integer),
+        FLOAT => Some(DataType::Float),
+        TEXT => Some(DataType::String),
+        _ => None,
+    }
 }

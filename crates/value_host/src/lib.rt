@@ -67,10 +67,10 @@ fn bits_of(v: Value) -> u64
 {
     match v {
         Value::Null => 0,
-        Value::Bool(b) => b as u64,
+        Value::Bool(b) => u64::from(b),
         Value::Int(x) => ints::bits::to_bits(x),
         Value::Float(x) => value::bits::to_bits(x),
-        Value::Text(a, _) => a as u64,
+        Value::Text(a, _) => u64::from(a),
     }
 }
 
@@ -92,7 +92,7 @@ fn answered(w: Result<Value, Reason>) -> Answer
     }
 }
 
-// By code, as C gives it; 28 where no operator has it, unlike the statement's table (crate ast).
+// By code, as C gives it; `NotWorkedOut` where no operator has it, unlike the statement's table (crate ast).
 fn unary(op: u32, a: Value) -> Result<Value, Reason>
     ensures { (c q : Bytes) → worked_of c q result ≡ unary_worked op (value_of c q a) }
 {

@@ -34,7 +34,7 @@ pub unary-requires : goal.unary-requires
 unary-requires t c = record {
   room = one-room c.begin.ensures _ (c.in_ok-begun.was ∙ ap Ok c.in-Operands.is)
       c.build_tree.ensures _ c.in_ok-m-in-Operands.was c.requires;
-  m_nonzero = first_some
+  operand_built = first_some
       c.begin.ensures _ (c.in_ok-begun.was ∙ ap Ok c.in-Operands.is)
       c.build_tree.ensures _ c.in_ok-m-in-Operands.was;
 }
@@ -43,7 +43,7 @@ pub is-requires : goal.is-requires
 is-requires t c = record {
   room = one-room c.begin.ensures _ (c.in_ok-begun.was ∙ ap Ok c.in-Operands.is)
       c.build_tree.ensures _ c.in_ok-m-in-Operands.was c.requires;
-  m_nonzero = first_some
+  operand_built = first_some
       c.begin.ensures _ (c.in_ok-begun.was ∙ ap Ok c.in-Operands.is)
       c.build_tree.ensures _ c.in_ok-m-in-Operands.was;
 }
@@ -73,9 +73,9 @@ binary-requires t c = record {
       c.build_tree.ensures _ c.in_ok-m-in-Operands.was
       c.in-Binary.is _ c.next-right.ensures
       c.build_tree-in-Binary.ensures _ c.in_ok-k-in-Binary.was c.requires;
-  m_nonzero = first_some c.begin.ensures _ (c.in_ok-begun.was ∙ ap Ok c.in-Operands.is)
+  left_built = first_some c.begin.ensures _ (c.in_ok-begun.was ∙ ap Ok c.in-Operands.is)
       c.build_tree.ensures _ c.in_ok-m-in-Operands.was;
-  k_nonzero = second-some
+  right_built = second-some
       c.begin.ensures _ (c.in_ok-begun.was ∙ ap Ok c.in-Operands.is)
       c.build_tree.ensures _ c.in_ok-m-in-Operands.was
       c.in-Binary.is _ c.next-right.ensures

@@ -29,12 +29,12 @@ pub end-requires : goal.end-requires
 end-requires c = end-room c.requires (opened-project c.begin.ensures) (λ a b. sym c.if-is_lone.false ∙ c.is_lone.ensures a b)
     (rw (c.view.ensures.labels, c.view.ensures.matches, c.view.ensures.tables) at c.in_ok-cell.ensures.items_put) c.put_items.auto.area c.in_ok-widened.ensures
 
-pub overflow_add-result : goal.overflow_add-result
-overflow_add-result c = record {
+pub overflow_add-cell : goal.overflow_add-cell
+overflow_add-cell c = record {
   fits = next-cell c.requires (opened-project c.begin.ensures) (λ a b. sym c.if-is_lone.false ∙ c.is_lone.ensures a b)
       (rw (c.view.ensures.labels, c.view.ensures.matches, c.view.ensures.tables) at c.in_ok-cell.ensures.items_put) c.put_items.auto.area c.in_ok-widened.ensures;
 }
 
 pub returns : goal.returns
-returns c = stage-ended c.requires (opened-project c.begin.ensures) (λ a b. sym c.if-is_lone.false ∙ c.is_lone.ensures a b)
-    (rw (c.view.ensures.labels, c.view.ensures.matches, c.view.ensures.tables) at c.in_ok-cell.ensures.items_put) c.put_items.auto.area c.in_ok-widened.ensures c.end.ensures
+returns c = rw c.next.ensures (stage-ended c.requires (opened-project c.begin.ensures) (λ a b. sym c.if-is_lone.false ∙ c.is_lone.ensures a b)
+    (rw (c.view.ensures.labels, c.view.ensures.matches, c.view.ensures.tables) at c.in_ok-cell.ensures.items_put) c.put_items.auto.area c.in_ok-widened.ensures c.end.ensures)

@@ -18,13 +18,13 @@ returns-then-most-run c = rw c.at.ensures (entry-limit c.requires c.args.run.las
 pub read_expressions-requires : goal.read_expressions-requires
 read_expressions-requires c =
     let next = entry_next c.requires c.args.run.last c.entry_head.ensures (c.in_ok-h.was ∙ ap Ok c.in-Some.is) (omega (arith, c.if-most-run.false, c.room_of-most.ensures.1)) c.fields-f.ensures.next in
-    record { fact_1 = next.0; fact_2 = next.1 }
+    record { fact_1 = rw c.behind.ensures next.0; fact_2 = next.1 }
 
 pub put_entry-requires : goal.put_entry-requires
 put_entry-requires c = entry-room c.requires (omega (arith, c.if-most-run.false, c.room_of-most.ensures.1)) c.entry_start-i.ensures.0
 
 pub returns-in_err-behind : goal.returns-in_err-behind
-returns-in_err-behind c = let p = err_from_is_err_and c.from_residual-in_err-behind.result c.from_residual-in_err-behind.ensures.1 in rw (p.1, p.2) (entry-refused c.requires c.args.run.last c.entry_head.ensures (c.in_ok-h.was ∙ ap Ok c.in-Some.is) (omega (arith, c.if-most-run.false, c.room_of-most.ensures.1)) c.fields-f.ensures.next _ _ c.in_err-behind.ensures)
+returns-in_err-behind c = let p = err_from_is_err_and c.from_residual-in_err-behind.result c.from_residual-in_err-behind.ensures.1 in rw (p.1, p.2) (entry-refused c.requires c.args.run.last c.entry_head.ensures (c.in_ok-h.was ∙ ap Ok c.in-Some.is) (omega (arith, c.if-most-run.false, c.room_of-most.ensures.1)) c.fields-f.ensures.next _ _ (rw c.behind.ensures at c.in_err-behind.ensures))
 
 pub returns : goal.returns
-returns c = entry-took c.requires c.args.run.last c.entry_head.ensures (c.in_ok-h.was ∙ ap Ok c.in-Some.is) (omega (arith, c.if-most-run.false, c.room_of-most.ensures.1)) c.fields-f.ensures.next _ _ c.in_ok-behind.ensures c.entry_start-i.ensures.0 c.put_entry.ensures
+returns c = entry-took c.requires c.args.run.last c.entry_head.ensures (c.in_ok-h.was ∙ ap Ok c.in-Some.is) (omega (arith, c.if-most-run.false, c.room_of-most.ensures.1)) c.fields-f.ensures.next _ _ (rw c.behind.ensures at c.in_ok-behind.ensures) c.entry_start-i.ensures.0 c.put_entry.ensures

@@ -9,11 +9,11 @@ use Rattle.text.proofs.decimal.Goals as goal
 
 pub returns-then-is_empty : goal.returns-then-is_empty
 unfolding map_option
-returns-then-is_empty c = rw (← c.part-x.ensures, decimal-empty _ (eqb-true _ _ (sym c.is_empty.ensures ∙ c.if-is_empty.true)))
+returns-then-is_empty c = rw (decimal-empty _ (eqb-true _ _ (sym c.is_empty.ensures ∙ c.if-is_empty.true)))
 
 pub returns-then-x-gt1 : goal.returns-then-x-gt1
 unfolding map_option
-returns-then-x-gt1 c = rw (← c.part-x.ensures, decimal-needless _ c.if-x-gt1.true c.if-x-eq48.true)
+returns-then-x-gt1 c = rw (decimal-needless _ c.if-x-gt1.true c.if-x-eq48.true)
 
 pub returns : goal.returns
-returns c = c.digits.ensures ∙ rw (← c.part-x.ensures) (ap (map_option (min c.args.most)) (sym (decimal-digits _ (eqb-false _ _ (sym c.is_empty.ensures ∙ c.if-is_empty.false)) c.else-x-eq48.either)))
+returns c = c.digits.ensures ∙ (ap (map_option (min c.args.most)) (sym (decimal-digits _ (eqb-false _ _ (sym c.is_empty.ensures ∙ c.if-is_empty.false)) c.else-x-eq48.either)))

@@ -11,4 +11,4 @@ pub returns-in_err-cell : goal.returns-in_err-cell
 returns-in_err-cell c = rw (exit c.from_residual.result c.from_residual.ensures.1) (filter-refused c.build_expression.ensures _ c.in_err-cell.was)
 
 pub returns : goal.returns
-returns c = filter-done c.build_expression.ensures _ c.in_ok-cell.was c.filter.ensures
+returns c = rw c.next.ensures (filter-done c.build_expression.ensures _ c.in_ok-cell.was c.filter.ensures)

@@ -18,4 +18,4 @@ returns-in_err-cell c = rw (exit c.from_residual.result c.from_residual.ensures.
     (order-stop _ (λ y. c.if-keys-eq0.false ((keys-count c.args.exprs.now.texts.catalog.now c.args.exprs.now.texts.statement.now c.args.exprs.now.table.now c.args.parts.now _ (c.count-keys.ensures c.args.exprs.now.texts.catalog.now c.args.exprs.now.texts.statement.now c.args.exprs.now.table.now)) ∙ y)) (opened-order c.begin.ensures) c.put_keys.ensures _ c.in_err-cell.was)
 
 pub returns : goal.returns
-returns c = order-done _ (λ y. c.if-keys-eq0.false ((keys-count c.args.exprs.now.texts.catalog.now c.args.exprs.now.texts.statement.now c.args.exprs.now.table.now c.args.parts.now _ (c.count-keys.ensures c.args.exprs.now.texts.catalog.now c.args.exprs.now.texts.statement.now c.args.exprs.now.table.now)) ∙ y)) (opened-order c.begin.ensures) c.put_keys.ensures _ c.in_ok-cell.was c.end.ensures
+returns c = rw c.next.ensures (order-done _ (λ y. c.if-keys-eq0.false ((keys-count c.args.exprs.now.texts.catalog.now c.args.exprs.now.texts.statement.now c.args.exprs.now.table.now c.args.parts.now _ (c.count-keys.ensures c.args.exprs.now.texts.catalog.now c.args.exprs.now.texts.statement.now c.args.exprs.now.table.now)) ∙ y)) (opened-order c.begin.ensures) c.put_keys.ensures _ c.in_ok-cell.was c.end.ensures)

@@ -8,4 +8,4 @@ pub returns-then-hidden-eq0 : goal.returns-then-hidden-eq0
 returns-then-hidden-eq0 c = remap-nothing c.if-hidden-eq0.true (omega (arith, c.requires.follows.room))
 
 pub returns : goal.returns
-returns c = remap-done _ _ _ c.if-hidden-eq0.false (opened-remap c.begin.ensures) c.push_targets.ensures c.requires.hidden_le_width c.end.ensures
+returns c = rw c.next.ensures (remap-done _ _ _ c.if-hidden-eq0.false (opened-remap c.begin.ensures) c.push_targets.ensures c.requires.hidden_le_width c.end.ensures)

@@ -12,4 +12,5 @@ returns-in_err-count c = let p = err_from_is_err_and c.from_residual.result c.fr
     (λ f v made. rows-refused _ f _ c.in-Some.is (counted-by _ _ c.at.ensures c.row_count.ensures) _ c.in_err-count.was)
 
 pub returns : goal.returns
-returns c = λ f v made. rows-number _ f _ c.in-Some.is (counted-by _ _ c.at.ensures c.row_count.ensures) v made _ c.in_ok-count.was c.rows.ensures
+returns c = rw c.next.ensures (λ f v made.
+    rows-number _ f _ c.in-Some.is (counted-by _ _ c.at.ensures c.row_count.ensures) v made _ c.in_ok-count.was c.rows.ensures)

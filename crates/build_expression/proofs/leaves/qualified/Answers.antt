@@ -7,6 +7,6 @@ use Rattle.build_expression.proofs.leaves.qualified.Goals as goal
 
 pub returns : goal.returns
 unfolding qualifier_of
-returns c = built-qualified _ _ _ _ _ _ _ _ _ _ c.requires.unmatched _ _ c.requires.r_value
+returns c = built-qualified _ _ _ _ _ _ _ _ _ _ c.requires.unmatched _ _ c.requires.qualified
     (qualified _ _ _ _ _ _ c.qualifier-qualifier.ensures.address
     c.qualifier-qualifier.ensures.length) (λ h. c.column.ensures (tree_at _ _ _) h)

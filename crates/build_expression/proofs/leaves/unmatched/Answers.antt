@@ -11,7 +11,7 @@ pub qualified-requires : goal.qualified-requires
 unfolding number_of
 qualified-requires c = record {
   room = c.requires.room;
-  r_value = sym c.kind_of-kind.ensures ∙ ap number_of c.in-Qualified.is;
+  qualified = sym c.kind_of-kind.ensures ∙ ap number_of c.in-Qualified.is;
   unmatched = c.requires.unmatched;
 }
 

@@ -15,4 +15,4 @@ pub join-requires-clause-room : goal.join-requires-clause-room
 join-requires-clause-room c = (later-join-room c.requires c.in_ok-b.ensures).0
 
 pub returns : goal.returns
-returns c = later-joined c.requires c.in_ok-b.ensures c.in_ok-s.ensures c.join.ensures
+returns c = rw c.next.ensures (later-joined c.requires c.in_ok-b.ensures c.in_ok-s.ensures c.join.ensures)

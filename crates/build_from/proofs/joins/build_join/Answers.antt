@@ -19,13 +19,13 @@ join-requires-clause-root c = let b = (c.in_ok-p.ensures 0).is.behind in omega (
 pub push_remap-requires : goal.push_remap-requires
 push_remap-requires c = let k = join-remap-room c.requires c.in_ok-s.ensures
     (λ h. rw (c.view.ensures.labels, c.view.ensures.matches, c.view.ensures.tables) at (c.in_ok-p.ensures h))
-    c.join_kind-kind.ensures.0 c.join.ensures in
+    c.is_outer-outer.ensures c.join.ensures in
     record { room = k.0; most = k.1 }
 
-pub returns-then-kind : goal.returns-then-kind
-returns-then-kind c = join-swapped c.requires c.in_ok-s.ensures (λ h. rw (c.view.ensures.labels, c.view.ensures.matches, c.view.ensures.tables) at (c.in_ok-p.ensures h)) c.join_kind-kind.ensures.0 c.join.ensures
-    (sym c.if-kind.true ∙ c.join_kind-kind.ensures.1) c.push_remap.ensures c.swap.ensures c.line-l.ensures
+pub returns-then-is_right : goal.returns-then-is_right
+returns-then-is_right c = join-swapped c.requires c.in_ok-s.ensures (λ h. rw (c.view.ensures.labels, c.view.ensures.matches, c.view.ensures.tables) at (c.in_ok-p.ensures h)) c.is_outer-outer.ensures c.join.ensures
+    (sym c.if-is_right.true ∙ c.is_right.ensures) c.push_remap.ensures c.swap.ensures c.line-l.ensures
 
 pub returns : goal.returns
-returns c = join-ordered c.requires c.in_ok-s.ensures (λ h. rw (c.view.ensures.labels, c.view.ensures.matches, c.view.ensures.tables) at (c.in_ok-p.ensures h)) c.join_kind-kind.ensures.0 c.join.ensures
-    (sym c.if-kind.false ∙ c.join_kind-kind.ensures.1) c.line-l.ensures
+returns c = join-ordered c.requires c.in_ok-s.ensures (λ h. rw (c.view.ensures.labels, c.view.ensures.matches, c.view.ensures.tables) at (c.in_ok-p.ensures h)) c.is_outer-outer.ensures c.join.ensures
+    (sym c.if-is_right.false ∙ c.is_right.ensures) c.line-l.ensures

@@ -11,5 +11,5 @@ pub scan_row-requires : goal.scan_row-requires
 scan_row-requires c = omega (arith, (table-room c.requires).0)
 
 pub returns : goal.returns
-returns c = table-accepted _ _ _ _ _ _ c.requires c.name-name.ensures.address c.name-name.ensures.length _ c.get_table-found.ensures
-    c.in-Some.is c.named_scope-s.ensures c.scan_row.ensures c.line-l.ensures
+returns c = rw c.next.ensures (table-accepted _ _ _ _ _ _ c.requires c.name-name.ensures.address c.name-name.ensures.length _
+    c.get_table-found.ensures c.in-Some.is c.named_scope-s.ensures c.scan_row.ensures c.line-l.ensures)

@@ -15,5 +15,5 @@ returns-in_err-cell c = let p = err_from_is_err_and c.from_residual.result c.fro
     (kept-groups h) (kept-functions h) refl)
 
 pub returns : goal.returns
-returns c = λ gs fs h t. built-done c.args.scope gs fs t _ _ (rw (c.view.ensures.labels, c.view.ensures.matches, c.view.ensures.tables) at c.in_ok-cell.ensures)
-    (kept-groups h) (kept-functions h) refl refl h.rows-are c.add_aggregates-child.ensures
+returns c = rw c.next.ensures (λ gs fs h t. built-done c.args.scope gs fs t _ _ (rw (c.view.ensures.labels, c.view.ensures.matches, c.view.ensures.tables) at c.in_ok-cell.ensures)
+    (kept-groups h) (kept-functions h) refl refl h.rows-are c.add_aggregates-child.ensures)

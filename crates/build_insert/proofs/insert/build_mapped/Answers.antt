@@ -6,7 +6,7 @@ use Rattle.build_insert.proofs.insert.build_mapped.Goals as goal
 pub end_insert-requires : goal.end_insert-requires
 end_insert-requires c = record {
   area_room = rows-area c.requires.free c.requires.insert_fits c.build_node.ensures _ c.in_ok-cells.was;
-  cells_le_most_plan_cells = rows-most c.requires.free c.requires.insert_fits
+  few_cells = rows-most c.requires.free c.requires.insert_fits
       c.build_node.ensures _ c.in_ok-cells.was;
   map_fits = rows-map c.requires.free c.requires.insert_fits c.build_node.ensures _ c.in_ok-cells.was;
 }

@@ -1,5 +1,6 @@
 -- `own::put_mappings`: value by value.
 use native.Mathlib.Omega.{arith}
+use mathlib.Core.Path.{refl}
 use Rattle.build_insert.specs.Own.{put-none, put-room, put-more}
 use Rattle.build_insert.proofs.own.put_mappings.Goals as goal
 
@@ -12,5 +13,5 @@ mapping-requires c = put-room c.loop-v.invariant.1 _ c.loop-v-test.true c.requir
 pub loop-v-preserved : goal.loop-v-preserved
 loop-v-preserved c = (
   omega (arith, c.loop-v-test.true),
-  put-more c.loop-v.invariant.1 _ c.column_of-column.ensures c.mapping.ensures,
+  put-more c.loop-v.invariant.1 _ refl c.mapping.ensures,
 )

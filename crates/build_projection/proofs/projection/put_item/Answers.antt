@@ -1,8 +1,9 @@
 -- `projection::put_item`: the cells of an item's expression, then its part of the record.
 use native.Mathlib.Omega.{arith}
+use mathlib.Core.Path.{sym, ◌∙◌}
 use Rattle.std.proofs.lemmas.Result.{err_from_is_err_and}
 use Rattle.build_projection.specs.Items.{item_of}
-use Rattle.build_projection.specs.Aliases.{item-tree, alias-span}
+use Rattle.build_projection.specs.Aliases.{item-tree, alias-span, alias-numbers}
 use Rattle.build_projection.specs.Pushes.{put_refused, put_some, put-done}
 use Rattle.build_projection.proofs.projection.put_item.Goals as goal
 
@@ -19,4 +20,5 @@ returns-in_err-next c = let p = err_from_is_err_and c.from_residual.result c.fro
 pub returns : goal.returns
 returns c = put-done _ _ c.item_row-row.ensures c.in_ok-next.ensures
     (c.item.ensures (item_of c.args.exprs.now.texts.catalog.now c.args.exprs.now.texts.statement.now c.args.exprs.now.table.now c.args.parts.now c.args.x).alias
-    (rw c.alias_at-alias.ensures (alias-span c.args.exprs.now.texts.catalog.now c.args.exprs.now.texts.statement.now c.args.exprs.now.table.now c.args.parts.now c.args.x)))
+    (rw c.alias_at-alias.ensures (alias-span c.args.exprs.now.texts.catalog.now c.args.exprs.now.texts.statement.now c.args.exprs.now.table.now c.args.parts.now c.args.x
+    ∙ sym (alias-numbers c.args.exprs.now.texts.catalog.now c.args.exprs.now.texts.statement.now c.args.parts.now c.args.x))))

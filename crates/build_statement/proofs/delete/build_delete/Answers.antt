@@ -14,7 +14,7 @@ returns-in_err-target c = rw (exit c.from_residual.result c.from_residual.ensure
 pub end_delete-requires : goal.end_delete-requires
 end_delete-requires c = record {
   free = free-kept c.requires.free c.build_target.auto.area;
-  cells_le_most_plan_cells = delete-most c.args.exprs.now.texts.catalog.now c.args.exprs.now.texts.statement.now c.args.tables.now c.args.exprs.now.table.now c.args.parts.now c.requires c.build_target.ensures _ c.in_ok-target.was;
+  few_cells = delete-most c.args.exprs.now.texts.catalog.now c.args.exprs.now.texts.statement.now c.args.tables.now c.args.exprs.now.table.now c.args.parts.now c.requires c.build_target.ensures _ c.in_ok-target.was;
 }
 
 pub returns : goal.returns

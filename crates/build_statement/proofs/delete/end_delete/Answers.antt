@@ -7,7 +7,7 @@ use Rattle.build_statement.proofs.delete.end_delete.Goals as goal
 pub scan-requires : goal.scan-requires
 scan-requires c = record {
   room = omega (arith, c.requires.free.none, c.requires.free.nodes_room);
-  root = omega (arith, root-most _ _ c.checked_sub.ensures, c.requires.cells_le_most_plan_cells);
+  root = omega (arith, root-most _ _ c.checked_sub.ensures, c.requires.few_cells);
 }
 
 pub delete-requires : goal.delete-requires
@@ -16,9 +16,9 @@ delete-requires c = delete-own-room _ _ c.args.tables.now c.args.i _ _ _ c.requi
 
 pub finish-requires : goal.finish-requires
 finish-requires c = delete-room _ _ c.args.tables.now c.args.i _ _ _ c.requires.free c.clipped-name.ensures.address
-    c.clipped-name.ensures.length c.scan.ensures c.key.ensures c.delete.ensures c.requires.cells_le_most_plan_cells
+    c.clipped-name.ensures.length c.scan.ensures c.key.ensures c.delete.ensures c.requires.few_cells
 
 pub returns : goal.returns
 returns c = delete-ends _ _ c.args.tables.now c.args.i _ _ _ c.requires.free c.clipped-name.ensures.address
     c.clipped-name.ensures.length c.scan.ensures c.key.ensures c.delete.ensures _ (root-is _ _ c.checked_sub.ensures)
-    c.requires.cells_le_most_plan_cells c.finish.ensures
+    c.requires.few_cells c.finish.ensures

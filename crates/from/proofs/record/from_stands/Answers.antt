@@ -4,10 +4,10 @@ use Rattle.rules.specs.Lines.{bytes}
 use Rattle.from.specs.Fields.{is-first, is-second}
 use Rattle.from.proofs.record.from_stands.Goals as goal
 
-pub returns-then-holds : goal.returns-then-holds
+pub returns-then-equal : goal.returns-then-equal
 unfolding bytes
-returns-then-holds c = λ l d k. is-first _ _ l d k _ c.fields-f.ensures _ _ (sym c.holds.ensures ∙ c.if-holds.true)
+returns-then-equal c = λ l d k. is-first _ _ l d k _ c.fields-f.ensures _ _ (sym (rw c.field-word.ensures at c.equal.ensures) ∙ c.if-equal.true)
 
 pub returns : goal.returns
 unfolding bytes
-returns c = λ l d k. c.holds-2.ensures ∙ is-second _ _ l d k _ c.fields-f.ensures _ _ (sym c.holds.ensures ∙ c.if-holds.false)
+returns c = λ l d k. (rw c.field-word.ensures at c.equal-2.ensures) ∙ is-second _ _ l d k _ c.fields-f.ensures _ _ (sym (rw c.field-word.ensures at c.equal.ensures) ∙ c.if-equal.false)

@@ -8,12 +8,12 @@ use Rattle.from.proofs.record.join_record.Goals as goal
 
 pub returns-in_err-kind : goal.returns-in_err-kind
 unfolding joins join_number bytes
-returns-in_err-kind c = rw c.from_residual.ensures (no_row (join-none _ _ _ _ _ _ refl (rw c.part.ensures at c.beside.ensures) c.in_err-kind.was))
+returns-in_err-kind c = λ t o q. rw c.from_residual.ensures (no_row (join-none _ _ _ refl c.beside.ensures c.in_err-kind.was))
 
 pub returns-in_err-on : goal.returns-in_err-on
 unfolding joins join_number predicates bytes
-returns-in_err-on c = rw c.from_residual-in_err-on.ensures (no_row (predicate-none _ _ _ _ _ _ refl (rw c.part.ensures at c.beside.ensures) _ refl (rw c.part-2.ensures at c.beside-2.ensures) c.in_err-on.was))
+returns-in_err-on c = λ t o q. rw c.from_residual-in_err-on.ensures (no_row (predicate-none _ _ _ refl c.beside.ensures _ refl c.beside-2.ensures c.in_err-on.was))
 
 pub returns : goal.returns
 unfolding joins join_number predicates bytes
-returns c = join-some _ _ _ _ _ _ refl (rw c.part.ensures at c.beside.ensures) _ refl (rw c.part-2.ensures at c.beside-2.ensures) _ _ _ c.in_ok-kind.was c.in_ok-on.was
+returns c = λ t o q. join-some _ _ _ refl c.beside.ensures _ refl c.beside-2.ensures t _ _ _ c.in_ok-kind.was c.in_ok-on.was

@@ -12,7 +12,7 @@ use Rattle.text.specs.Lines.{field}
 use Rattle.text.specs.Words.{find, words_of}
 use Rattle.text.specs.Packed.{Packed, find_number, Apart, find_none, packed-word}
 use Rattle.text.specs.Tables.{literal-table}
-use Rattle.literal.specs.Records.{literal-as, no-literal-as, literal-words, literal-null, literal-null-not, literal-field, literal-not}
+use Rattle.literal.specs.Records.{literal-as, no-literal-as, literal-words, literal-null, literal-null-not, literal-field, literal-not, flag-field}
 use Rattle.literal.specs.Records.{int-some, int-none, float-some, float-none, text-some, no-literal}
 use Rattle.literal.proofs.record.literal_at.Goals as goal
 
@@ -28,44 +28,44 @@ behind n ns r h e = omega (arith, rw (find_number, ne_eqb r n h) at e)
 
 pub returns-in-1 : goal.returns-in-1
 unfolding bytes find_number map_option value_numbers kind_number LiteralFits ValueFits
-returns-in-1 c = λ x l d k b. literal-as (literal-null x _ _ l d k _ c.requires.fact_2 _ _ literal-words (at c.packed-word.ensures 0 (rw c.if-word-eq-NULL.true)) refl c.in-1.is) (record { is = refl; fits = λ k e c q f. tt })
+returns-in-1 c = λ x l d k b. literal-as (literal-null x _ _ l d k _ c.requires.fact_2 _ _ literal-words (at (rw c.field.ensures at c.packed-word.ensures) 0 (rw c.if-word-eq-NULL.true)) refl c.in-1.is) (record { is = refl; fits = λ k e c q f. tt })
 
 pub returns-in_default : goal.returns-in_default
 unfolding bytes find_number
-returns-in_default c = λ x l d k b. no-literal-as _ _ (literal-null-not x _ _ l d k _ c.requires.fact_2 _ _ literal-words (at c.packed-word.ensures 0 (rw c.if-word-eq-NULL.true)) refl (λ e. omega (arith, e)))
+returns-in_default c = λ x l d k b. no-literal-as _ _ (literal-null-not x _ _ l d k _ c.requires.fact_2 _ _ literal-words (at (rw c.field.ensures at c.packed-word.ensures) 0 (rw c.if-word-eq-NULL.true)) refl (λ e. omega (arith, e)))
 
 pub returns-then-f-ne2 : goal.returns-then-f-ne2
 unfolding bytes
-returns-then-f-ne2 c = λ x l d k b. no-literal-as _ _ (literal-not x _ _ l d k _ c.requires.fact_2 _ _ literal-words (at c.packed-word.ensures _ refl) (behind _ _ _ c.if-word-eq-NULL.false) c.if-f-ne2.true)
+returns-then-f-ne2 c = λ x l d k b. no-literal-as _ _ (literal-not x _ _ l d k _ c.requires.fact_2 _ _ literal-words (at (rw c.field.ensures at c.packed-word.ensures) _ refl) (behind _ _ _ c.if-word-eq-NULL.false) c.if-f-ne2.true)
 
 pub returns-in-6114209634 : goal.returns-in-6114209634
 unfolding bytes find_number
-returns-in-6114209634 c = λ x l d k b. literal-as (literal-field x _ _ l d k _ c.requires.fact_2 _ _ literal-words (at c.packed-word.ensures 1 (rw c.in-6114209634.is)) c.if-f-ne2.false) (rw b (c.flag.ensures c.args.base))
+returns-in-6114209634 c = λ x l d k b. literal-as (literal-field x _ _ l d k _ c.requires.fact_2 _ _ literal-words (at (rw c.field.ensures at c.packed-word.ensures) 1 (rw c.in-6114209634.is)) c.if-f-ne2.false) (rw b (literal-as (flag-field _ _ _ _) (rw c.field-value.ensures at (c.flag.ensures c.args.base c.args.t.now))))
 
 pub returns-in_err-int-in-24407657 : goal.returns-in_err-int-in-24407657
 unfolding bytes find_number field
-returns-in_err-int-in-24407657 c = λ x l d k b. literal-as (literal-field x _ _ l d k _ c.requires.fact_2 _ _ literal-words (at c.packed-word.ensures 2 (rw c.in-24407657.is)) c.if-f-ne2.false) (rw (b, c.from_residual.ensures) (no-literal-as _ _ (int-none _ c.in_err-int-in-24407657.ensures)))
+returns-in_err-int-in-24407657 c = λ x l d k b. literal-as (literal-field x _ _ l d k _ c.requires.fact_2 _ _ literal-words (at (rw c.field.ensures at c.packed-word.ensures) 2 (rw c.in-24407657.is)) c.if-f-ne2.false) (rw (b, c.from_residual.ensures) (no-literal-as _ _ (int-none _ (rw c.field-value.ensures at c.in_err-int-in-24407657.ensures))))
 
 pub returns-in_ok-int-in-24407657 : goal.returns-in_ok-int-in-24407657
 unfolding bytes find_number field
-returns-in_ok-int-in-24407657 c = λ x l d k b. literal-as (literal-field x _ _ l d k _ c.requires.fact_2 _ _ literal-words (at c.packed-word.ensures 2 (rw c.in-24407657.is)) c.if-f-ne2.false) (rw b (int-some _ _ _ _ _ c.in_ok-int-in-24407657.ensures (omega arith) c.halves.ensures))
+returns-in_ok-int-in-24407657 c = λ x l d k b. literal-as (literal-field x _ _ l d k _ c.requires.fact_2 _ _ literal-words (at (rw c.field.ensures at c.packed-word.ensures) 2 (rw c.in-24407657.is)) c.if-f-ne2.false) (rw b (int-some _ _ _ _ _ (rw c.field-value.ensures at c.in_ok-int-in-24407657.ensures) (omega arith) c.halves.ensures))
 
 pub returns-in_err-float-in-1599362526310 : goal.returns-in_err-float-in-1599362526310
 unfolding bytes find_number field
-returns-in_err-float-in-1599362526310 c = λ x l d k b. literal-as (literal-field x _ _ l d k _ c.requires.fact_2 _ _ literal-words (at c.packed-word.ensures 3 (rw c.in-1599362526310.is)) c.if-f-ne2.false) (rw (b, c.from_residual-in_err-float-in-1599362526310.ensures) (no-literal-as _ _ (float-none _ c.in_err-float-in-1599362526310.ensures)))
+returns-in_err-float-in-1599362526310 c = λ x l d k b. literal-as (literal-field x _ _ l d k _ c.requires.fact_2 _ _ literal-words (at (rw c.field.ensures at c.packed-word.ensures) 3 (rw c.in-1599362526310.is)) c.if-f-ne2.false) (rw (b, c.from_residual-in_err-float-in-1599362526310.ensures) (no-literal-as _ _ (float-none _ (rw c.field-value.ensures at c.in_err-float-in-1599362526310.ensures))))
 
 pub returns-in_ok-float-in-1599362526310 : goal.returns-in_ok-float-in-1599362526310
 unfolding bytes find_number field
-returns-in_ok-float-in-1599362526310 c = λ x l d k b. literal-as (literal-field x _ _ l d k _ c.requires.fact_2 _ _ literal-words (at c.packed-word.ensures 3 (rw c.in-1599362526310.is)) c.if-f-ne2.false) (rw b (float-some _ _ _ _ _ c.in_ok-float-in-1599362526310.ensures c.halves-in-1599362526310.ensures))
+returns-in_ok-float-in-1599362526310 c = λ x l d k b. literal-as (literal-field x _ _ l d k _ c.requires.fact_2 _ _ literal-words (at (rw c.field.ensures at c.packed-word.ensures) 3 (rw c.in-1599362526310.is)) c.if-f-ne2.false) (rw b (float-some _ _ _ _ _ (rw c.field-value.ensures at c.in_ok-float-in-1599362526310.ensures) c.halves-in-1599362526310.ensures))
 
 pub returns-in-6249014644 : goal.returns-in-6249014644
 unfolding bytes find_number
-returns-in-6249014644 c = λ x l d k b. literal-as (literal-field x _ _ l d k _ c.requires.fact_2 _ _ literal-words (at c.packed-word.ensures 4 (rw c.in-6249014644.is)) c.if-f-ne2.false)
+returns-in-6249014644 c = λ x l d k b. literal-as (literal-field x _ _ l d k _ c.requires.fact_2 _ _ literal-words (at (rw c.field.ensures at c.packed-word.ensures) 4 (rw c.in-6249014644.is)) c.if-f-ne2.false)
     (rw b (text-some _ _ _ _ _ (inside-field _ _ _ c.requires.fact_2 1 c.requires.fact_1.0 c.requires.fact_1.1 (omega arith)) (refl, refl, refl)))
 
 pub returns-in_default-word : goal.returns-in_default-word
 unfolding bytes Apart
-returns-in_default-word c = λ x l d k b. literal-as (literal-field x _ _ l d k _ c.requires.fact_2 _ _ literal-words (at c.packed-word.ensures 5
+returns-in_default-word c = λ x l d k b. literal-as (literal-field x _ _ l d k _ c.requires.fact_2 _ _ literal-words (at (rw c.field.ensures at c.packed-word.ensures) 5
     (find_none _ _ (c.if-word-eq-NULL.false, (λ e. omega (arith, e), (λ e. omega (arith, e), (λ e. omega (arith, e), (λ e. omega (arith, e), tt))))))) c.if-f-ne2.false) (no-literal-as _ _ (no-literal _ _ (omega arith)))
 
 pub overflow_cast-result : goal.overflow_cast-result

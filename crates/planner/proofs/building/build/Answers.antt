@@ -8,6 +8,3 @@ build_select-requires c = one-table-ready _ _ _ _ _ (sym c.has_one_table.ensures
 
 pub returns-then-has_one_table : goal.returns-then-has_one_table
 returns-then-has_one_table c = plans-as (one-table-built _ _ _ _ _ (sym c.has_one_table.ensures ∙ c.if-has_one_table.true) _) c.build_select.ensures
-
-pub build_kind-requires : goal.build_kind-requires
-build_kind-requires c = record { statement_ready = c.requires.statement_ready; cells_len = c.requires.cells_len.0; free = record { area_room = c.requires.cells_len.1; nodes_room = refl; none = refl } }

@@ -5,9 +5,9 @@ use Rattle.scope.proofs.retain.retain.Goals.{then-not-has_equal, else-not-has_eq
 
 pub loop-r-preserved : goal.loop-r-preserved
 loop-r-preserved c = elim c.if-not-has_equal.branch [
-  | then-not-has_equal w ↦ rw w.kept-is (retain-keep c.loop-r.invariant c.loop-r-test.true c.seen.ensures c.has_equal.ensures
+  | then-not-has_equal w ↦ rw w.kept-is (retain-keep c.loop-r.invariant c.loop-r-test.true c.listed.ensures c.has_equal.ensures
       w.if-not-has_equal.true w.push.ensures)
-  | else-not-has_equal w ↦ rw w.kept-is (retain-skip c.loop-r.invariant c.loop-r-test.true c.seen.ensures c.has_equal.ensures
+  | else-not-has_equal w ↦ rw w.kept-is (retain-skip c.loop-r.invariant c.loop-r-test.true c.listed.ensures c.has_equal.ensures
       w.if-not-has_equal.false)
 ]
 

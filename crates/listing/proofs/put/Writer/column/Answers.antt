@@ -7,4 +7,4 @@ use Rattle.listing.proofs.put.Writer.column.Goals as goal
 
 pub returns : goal.returns
 unfolding column_line bytes
-returns c = lines_same (line c.bytes.ensures (fields-then c.place.ensures (fields-then c.word.ensures (fields-then c.word-2.ensures (fields-then c.word-3.ensures (fields-then c.word-4.ensures c.reference.ensures))))) c.byte.ensures) (λ d q. rw (c.place_at.ensures, c.number.ensures, c.number-2.ensures, c.number-3.ensures, c.number-4.ensures, c.place_at-2.ensures))
+returns c = lines_same (line c.bytes.ensures (fields-then c.place.ensures (fields-then c.word.ensures (fields-then c.word-2.ensures (fields-then c.word-3.ensures (fields-then c.word-4.ensures c.reference.ensures))))) c.byte.ensures) (λ d q. rw (c.place_at.ensures, c.number.ensures, c.number-2.ensures, c.number-3.ensures, c.number-4.ensures, c.number-5.ensures, c.number-6.ensures))

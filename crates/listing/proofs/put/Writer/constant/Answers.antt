@@ -1,28 +1,33 @@
 -- `constant`: by the kind.
-use Rattle.std.proofs.Common.{rules}
+use Rattle.std.proofs.Common.{arith, sym, ◌∙◌}
 use Rattle.rules.specs.Lines.{bytes}
 use Rattle.numbers.specs.Bits.{joined}
+use Rattle.numbers.specs.Literals.{kind_number}
+use Rattle.numbers.specs.declared.literals.LiteralKind.TheVariants as L
 use Rattle.listing.specs.Fields.{fields-same, fields-none}
-use Rattle.listing.specs.Choices.{choose, choose-none, Misses}
-use Rattle.listing.specs.Cells.{value_rest}
+use Rattle.listing.specs.Choices.{choose}
+use Rattle.listing.specs.Cells.{value_rest, kind_kept, value-null}
 use Rattle.listing.proofs.put.Writer.constant.Goals as goal
 
-pub returns-in-2 : goal.returns-in-2
-unfolding value_rest choose bytes
-returns-in-2 c = rw c.in-2.is (fields-same c.word.ensures (λ d q. cc))
+pub returns-in-Null : goal.returns-in-Null
+returns-in-Null c = fields-same fields-none (λ d q. value-null d q _ _ (sym c.of_number.ensures ∙ c.in-Null.is))
 
-pub returns-in-3 : goal.returns-in-3
-unfolding value_rest choose joined
-returns-in-3 c = rw c.in-3.is (fields-same c.integer.ensures (λ d q. cc))
+pub returns-in-Bool : goal.returns-in-Bool
+unfolding value_rest choose bytes kind_number
+returns-in-Bool c = rw (kind_kept c.args.k L.Bool (sym c.of_number.ensures ∙ c.in-Bool.is) (λ z. omega arith))
+    (fields-same c.word.ensures (λ d q. cc))
 
-pub returns-in-4 : goal.returns-in-4
-unfolding value_rest choose joined
-returns-in-4 c = rw c.in-4.is (fields-same c.bits.ensures (λ d q. cc))
+pub returns-in-Int : goal.returns-in-Int
+unfolding value_rest choose joined kind_number
+returns-in-Int c = rw (kind_kept c.args.k L.Int (sym c.of_number.ensures ∙ c.in-Int.is) (λ z. omega arith))
+    (fields-same c.integer.ensures (λ d q. cc))
 
-pub returns-in-5 : goal.returns-in-5
-unfolding value_rest choose
-returns-in-5 c = rw c.in-5.is (fields-same c.place.ensures (λ d q. cc))
+pub returns-in-Float : goal.returns-in-Float
+unfolding value_rest choose joined kind_number
+returns-in-Float c = rw (kind_kept c.args.k L.Float (sym c.of_number.ensures ∙ c.in-Float.is) (λ z. omega arith))
+    (fields-same c.bits.ensures (λ d q. cc))
 
-pub returns-in_default : goal.returns-in_default
-unfolding value_rest Misses
-returns-in_default c = fields-same fields-none (λ d q. choose-none _ _ _ (search rules))
+pub returns-in-Text : goal.returns-in-Text
+unfolding value_rest choose kind_number
+returns-in-Text c = rw (kind_kept c.args.k L.Text (sym c.of_number.ensures ∙ c.in-Text.is) (λ z. omega arith))
+    (fields-same c.place.ensures (λ d q. cc))

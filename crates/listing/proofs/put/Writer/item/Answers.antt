@@ -5,4 +5,4 @@ use Rattle.listing.proofs.put.Writer.item.Goals as goal
 
 pub returns : goal.returns
 unfolding item_fields
-returns c = fields-same (fields-then c.number-2.ensures c.alias.ensures) (λ d q. rw (c.number.ensures, c.place_at.ensures))
+returns c = fields-same (fields-then c.number-2.ensures c.alias.ensures) (λ d q. cc)

@@ -2,10 +2,10 @@
 use Rattle.rules.specs.Lines.{bytes}
 use Rattle.listing.specs.Fields.{fields-then}
 use Rattle.listing.specs.Lines.{line, lines_same}
-use Rattle.listing.specs.Nodes.{node_line, node_word}
+use Rattle.listing.specs.Nodes.{node_line}
 use Rattle.listing.proofs.put.Writer.node.Goals as goal
 
 pub returns : goal.returns
-unfolding node_line node_word bytes
+unfolding node_line bytes
 returns c = lines_same
-    (line c.bytes.ensures (fields-then c.number.ensures (fields-then c.word.ensures c.node_rest.ensures)) c.byte.ensures) (λ d q. cc)
+    (line c.bytes.ensures (fields-then c.number.ensures (fields-then c.field.ensures c.node_rest.ensures)) c.byte.ensures) (λ d q. rw (c.kind_word.ensures, c.number-k.ensures) cc)

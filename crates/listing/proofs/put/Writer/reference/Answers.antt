@@ -1,10 +1,14 @@
 -- `reference`: by whether there is one.
+use Rattle.std.proofs.Common.{sym, ◌∙◌}
 use Rattle.listing.specs.Fields.{fields-same, fields-none}
 use Rattle.listing.specs.Own.{reference-none, reference-some}
+use Rattle.listing.specs.Places.{some-length, some-place}
 use Rattle.listing.proofs.put.Writer.reference.Goals as goal
 
-pub returns-then-reference-eq0 : goal.returns-then-reference-eq0
-returns-then-reference-eq0 c = fields-same fields-none (λ d q. reference-none _ _ _ _ c.if-reference-eq0.true)
+pub returns-in-Some : goal.returns-in-Some
+returns-in-Some c = let e = some-place c.args.address c.args.length _ (sym c.of_numbers.ensures ∙ c.in-Some.is) in
+    fields-same c.place.ensures (λ d q. rw e.1 (reference-some _ _ _ _ e.0))
 
-pub returns : goal.returns
-returns c = fields-same c.place.ensures (λ d q. reference-some _ _ _ _ c.if-reference-eq0.false)
+pub returns-in_default : goal.returns-in_default
+returns-in_default c = fields-same fields-none
+    (λ d q. reference-none _ _ _ _ (some-length c.args.address _ (sym c.of_numbers.ensures ∙ c.in_default.is)))

@@ -5,4 +5,4 @@ use Rattle.listing.proofs.put.Writer.scan.Goals as goal
 
 pub returns : goal.returns
 unfolding scan_fields
-returns c = fields-same (fields-then c.place.ensures (fields-then c.alias.ensures c.given.ensures)) (λ d q. rw (c.place_at.ensures, c.place_at-2.ensures, c.number.ensures))
+returns c = fields-same (fields-then c.place.ensures (fields-then c.alias.ensures c.given.ensures)) (λ d q. rw (c.place_at.ensures, c.number.ensures, c.number-2.ensures, c.number-3.ensures))

@@ -1,11 +1,11 @@
--- `column_type`: by the number that the word is packed into.
+-- `words::datatype`: by the number that the word is packed into.
 use native.Mathlib.Omega.{arith}
 use Rattle.rules.specs.ReadColumn.{datatypes}
 use Rattle.text.specs.Words.{nth}
 use Rattle.text.specs.Packed.{find_number, Apart, find_none}
 use Rattle.numbers.specs.Datatypes.{type_of}
-use Rattle.schema.specs.ColumnRecords.{type-packed}
-use Rattle.schema.proofs.record.column_type.Goals as goal
+use Rattle.text.specs.Tables.{type-packed}
+use Rattle.text.proofs.words.datatype.Goals as goal
 
 pub returns-in-6114209634 : goal.returns-in-6114209634
 unfolding find_number nth datatypes type_of

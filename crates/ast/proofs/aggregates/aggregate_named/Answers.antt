@@ -1,10 +1,10 @@
--- `aggregates::is_aggregate`: the table is the rules'.
+-- `aggregates::aggregate_named`: the table is the rules'.
 use Rattle.std.proofs.Common.{refl}
 use Rattle.rules.specs.Lines.{bytes}
 use Rattle.rules.specs.BuildAggregate.{aggregates}
 use Rattle.numbers.specs.Aggregates.{aggregate_of}
 use Rattle.ast.specs.Aggregates.{named-beside}
-use Rattle.ast.proofs.aggregates.is_aggregate.Goals as goal
+use Rattle.ast.proofs.aggregates.aggregate_named.Goals as goal
 
 pub returns : goal.returns
 unfolding aggregates aggregate_of bytes

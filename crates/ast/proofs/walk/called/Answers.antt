@@ -1,12 +1,12 @@
--- `function::called`, by the kind of the record and its name.
+-- `walk::called`, by the kind of the record and its name.
 use Rattle.std.proofs.Common.{refl, sym, ◌∙◌}
 use borrow.Author.Tests.{eqb-false}
 use Rattle.ast.specs.Aggregates.{named_of}
 use Rattle.ast.specs.Row.{number_of}
 use Rattle.ast.specs.declared.row.Kind.TheVariants as K
 use Rattle.ast.proofs.KindNumbers.{same-kinds, one-kind, not-true}
-use Rattle.build_aggregate.specs.Functions.{called-none, called-some}
-use Rattle.build_aggregate.proofs.function.called.Goals as goal
+use Rattle.ast.specs.Called.{called-none, called-some}
+use Rattle.ast.proofs.walk.called.Goals as goal
 
 pub returns-then-ne : goal.returns-then-ne
 unfolding named_of number_of
@@ -15,4 +15,4 @@ returns-then-ne c = called-none _ _ _ _ (eqb-false _ _ (sym (same-kinds _ K.Call
 pub returns : goal.returns
 unfolding number_of
 returns c = called-some _ _ _ _ _ _ _ (one-kind _ K.Call c.kind_of.ensures refl (sym c.ne.ensures ∙ c.if-ne.false))
-    c.name.ensures.address c.name.ensures.length c.is_aggregate.ensures
+    c.name.ensures.address c.name.ensures.length c.aggregate_named.ensures
