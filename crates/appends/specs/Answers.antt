@@ -20,7 +20,7 @@ ok_same e = cc
 
 -- no answer is both accepted and refused
 pub ok-not-refused : {A : Type 0} {X : Type 0} (a : A) (w : Refusal) → ◌≡◌ {A = Answer A} (ok a) (refused w) → X
-ok-not-refused a w e = absurd (let z : ◌≡◌ {A = ℕ} 0 1 = cc in omega arith)
+ok-not-refused a w e = grind arith
 
 -- GUARDS
 pub refuse_if-passed : {B : Type 0} (b : Bool) (r : Reason) (l : ℕ) (f : Unit {0} → Answer B) → b ≡ false

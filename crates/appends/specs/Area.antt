@@ -3,21 +3,21 @@ use Rattle.std.specs.Prelude.{ℕ, ◌+◌, ◌*◌, ◌≡◌, Bool}
 use Rattle.std.proofs.Common.{arith, ap, ◌∙◌, length-append}
 use Rattle.std.proofs.Math.Path.{refl}
 use mathlib.Core.List.{List, [], ◌∷◌, ◌++◌, map, append_assoc, append-nil}
-use Rattle.std.proofs.Math.Option.{Option, none, some}
+use Rattle.std.proofs.Math.Option.{Option}
 use Rattle.std.proofs.Math.ListN.{length}
 use Rattle.rules.specs.Lists.{concat}
 use Rattle.rules.specs.Lines.{Word}
-use Rattle.rules.specs.Schema.{Value, null, bool, int, float, text, Table}
+use Rattle.rules.specs.Schema.{Table}
 use Rattle.rules.specs.Plan.{Built, Node, Mapping, Made, Plan}
 use Rattle.rules.specs.Plan as P
 use Rattle.rules.specs.Cells.{Cell, count_all, cells_all, expressions, cell_count, number_second, plan_expressions}
 use Rattle.rules.specs.Cells.{plan_cells, number_plan}
-use Rattle.rules.specs.Cells as C
 use Rattle.rules.specs.Nodes.{NodeRecord, node_of, node_records, plan_records}
-use Rattle.rules.specs.Area.{type_code, option_span, default_numbers, halves, span, flag}
-use Rattle.rules.specs.Area.{value_numbers, is_numbers, cell_numbers, record_numbers, own_numbers, map_numbers, set_numbers}
+use Rattle.rules.specs.Area.{span, flag}
+use Rattle.rules.specs.Area.{cell_numbers, record_numbers, own_numbers, map_numbers, set_numbers}
 use Rattle.rules.specs.Area.{made_numbers, plan_code, cell_part, node_part, own_start, header, plan_numbers}
 use Rattle.claims.specs.Cells.Length.{cells_all-length}
+use Rattle.claims.specs.Room.Nodes.{cell-size}
 use Rattle.appends.specs.Lists.Joined.{cells-append}
 use Rattle.appends.specs.Nodes.Lays.{Lays, Adds}
 use Rattle.appends.specs.Nodes.Lengths.{lays-cells, lays-nodes}
@@ -51,40 +51,10 @@ unfolding records_numbers concat
 records-numbers-one xs r = concat-append record_numbers xs (r ∷ []) ∙ rw append-nil
 
 -- a cell is four numbers
-pub cell-four : (c : Cell) → length (cell_numbers c) ≡ 4
-unfolding cell_numbers value_numbers is_numbers halves span
-cell-four (C.constant null) = refl
-cell-four (C.constant (bool b)) = refl
-cell-four (C.constant (int n)) = refl
-cell-four (C.constant (float b)) = refl
-cell-four (C.constant (text w)) = refl
-cell-four (C.column i) = refl
-cell-four (C.unary o a) = refl
-cell-four (C.binary o a b) = refl
-cell-four (C.is a null) = refl
-cell-four (C.is a (bool b)) = refl
-cell-four (C.is a (int n)) = refl
-cell-four (C.is a (float b)) = refl
-cell-four (C.is a (text w)) = refl
-
 pub cells-four : (cs : List Cell) → length (cells_numbers cs) ≡ 4 * length cs
 unfolding cells_numbers concat
 cells-four [] = refl
-cells-four (c ∷ cs) = rw (length-append, cell-four c, cells-four cs) (omega arith)
-
--- a created column is twelve numbers
-pub made-twelve : (c : Made) → length (made_numbers c) ≡ 12
-unfolding made_numbers span option_span default_numbers cell_numbers
-made-twelve c = go c.reference c.default
-  where
-    default-four : (d : Option Value) → length (default_numbers d) ≡ 4
-    default-four none = refl
-    default-four (some v) = cell-four (C.constant v)
-
-    go : (r : Option Word) (d : Option Value) → length (span c.name ++ (type_code c.type ∷ flag c.nullable
-        ∷ flag c.unique ∷ flag c.index ∷ (option_span r ++ default_numbers d))) ≡ 12
-    go none d = rw (default-four d)
-    go (some w) d = rw (default-four d)
+cells-four (c ∷ cs) = rw (length-append, cell-size c, cells-four cs) (omega arith)
 
 -- THE WHOLE
 -- the header of a plan of statement kind c: j cells, m nodes that are b numbers, and w numbers of its own

@@ -1,5 +1,5 @@
 -- Kinds and their numbers.
-use Rattle.std.specs.Prelude.{ℕ, suc, ◌+◌, ◌≡◌, Bool, true, false, not, eqb}
+use Rattle.std.specs.Prelude.{ℕ, suc, ◌+◌, ◌≡◌, Bool, false, not, eqb}
 use Rattle.std.proofs.Common.{◌∙◌, refl, sym, ap, add-one}
 use Rattle.std.proofs.Math.Dec.{eqb-suc-suc}
 use denote.Enum.Declared.{tag_of}
@@ -21,10 +21,6 @@ number-is K.Binary = refl
 number-is K.Is = refl
 number-is K.Literal = refl
 
-pub not-true : (b : Bool) → not b ≡ true → b ≡ false
-not-true true h = sym h
-not-true false h = refl
-
 -- kinds with the numbers m and n
 module _ (k l : Kind) {m n : ℕ} (e : number_of k ≡ m) (f : number_of l ≡ n) where
   pub same-kinds : sameb the_type k l ≡ eqb m n
@@ -35,3 +31,7 @@ module _ (k l : Kind) {m n : ℕ} (e : number_of k ≡ m) (f : number_of l ≡ n
 
   pub one-kind : not (sameb the_type k l) ≡ false → m ≡ n
   one-kind h = sym e ∙ ap number_of (differs_false the_type tt k l h) ∙ f
+
+  -- kinds that are found to be one, which is x
+  pub both-kinds : {b : Bool} {x : Kind} → b ≡ not (sameb the_type k l) → b ≡ false → k ≡ x → (m ≡ number_of x) × (n ≡ number_of x)
+  both-kinds g h i = let z = sym e ∙ ap number_of i in (z, sym (one-kind (sym g ∙ h)) ∙ z)

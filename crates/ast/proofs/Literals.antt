@@ -8,6 +8,7 @@ use mathlib.Core.Logic.{◌⊎◌, ⊎_elim}
 use lib.Dec.{eqb}
 use lib.IntN.{ℤ, pos, negsuc}
 use lib.ListN.{get_or}
+use Rattle.std.proofs.lemmas.Bool.{false_from_ne_true}
 use borrow.Author.Tests.{eqb-true, eqb-false, eq-eqb, ne_eqb}
 use Rattle.rules.specs.Lists.{Bytes, same}
 use Rattle.rules.specs.Schema.{bool, int, float}
@@ -19,10 +20,6 @@ use Rattle.numbers.specs.Values.{is_one}
 use Rattle.numbers.specs.Literals.{kind_number, kind_at, kind-back, literal_of}
 use Rattle.numbers.specs.declared.literals.LiteralKind.{LiteralKind}
 use Rattle.numbers.specs.declared.literals.LiteralKind.TheVariants as L
-
-no_true : (b : Bool) → (b ≡ true → ⊥) → b ≡ false
-no_true true h = absurd (h refl)
-no_true false h = refl
 
 -- a literal's kind is the first number of its contents
 value-kind : (l : LiteralKind) (c q : Bytes) (a b : ℕ) → head_d (contents (literal_of l c q a b)) 0 ≡ kind_number l
@@ -44,7 +41,7 @@ value-kind L.Text c q a b = refl
 module _ (c q : Bytes) (l m : LiteralKind) (a b x y : ℕ) where
   pub values-apart : (l ≡ m → ⊥) → same_value (literal_of l c q a b) (literal_of m c q x y) ≡ false
   unfolding same_value
-  values-apart h = no_true _ (λ e. h (sym (kind-back l) ∙ ap kind_at (numbers e) ∙ kind-back m))
+  values-apart h = false_from_ne_true _ (λ e. h (sym (kind-back l) ∙ ap kind_at (numbers e) ∙ kind-back m))
     where
       numbers : same (contents (literal_of l c q a b)) (contents (literal_of m c q x y)) ≡ true → kind_number l ≡ kind_number m
       numbers e = sym (value-kind l c q a b) ∙ ap (λ (r : List ℕ). head_d r 0) (same_true _ _ e) ∙ value-kind m c q x y
@@ -76,7 +73,7 @@ ints m n h l = pick (eqb m n) refl
 
     pick : (t : Bool) → eqb m n ≡ t → same_value (int (signed m)) (int (signed n)) ≡ t
     pick true e = ap (λ (k : ℕ). same_value (int (signed k)) (int (signed n))) (eqb-true _ _ e) ∙ same_self (contents (int (signed n)))
-    pick false e = no_true _ (λ s. eqb-false _ _ e (sym (back m h) ∙ ap bits_in (same_true _ _ s) ∙ back n l))
+    pick false e = false_from_ne_true _ (λ s. eqb-false _ _ e (sym (back m h) ∙ ap bits_in (same_true _ _ s) ∙ back n l))
 
 floats : (m n : ℕ) → same_value (float m) (float n) ≡ eqb m n
 unfolding same_value contents same

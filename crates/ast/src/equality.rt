@@ -1,4 +1,5 @@
-// Equality of two expressions of the table (ast.rs, PartialEq of Expression and Literal).
+// Equality of two expressions of the table (ast.rs, PartialEq of Expression and Literal): trees that stand as rows, which no derive
+// compares.
 ghost use Rattle.std.specs.Prelude.{◌≡◌, not, ◌&&◌, eqb};
 ghost use Rattle.rules.specs.Equality.{same_value, equal};
 ghost use Rattle.numbers.specs.Literals.{literal_value};

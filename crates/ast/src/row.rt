@@ -32,6 +32,7 @@ impl From<Kind> for u32 {
 }
 
 // The kind of the record at a row; a star where the number is none.
+#[tactic(auto, unfolding(crate::specs::Row::number_of, crate::specs::Operands::kind_at, numbers::specs::Codes::or_least))]
 pub fn kind_of(table: &[u32], r: usize) -> Kind
     ensures { row.number_of result ≡ kind_at table.now r }
 {

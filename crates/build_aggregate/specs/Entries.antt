@@ -41,7 +41,7 @@ unfolding step_of ◌>>=◌
 step-gave (ok p) xs m e =
     let j : p.2 ≡ m = ap (λ x. x.1) (ok_same e) in
     record { cells = p.0; entry = p.1; is = ap (λ (i : ℕ). ok (p.0, p.1, i)) j }
-step-gave (refused w) xs m e = absurd (let z : ◌≡◌ {A = ℕ} 0 1 = cc in omega arith)
+step-gave (refused w) xs m e = grind arith
 
 pub gave : {D : Type 0} {num : D → List ℕ} {a : Answer (List Cell × D × ℕ)} {n : ℕ}
     {area area' : List ℕ} {s t : Nodes} {x : Written} (m : ℕ) → Lists num a n area area' s t x
@@ -56,7 +56,7 @@ unfolding step_of ◌>>=◌ written_of
 gave-refused {D = D} {a = a} w h e = go a (sym e ∙ h.emits.answer)
   where
     go : (a : Answer (List Cell × D × ℕ)) → ◌≡◌ {A = Written} (Err w) (written_of (step_of a)) → RefusedWith a w
-    go (ok p) g = absurd (let y : ◌≡◌ {A = ℕ} 0 1 = cc in omega arith)
+    go (ok p) g = grind arith
     go (refused v) g = record { why = v; is = refl; refusal = cc }
 
 pub lists-refused : {D : Type 0} {num : D → List ℕ} {a : Answer (List Cell × D × ℕ)} {n : ℕ}
@@ -180,7 +180,7 @@ module _ {B C : Type 0} (L : Listing B C) where
 
 -- THE ROWS
 pub not_done : {w : Refusal} {m : ℕ} → ◌≡◌ {A = Written} (Err w) (Ok m) → ⊥
-not_done e = absurd (let z : ◌≡◌ {A = ℕ} 0 1 = cc in omega arith)
+not_done e = grind arith
 
 done-same : {m m' : ℕ} → ◌≡◌ {A = Written} (Ok m) (Ok m') → m ≡ m'
 done-same e = cc

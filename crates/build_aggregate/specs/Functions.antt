@@ -5,7 +5,7 @@ use Rattle.std.specs.Prelude as std
 use Rattle.std.specs.Prelude.{◌≡◌, Bool, true, false, ◌&&◌, List, [], ◌∷◌, length, eqb, Ok, Err}
 use Rattle.std.proofs.Math.Path.{refl, ap}
 use Rattle.std.proofs.Math.Option.{none, some}
-use Rattle.std.proofs.lemmas.Bool.{eqb-false}
+use Rattle.std.proofs.lemmas.Bool.{false≢true, eqb-false}
 use Rattle.rules.specs.Refusals.{Answer, ok, refused, ◌>>=◌, refuse, argument_count, nested_aggregate}
 use Rattle.rules.specs.Lists.{Bytes, named, is_some}
 use Rattle.rules.specs.Lines.{Word}
@@ -38,9 +38,6 @@ use Rattle.numbers.specs.Reasons.{named as named_reason}
 use Rattle.numbers.specs.declared.refusals.Reason.TheVariants as Re
 use Rattle.build_expression.specs.Calls.{one_argument}
 use Rattle.build_expression.specs.Builds.{scope_at, Builds}
-
-true-false : false ≡ true → ⊥
-true-false e = absurd (let z : ◌≡◌ {A = ℕ} 0 1 = cc in omega arith)
 
 -- the record at row r calls the aggregate g
 pub record Calls (c q : Bytes) (t : List ℕ) (r : ℕ) (g : Aggregate) : Type 0 where
@@ -111,16 +108,16 @@ counted-star : (s : Scope) (n : ℕ) (g : Aggregate) (e : Expr) → starred g e 
     → emit_operand s n g e ≡ ok (C.constant (bool true) ∷ [], n + 1)
 unfolding starred is_count is_some as_star
 counted-star s n count (star l) h = operand-star s n l
-counted-star s n count (column l t w) h = absurd (true-false h)
-counted-star s n count (literal l v) h = absurd (true-false h)
-counted-star s n count (call l w as') h = absurd (true-false h)
-counted-star s n count (unary l o a) h = absurd (true-false h)
-counted-star s n count (binary l o a b) h = absurd (true-false h)
-counted-star s n count (is l a v) h = absurd (true-false h)
-counted-star s n avg e h = absurd (true-false h)
-counted-star s n max e h = absurd (true-false h)
-counted-star s n min e h = absurd (true-false h)
-counted-star s n sum e h = absurd (true-false h)
+counted-star s n count (column l t w) h = absurd (false≢true h)
+counted-star s n count (literal l v) h = absurd (false≢true h)
+counted-star s n count (call l w as') h = absurd (false≢true h)
+counted-star s n count (unary l o a) h = absurd (false≢true h)
+counted-star s n count (binary l o a b) h = absurd (false≢true h)
+counted-star s n count (is l a v) h = absurd (false≢true h)
+counted-star s n avg e h = absurd (false≢true h)
+counted-star s n max e h = absurd (false≢true h)
+counted-star s n min e h = absurd (false≢true h)
+counted-star s n sum e h = absurd (false≢true h)
 
 module _ (c q : Bytes) (t xs ms ts : List ℕ) (g : Aggregate) (r n : ℕ) (area area' : List ℕ) where
   pub operand-constant : starred g (tree_at c q t r) ≡ true
@@ -166,7 +163,7 @@ module _ {c q : Bytes} {t : List ℕ} {r : ℕ} {g : Aggregate} (e : Calls c q t
       go true h = eqb-true (kind_at t r) 4 h
       go false h =
           let z : none ≡ some g = called-none c q t r (eqb-false (kind_at t r) 4 h) ∙ e.is in
-          absurd (let y : ◌≡◌ {A = ℕ} 0 1 = cc in omega arith)
+          grind arith
 
   tree_is : tree_at c q t r ≡ call (line_at t r) (row_name c q t r)
       (arguments_at (tree_at c q t) t (row.argument_count t r) (first_operand r))

@@ -8,18 +8,18 @@ use Rattle.std.proofs.Math.Option.{none, some}
 use Rattle.rules.specs.Refusals.{Reason, argument_count, nested_aggregate, unknown_function}
 use Rattle.rules.specs.Refusals.{Answer, ok, refused, ◌>>=◌, refuse, refuse_if}
 use Rattle.rules.specs.Lists.{Bytes}
-use Rattle.rules.specs.Ast.{Expr, star, column, literal, call, unary, binary, is, Exprs, nil, cons, size, size_all, line_of}
+use Rattle.rules.specs.Ast.{Expr, star, column, literal, call, unary, binary, is, nil, cons, size, line_of}
 use Rattle.rules.specs.Views.{as_call}
 use Rattle.rules.specs.Plan.{Built, Aggregate}
 use Rattle.rules.specs.Area.{function_numbers}
 use Rattle.rules.specs.Cells.{Cell, built_count, root}
 use Rattle.rules.specs.Scope.{Scope}
-use Rattle.rules.specs.Count.{argument_cost, cost_first}
+use Rattle.rules.specs.Count.{argument_cost}
 use Rattle.rules.specs.BuildExpression.{build}
 use Rattle.rules.specs.BuildAggregate.{contains, argument, aggregate_of, build_function}
 use Rattle.claims.specs.Answers.{ensured}
 use Rattle.claims.specs.Cells.Length.{count-positive}
-use Rattle.claims.specs.Count.Costs.{cost-most, function-cost}
+use Rattle.claims.specs.Count.Costs.{cost_first-most, function-cost}
 use Rattle.appends.specs.Answers.{bind_ok, bind-refused, ok_same, ok-not-refused, refuse_if-passed, refuse_if-refused}
 use Rattle.appends.specs.Expressions.Emit.{emit}
 use Rattle.appends.specs.Lists.Each.{emit_entry, entry_of}
@@ -57,7 +57,7 @@ entry-ok key mark (ok b) n xs c m e = record {
   entry = ap (λ p. p.1) (ok_same e);
   next = ap (λ p. p.2) (ok_same e);
 }
-entry-ok key mark (refused w) n xs c m e = absurd (let z : ◌≡◌ {A = ℕ} 0 1 = cc in omega arith)
+entry-ok key mark (refused w) n xs c m e = grind arith
 
 pub group-within : (s : Scope) (n : ℕ) (e : Expr) (xs : List Cell) (c m : ℕ)
     → emit_entry (λ b. b) (λ b r. r) (build s) n e ≡ ok (xs, c, m) → m ≤ n + 3 * size e
@@ -67,17 +67,12 @@ group-within s n e xs c m h =
     let w = ensured (build s e) _ (written-whole s e) o.built o.answer in
     omega (arith, o.next, w, written-most s s e)
 
-first-most : (s : Scope) (as' : Exprs) → cost_first s as' ≤ 3 * size_all as'
-unfolding cost_first size_all
-first-most s nil = omega arith
-first-most s (cons a as') = omega (arith, cost-most s a)
-
 argument-most : (s : Scope) (e : Expr) → argument_cost s e ≤ 3 * size e
 unfolding argument_cost as_call size
 argument-most s (star l) = omega arith
 argument-most s (column l t n) = omega arith
 argument-most s (literal l v) = omega arith
-argument-most s (call l n as') = omega (arith, first-most s as')
+argument-most s (call l n as') = omega (arith, cost_first-most s as')
 argument-most s (unary l o a) = omega arith
 argument-most s (binary l o a b) = omega arith
 argument-most s (is l a v) = omega arith
@@ -185,12 +180,12 @@ not-refused a k l e = ok-not-refused a _ e
 built-called : (s : Scope) (e : Expr) (g : Aggregate) (b : Aggregate × Built) → called_of e ≡ some g
     → build_function s e ≡ ok b → b.0 ≡ g
 unfolding called_of as_call build_function line_of aggregate_of refuse
-built-called s (star l) g b h f = absurd (let z : ◌≡◌ {A = ℕ} 0 1 = cc in omega arith)
-built-called s (column l t n) g b h f = absurd (let z : ◌≡◌ {A = ℕ} 0 1 = cc in omega arith)
-built-called s (literal l v) g b h f = absurd (let z : ◌≡◌ {A = ℕ} 0 1 = cc in omega arith)
-built-called s (unary l o a) g b h f = absurd (let z : ◌≡◌ {A = ℕ} 0 1 = cc in omega arith)
-built-called s (binary l o a e) g b h f = absurd (let z : ◌≡◌ {A = ℕ} 0 1 = cc in omega arith)
-built-called s (is l a v) g b h f = absurd (let z : ◌≡◌ {A = ℕ} 0 1 = cc in omega arith)
+built-called s (star l) g b h f = grind arith
+built-called s (column l t n) g b h f = grind arith
+built-called s (literal l v) g b h f = grind arith
+built-called s (unary l o a) g b h f = grind arith
+built-called s (binary l o a e) g b h f = grind arith
+built-called s (is l a v) g b h f = grind arith
 built-called s (call l w nil) g b h f = not-refused b argument_count l (sym f ∙ rw (h, build_function))
 built-called s (call l w (cons a (cons d ds))) g b h f = not-refused b argument_count l (sym f ∙ rw (h, build_function))
 built-called s (call l w (cons a nil)) g b h f = go (contains a) refl (argument s g a) refl

@@ -16,7 +16,7 @@ use Rattle.rules.specs.Area.{function_numbers, record_numbers}
 use Rattle.rules.specs.Sizes.{total}
 use Rattle.rules.specs.Scope.{Scope}
 use Rattle.rules.specs.BuildAggregate.{build_function}
-use Rattle.claims.specs.Lists.{map-append}
+use Rattle.std.proofs.lemmas.List.{map-append}
 use Rattle.appends.specs.Answers.{bind_ok, bind-refused, ok_same, at_most-passed, at_most-refused}
 use Rattle.appends.specs.Area.{cells-numbers-append}
 use Rattle.appends.specs.Lists.Kinds.{emit_all, emit_seconds}

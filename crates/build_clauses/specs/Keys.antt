@@ -5,7 +5,7 @@ use Rattle.std.proofs.Math.Numerals.{sub-one}
 use mathlib.Core.List.{List, [], ◌∷◌, ◌++◌, append_assoc, append-nil}
 use Rattle.std.proofs.Math.ListN.{length, drop, drop_of_length-le}
 use Rattle.rules.specs.Refusals.{ok}
-use Rattle.rules.specs.Lists.{Bytes, concat}
+use Rattle.rules.specs.Lists.{Bytes}
 use Rattle.rules.specs.Ast.{Key, size}
 use Rattle.rules.specs.Cells.{Cell}
 use Rattle.rules.specs.Area.{key_numbers}
@@ -20,18 +20,18 @@ use Rattle.appends.specs.Lists.Entry.{key_step, key-refused}
 use Rattle.appends.specs.Lists.Loops.{firsts-step, firsts-stop, firsts-done}
 use Rattle.ast.specs.Table.{table_size, tree_at}
 use Rattle.sections.specs.Layout.{section_at}
-use Rattle.sections.specs.Access.{order_kind, numbers_at, after-drop}
-use Rattle.sections.specs.Expressions.{first_row}
+use Rattle.sections.specs.Access.{order_kind, numbers_at, descends, after-drop}
+use Rattle.sections.specs.Expressions.{expr_row}
 use Rattle.sections.specs.declared.entry.Entry.{Entry}
 use Rattle.statement.specs.Layout.{map_entries, to_key}
 use Rattle.statement.specs.EntryAccess.{map-length, key-at}
 use Rattle.plan.specs.Layout.{cells_end, key_size}
-use Rattle.plan.specs.Cells.{Room}
+use Rattle.plan.specs.Cells.{Room, cells-none}
 use Rattle.plan.specs.Emits.{Written, accepted}
 use Rattle.plan.specs.Pushed.{Pushed, Kept, kept-all, kept-on, pushed-none}
 use Rattle.plan.specs.declared.nodes.Nodes.{Nodes}
 use Rattle.plan.specs.Parts.{keys_on}
-use Rattle.plan.specs.Room.{keys-size}
+use Rattle.claims.specs.Room.Nodes.{keys-size}
 use Rattle.plan.specs.Steps.{RefusedWith, refused-on, emits-refused}
 use Rattle.numbers.specs.declared.refusals.Refusal.{Refusal}
 use Rattle.build_expression.specs.Rows.{emit-within}
@@ -41,8 +41,8 @@ use Rattle.build_expression.specs.Builds.{scope_at, Builds}
 abbrev pub keys_at : Bytes → Bytes → List ℕ → List ℕ → List Key
 keys_at c q t parts = map_entries to_key (section_at c q t parts order_kind)
 
-abbrev pub key_of : Bytes → Bytes → List ℕ → Entry → Key
-key_of c q t e = record { expr = tree_at c q t (first_row e); descending = e.descending }
+abbrev pub key_of : Bytes → Bytes → List ℕ → Entry → Bool → Key
+key_of c q t e d = record { expr = tree_at c q t (expr_row e); descending = d }
 
 -- CONTRACTS
 -- a key over a scope: its cells up to the p-th and its part of the record, or its refusal
@@ -57,11 +57,11 @@ unfoldable pub KeyAs : Scope → Key → ℕ → List ℕ → Nodes → List ℕ
 KeyAs s y n area nodes area' nodes' (Ok p) = One s y n area nodes p area' nodes'
 KeyAs s y n area nodes area' nodes' (Err w) = RefusedWith (emit s n y.expr) w
 
-pub record KeyPut (c q : Bytes) (t xs ms ts : List ℕ) (e : Entry) (n : ℕ) (area : List ℕ) (nodes : Nodes) (area' : List ℕ)
+pub record KeyPut (c q : Bytes) (t xs ms ts : List ℕ) (e : Entry) (d : Bool) (n : ℕ) (area : List ℕ) (nodes : Nodes) (area' : List ℕ)
     (nodes' : Nodes) (x : Written) : Type 0 where
   pub kept : length area' ≡ length area
   pub kept-nodes : Kept nodes nodes'
-  pub is : (h : ℕ) → KeyAs (scope_at c q t xs ms ts h) (key_of c q t e) n area nodes area' nodes' x
+  pub is : (h : ℕ) → KeyAs (scope_at c q t xs ms ts h) (key_of c q t e d) n area nodes area' nodes' x
 
 -- all keys
 pub record All (s : Scope) (ks : List Key) (n : ℕ) (area : List ℕ) (nodes : Nodes) (p : ℕ) (area' : List ℕ) (nodes' : Nodes)
@@ -88,11 +88,11 @@ key-two : (x : ℕ) (b : Bool) → length (key_numbers ((x, b) ∷ [])) ≡ key_
 key-two x b = keys-size ((x, b) ∷ [])
 
 module _ {c q : Bytes} {t xs ms ts : List ℕ} {r n : ℕ} {area area' : List ℕ} {w : Written}
-    (b : Builds c q t xs ms ts r n area area' w) (e : Entry) (g : r ≡ first_row e) where
-  here : Builds c q t xs ms ts (first_row e) n area area' w
+    (b : Builds c q t xs ms ts r n area area' w) (e : Entry) (d : Bool) (g : r ≡ expr_row e) where
+  here : Builds c q t xs ms ts (expr_row e) n area area' w
   here = rw (← g) b
 
-  pub key-refuses : {nodes : Nodes} (v : Refusal) → w ≡ Err v → KeyPut c q t xs ms ts e n area nodes area' nodes (Err v)
+  pub key-refuses : {nodes : Nodes} (v : Refusal) → w ≡ Err v → KeyPut c q t xs ms ts e d n area nodes area' nodes (Err v)
   unfolding KeyAs
   key-refuses {nodes} v f = record {
     kept = (b.is 0).kept;
@@ -100,10 +100,10 @@ module _ {c q : Bytes} {t xs ms ts : List ℕ} {r n : ℕ} {area area' : List �
     is = λ h. emits-refused v (here.is h) f;
   }
 
-  pub key-done : {nodes nodes' : Nodes} (p : ℕ) (d : Bool) → w ≡ Ok p → d ≡ e.descending
-      → Pushed (key_numbers ((p - 1, d) ∷ [])) nodes nodes' → KeyPut c q t xs ms ts e n area nodes area' nodes' (Ok p)
+  pub key-done : {nodes nodes' : Nodes} (p : ℕ) → w ≡ Ok p
+      → Pushed (key_numbers ((p - 1, d) ∷ [])) nodes nodes' → KeyPut c q t xs ms ts e d n area nodes area' nodes' (Ok p)
   unfolding KeyAs
-  key-done p d f v a = record {
+  key-done p f a = record {
     kept = (b.is 0).kept;
     kept-nodes = a.kept;
     is = λ h.
@@ -112,7 +112,7 @@ module _ {c q : Bytes} {t xs ms ts : List ℕ} {r n : ℕ} {area area' : List �
           cells = o.cells;
           is = o.is;
           stand = (here.is h).cells o.cells p o.is;
-          part = rw (← sub-one p, ← v) a;
+          part = rw (← sub-one p) a;
         };
   }
 
@@ -139,10 +139,6 @@ pub record Putting (c q : Bytes) (t parts xs ms ts : List ℕ) (n : ℕ) (area�
 keys_none : key_numbers [] ≡ []
 unfolding key_numbers
 keys_none = refl
-
-cells-none : cells_numbers [] ≡ []
-unfolding cells_numbers concat
-cells-none = refl
 
 pub putting-begin : {c q : Bytes} {t parts : List ℕ} {n : ℕ} {area : List ℕ} {nodes : Nodes} (xs ms ts : List ℕ)
     → Room n (3 * keys_size (keys_at c q t parts)) area → nodes.used + key_size * length (keys_at c q t parts) ≤ length nodes.numbers.now
@@ -178,18 +174,18 @@ module _ (c q : Bytes) (t parts : List ℕ) {i x : ℕ} (e : x ≡ length (secti
 module _ {c q : Bytes} {t parts xs ms ts : List ℕ} {n : ℕ} {area₀ : List ℕ} {nodes₀ : Nodes} {i p : ℕ} {area : List ℕ} {nodes : Nodes}
     (u : Putting c q t parts xs ms ts n area₀ nodes₀ i p area nodes) where
   module _ (size_is : length t ≡ table_size) (l : i < length (keys_at c q t parts)) (e : Entry)
-      (g : e ≡ numbers_at parts order_kind i) where
-    key_here_lem : drop i (keys_at c q t parts) ≡ key_of c q t e ∷ drop (suc i) (keys_at c q t parts)
-    key_here_lem = after-drop i (keys_at c q t parts) (key_of c q t e)
+      (g : e ≡ numbers_at parts order_kind i) (d : Bool) (y : d ≡ descends parts i) where
+    key_here_lem : drop i (keys_at c q t parts) ≡ key_of c q t e d ∷ drop (suc i) (keys_at c q t parts)
+    key_here_lem = after-drop i (keys_at c q t parts) (key_of c q t e d)
         (key-at c q t parts order_kind i e g
-        (omega (arith, l, map-length to_key (section_at c q t parts order_kind))) (omega (arith, size_is)))
+        (omega (arith, l, map-length to_key (section_at c q t parts order_kind))) (omega (arith, size_is)) d y)
 
     size-here : keys_size (drop i (keys_at c q t parts))
-        ≡ size (tree_at c q t (first_row e)) + keys_size (drop (suc i) (keys_at c q t parts))
+        ≡ size (tree_at c q t (expr_row e)) + keys_size (drop (suc i) (keys_at c q t parts))
     unfolding keys_size total
     size-here = rw key_here_lem
 
-    pub room-here : Room p (3 * size (tree_at c q t (first_row e))) area
+    pub room-here : Room p (3 * size (tree_at c q t (expr_row e))) area
     room-here = record {
       counted = omega (arith, size-here, u.room.counted);
       held = omega (arith, size-here, u.room.held);
@@ -198,7 +194,7 @@ module _ {c q : Bytes} {t parts xs ms ts : List ℕ} {n : ℕ} {area₀ : List �
     pub space-here : nodes.used + key_size ≤ length nodes.numbers.now
     space-here = omega (arith, u.space, u.counted, u.nodes-kept.all, l)
 
-    module _ {area' : List ℕ} {nodes' : Nodes} {x : Written} (a : KeyPut c q t xs ms ts e p area nodes area' nodes' x) where
+    module _ {area' : List ℕ} {nodes' : Nodes} {x : Written} (a : KeyPut c q t xs ms ts e d p area nodes area' nodes' x) where
       pub putting-refused : (w : Refusal) → x ≡ Err w
           → KeysPut c q t parts xs ms ts n area₀ nodes₀ area' nodes' (Err w)
       unfolding KeysAs KeyAs
@@ -208,7 +204,7 @@ module _ {c q : Bytes} {t parts xs ms ts : List ℕ} {n : ℕ} {area₀ : List �
         is = λ h.
             let s = scope_at c q t xs ms ts h in
             let o = u.sofar h in
-            let b : RefusedWith (emit s p (key_of c q t e).expr) w = rw f at (a.is h) in
+            let b : RefusedWith (emit s p (key_of c q t e d).expr) w = rw f at (a.is h) in
             (refused-on b (λ v j. o.is ∙ rw key_here_lem
             (firsts-stop (key_built s) (o.cells, o.entries, p) _ _ v (key-refused s p _ v j))));
       }
@@ -217,7 +213,7 @@ module _ {c q : Bytes} {t parts xs ms ts : List ℕ} {n : ℕ} {area₀ : List �
           → Putting c q t parts xs ms ts n area₀ nodes₀ (i + 1) p' area' nodes'
       putting-more p' f =
           let o = one 0 in
-          let w = emit-within (scope_at c q t xs ms ts 0) p (tree_at c q t (first_row e)) o.cells p' o.is in
+          let w = emit-within (scope_at c q t xs ms ts 0) p (tree_at c q t (expr_row e)) o.cells p' o.is in
           rw (add-one i) (record {
             within = omega (arith, l);
             area-kept = a.kept ∙ u.area-kept;
@@ -226,24 +222,24 @@ module _ {c q : Bytes} {t parts xs ms ts : List ℕ} {n : ℕ} {area₀ : List �
               counted = omega (arith, size-here, w.most, u.room.counted);
               held = omega (arith, size-here, w.most, u.room.held, a.kept);
             };
-            counted = omega (arith, u.counted, o.part.appended.next, key-two (pred p') e.descending);
+            counted = omega (arith, u.counted, o.part.appended.next, key-two (pred p') d);
             space = u.space;
             sofar = λ h.
                 let s = scope_at c q t xs ms ts h in
-                let d = u.sofar h in
+                let f = u.sofar h in
                 let b = one h in
                 record {
-                  cells = d.cells ++ b.cells;
-                  entries = d.entries ++ ((pred p', e.descending) ∷ []);
-                  is = d.is ∙ rw key_here_lem (firsts-step (key_built s) (d.cells, d.entries, p) _ _ b.cells _ p'
-                      (key_step s p (key_of c q t e) b.cells p' b.is));
-                  stand = b.stand ∙ rw (d.stand, cells-numbers-append d.cells b.cells)
-                      (append_assoc (take (cells_end n) area₀) (cells_numbers d.cells) (cells_numbers b.cells));
-                  pushed = keys_on d.entries _ d.pushed b.part;
+                  cells = f.cells ++ b.cells;
+                  entries = f.entries ++ ((pred p', d) ∷ []);
+                  is = f.is ∙ rw key_here_lem (firsts-step (key_built s) (f.cells, f.entries, p) _ _ b.cells _ p'
+                      (key_step s p (key_of c q t e d) b.cells p' b.is));
+                  stand = b.stand ∙ rw (f.stand, cells-numbers-append f.cells b.cells)
+                      (append_assoc (take (cells_end n) area₀) (cells_numbers f.cells) (cells_numbers b.cells));
+                  pushed = keys_on f.entries _ f.pushed b.part;
                 };
           })
         where
-          one : (h : ℕ) → One (scope_at c q t xs ms ts h) (key_of c q t e) p area nodes p' area' nodes'
+          one : (h : ℕ) → One (scope_at c q t xs ms ts h) (key_of c q t e d) p area nodes p' area' nodes'
           one h = unfold KeyAs in rw f at (a.is h)
 
   pub putting-end : length (keys_at c q t parts) ≤ i

@@ -15,7 +15,7 @@ use Rattle.scope.specs.Scopes.{scope_of, Valid}
 use Rattle.scope.specs.Targets.{hidden_targets, remap-hidden, target_numbers, targets-length, target-numbers}
 use Rattle.scope.specs.declared.Scope.{Scope}
 use Rattle.plan.specs.Layout.{record_head, length_place}
-use Rattle.plan.specs.Pushed.{Pushed, Stored, pushed-none, pushed-on, pushed-as}
+use Rattle.plan.specs.Pushed.{Pushed, Stored, pushed-on, pushed-as}
 use Rattle.plan.specs.declared.nodes.Nodes.{Nodes}
 use Rattle.plan.specs.Parts.{remap-targets}
 use Rattle.plan.specs.Records.{opened, ended}
@@ -33,9 +33,6 @@ pub record Pushing (w h i : ℕ) (nodes₀ nodes : Nodes) : Type 0 where
   pub within : i ≤ w
   pub next : nodes.used ≡ nodes₀.used + i
   pub pushed : Pushed (take i (target_numbers w h)) nodes₀ nodes
-
-pub pushing-begin : (w h : ℕ) (nodes : Nodes) → nodes.used ≤ length nodes.numbers.now → Pushing w h 0 nodes nodes
-pushing-begin w h nodes l = record { within = omega arith; next = omega arith; pushed = pushed-none nodes l }
 
 module _ {w h i : ℕ} {nodes₀ nodes : Nodes} (p : Pushing w h i nodes₀ nodes) (u : h ≤ w) where
   pub pushing-more : i < w → {nodes' : Nodes} (x : ℕ) → x ≡ get_or (target_numbers w h) i 0

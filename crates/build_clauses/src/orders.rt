@@ -4,7 +4,7 @@ ghost use Rattle.rules.specs.Ast.{size};
 ghost use Rattle.rules.specs.Sizes.{keys_size};
 ghost use Rattle.ast.specs.Table.{table_size};
 ghost use Rattle.ast.specs.Expressions.{tree_in};
-ghost use Rattle.sections.specs.Expressions.{first_row};
+ghost use Rattle.sections.specs.Expressions.{expr_row};
 ghost use Rattle.plan.specs.Layout.{source_head, key_size};
 ghost use Rattle.plan.specs.Cells.{Room};
 ghost use Rattle.build_clauses.specs.Follows.{Follows};
@@ -20,26 +20,27 @@ use plan::parts::{begin, end, key};
 use plan::steps::Step;
 use scope::view::View;
 use sections::entry;
-use sections::entry::{Entry, entry_at, first_row};
+use sections::entry::{Entry, descends, entry_at};
 
-// The key of an entry: its cells, and its part of the record.
+// The key of an entry, which descends or not: its cells, and its part of the record.
 fn put_key(
     exprs: &Expressions,
     e: Entry,
+    descending: bool,
     scope: &View,
     area: &mut [u32],
     nodes: &mut Nodes,
     cell: u32,
 ) -> Result<u32, Refusal>
-    requires room { Room cell (3 * size (tree_in exprs.now (first_row e))) area.old }
+    requires room { Room cell (3 * size (tree_in exprs.now (expr_row e))) area.old }
     requires nodes_room { nodes.old.used + key_size ≤ length nodes.old.numbers.now }
     ensures { KeyPut exprs.now.texts.catalog.now exprs.now.texts.statement.now exprs.now.table.now
         scope.now.labels.now scope.now.matches.now scope.now.tables.now
-        e cell area.old nodes.old area.new nodes.new result }
+        e descending cell area.old nodes.old area.new nodes.new result }
 {
-    let r = first_row(e);
+    let r = e.expr_row();
     let p = build_expression(exprs, r, scope, area, cell)?;
-    key(nodes, p - 1, e.descending);
+    key(nodes, p - 1, descending);
     Ok(p)
 }
 
@@ -66,7 +67,7 @@ fn put_keys(
     let mut p = cell;
     for i in 0..keys {
         let e = entry_at(parts, Section::Order, i);
-        p = put_key(exprs, e, scope, area, nodes, p)?;
+        p = put_key(exprs, e, descends(parts, i), scope, area, nodes, p)?;
     }
     Ok(p)
 }

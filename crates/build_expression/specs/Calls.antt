@@ -43,7 +43,7 @@ module _ (c q : Bytes) (t : List ℕ) (r : ℕ) where
           → ◌≡◌ {A = Bool} (elim b [ true ↦ sqrt_named c q t r | false ↦ false ]) true
           → (argument_count t r ≡ 1) × (sqrt_named c q t r ≡ true)
       go true e h = (eqb-true (argument_count t r) 1 e, h)
-      go false e h = absurd (let z : ◌≡◌ {A = ℕ} 0 1 = cc in omega arith)
+      go false e h = grind arith
 
   pub no-root : root_of c q t r ≡ false → argument_count t r ≡ 1 → sqrt_named c q t r ≡ false
   unfolding root_of

@@ -12,10 +12,11 @@ use Rattle.rules.specs.Cells as C
 use Rattle.rules.specs.Scope.{lookup, match_at, matched}
 use Rattle.appends.specs.Expressions.Emit.{emit}
 use Rattle.appends.specs.Expressions.Steps.{match-step, star-refused, literal-step}
-use Rattle.ast.specs.Table.{row_size, unary_at, arguments_at, tree_at}
+use Rattle.ast.specs.Table.{row_size, unary_at, tree_at}
 use Rattle.ast.specs.Operands.{kind_at, operands_at, operands-call, operands-unary, operands-binary, operands-is, operands-inside}
-use Rattle.ast.specs.Row.{line_at, operator_at, argument_count, row_name, row_qualifier, row_literal, first_operand, number_of, star-row}
-use Rattle.ast.specs.Row.{column-row, qualified-row, call-row, unary-row, binary-row, is_row, literal-row}
+use Rattle.ast.specs.Row.{line_at, operator_at, row_name, row_qualifier, row_literal, number_of, star-row}
+use Rattle.ast.specs.Called.{call-tree}
+use Rattle.ast.specs.Row.{column-row, qualified-row, unary-row, binary-row, is_row, literal-row}
 use Rattle.ast.specs.declared.row.Kind.{Kind}
 use Rattle.ast.specs.declared.row.Kind.TheVariants as K
 use Rattle.scope.specs.Scopes.{matches_of}
@@ -161,17 +162,12 @@ module _ (c q : Bytes) (t xs ms ts : List ℕ) (r n : ℕ) (area area' : List �
 
     -- CALLS
     module _ (kind : kind_at t r ≡ 4) where
-      call-tree : tree_at c q t r ≡ call (line_at t r) (row_name c q t r)
-          (arguments_at (tree_at c q t) t (argument_count t r) (first_operand r))
-      unfolding number_of
-      call-tree = call-row c q t r K.Call (sym kind) refl
-
       pub begins-root : root_of c q t r ≡ true → area' ≡ area
           → Begins c q t xs ms ts r n area area' (Ok (B.Operands (O.Unary U.SquareRoot)))
       unfolding BeginsAs Operates unary_operator size size_all
       begins-root e g =
           let one = is-root c q t r e in
-          let tree = call-tree ∙ ap (call (line_at t r) (row_name c q t r)) (one_argument (tree_at c q t) t _ _ one.0) in
+          let tree = call-tree c q t r kind ∙ ap (call (line_at t r) (row_name c q t r)) (one_argument (tree_at c q t) t _ _ one.0) in
           record {
             is = (
               g,
@@ -187,6 +183,6 @@ module _ (c q : Bytes) (t xs ms ts : List ℕ) (r n : ℕ) (area area' : List �
       pub begins-unknown : (l : ℕ) → root_of c q t r ≡ false → l ≡ line_at t r → length area' ≡ length area
           → Begins c q t xs ms ts r n area area' (Err (record { reason = Re.UnknownFunction; line = l }))
       unfolding named
-      begins-unknown l e f g = whole _ _ call-tree (λ h. refuses unknown_function (line_at t r) Re.UnknownFunction l g refl f
-          (call-unknown _ n (line_at t r) (row_name c q t r) (tree_at c q t) t _ _ (none_of _ h call-tree)
+      begins-unknown l e f g = whole _ _ (call-tree c q t r kind) (λ h. refuses unknown_function (line_at t r) Re.UnknownFunction l g refl f
+          (call-unknown _ n (line_at t r) (row_name c q t r) (tree_at c q t) t _ _ (none_of _ h (call-tree c q t r kind))
           (no-root c q t r e)))

@@ -5,3 +5,4 @@ pub mod Calls
 pub mod Builds
 pub mod Leaves
 pub mod Operands
+pub mod Options

@@ -13,7 +13,7 @@ use Rattle.plan.specs.Cells.{Room, room-less}
 use Rattle.numbers.specs.Operators.{unary_operator}
 use Rattle.numbers.specs.declared.operators.Unary.{Unary}
 use Rattle.numbers.specs.declared.refusals.Refusal.{Refusal}
-use Rattle.plan.specs.Emits.{Written, Emits, emits-same, accepted, stop, next}
+use Rattle.plan.specs.Emits.{Emitting, Written, Emits, emits-same, accepted, stop, next}
 use Rattle.build_expression.specs.Rows.{unary_step, is_step, binary_step, Within, emit-within}
 use Rattle.build_expression.specs.Builds.{scope_at, Builds, One, Two, Operates, BeginsAs, Begins}
 use Rattle.build_expression.specs.declared.Begun.{Begun}
@@ -99,21 +99,24 @@ module _ {c q : Bytes} {t xs ms ts : List ℕ} {r n : ℕ} {area area₁ : List 
             let l = built-kept first in
             record { counted = omega (arith, first-size); held = omega (arith, first-size) }
 
+        -- what is appended behind the one operand
+        one-built : {e : ℕ → Emitting} → One c q t xs ms ts r e → {area₃ : List ℕ} {y : Written} → Emits (e m) m area₂ area₃ y
+            → Builds c q t xs ms ts r n area area₃ y
+        one-built h y = record { is = λ i. emits-same (h.is i n) (next _ m (first.is i) d y) }
+
         pub unary-built : (k : Unary) {area₃ : List ℕ} {y : Written} → o ≡ O.Unary k
             → Emits (unary_step (unary_operator k) m) m area₂ area₃ y
             → Builds c q t xs ms ts r n area area₃ y
         unfolding Operates
         unary-built k u y =
-            let h : One c q t xs ms ts r (unary_step (unary_operator k)) = rw u at opened.1 in
-            record { is = λ i. emits-same (h.is i n) (next _ m (first.is i) d y) }
+            let h : One c q t xs ms ts r (unary_step (unary_operator k)) = rw u at opened.1 in one-built h y
 
         pub is-built : {area₃ : List ℕ} {y : Written} → o ≡ O.Is
             → Emits (is_step (line_at t r) (row_literal c q t r) m) m area₂ area₃ y
             → Builds c q t xs ms ts r n area area₃ y
         unfolding Operates
         is-built u y =
-            let h : One c q t xs ms ts r (is_step (line_at t r) (row_literal c q t r)) = rw u at opened.1 in
-            record { is = λ i. emits-same (h.is i n) (next _ m (first.is i) d y) }
+            let h : One c q t xs ms ts r (is_step (line_at t r) (row_literal c q t r)) = rw u at opened.1 in one-built h y
 
         -- THE SECOND
         module _ (u : o ≡ O.Binary) (p : ℕ) (v : p ≡ r + 1 + rows_at t (r + 1)) where

@@ -4,11 +4,12 @@ use Rattle.std.proofs.Common.{arith, sub-one, sym, ap, ◌∙◌}
 use Rattle.std.proofs.Math.Path.{◌≡◌, refl}
 use Rattle.rules.specs.Refusals.{◌>>=◌, refuse, refuse_if, invalid_is}
 use Rattle.rules.specs.Schema.{Value}
-use Rattle.rules.specs.Ast.{Unary, Binary, plain, ge, le, ne}
-use Rattle.rules.specs.Cells.{added, operator}
+use Rattle.rules.specs.Ast.{Unary, Binary}
+use Rattle.rules.specs.Cells.{operator}
 use Rattle.rules.specs.Cells as C
 use Rattle.rules.specs.Scope.{Found, at, missing}
 use Rattle.rules.specs.BuildExpression.{found, is_null_or_nan}
+use Rattle.claims.specs.Cells.Length.{operator-length}
 use Rattle.plan.specs.Cells.{Puts, Operated}
 use Rattle.numbers.specs.Reasons.{named}
 use Rattle.numbers.specs.declared.refusals.Reason.TheVariants as Re
@@ -26,7 +27,7 @@ module _ (n l : ℕ) (f : Found) (area area' : List ℕ) (p : Written) (h : p �
     where
       go : (b : Found) → f ≡ b → ◌≡◌ {A = Written} (Ok i) (position_of (found l b)) → Emits (column_step n l f) n area area' (Ok (n + 1))
       go (at j) g y = let z : j ≡ i = cc in accepts (n + 1) s refl (rw (g, z))
-      go (missing w) g y = absurd (let z : ◌≡◌ {A = ℕ} 0 1 = cc in omega arith)
+      go (missing w) g y = grind arith
 
   pub column-stops : (w : Refusal) → p ≡ Err w → length area' ≡ length area
       → Emits (column_step n l f) n area area' (Err w)
@@ -34,7 +35,7 @@ module _ (n l : ℕ) (f : Found) (area area' : List ℕ) (p : Written) (h : p �
   column-stops v e k = go f refl (sym e ∙ h)
     where
       go : (b : Found) → f ≡ b → ◌≡◌ {A = Written} (Err v) (position_of (found l b)) → Emits (column_step n l f) n area area' (Err v)
-      go (at j) g z = absurd (let v : ◌≡◌ {A = ℕ} 0 1 = cc in omega arith)
+      go (at j) g z = grind arith
       go (missing w) g z =
           let u : v ≡ record { reason = named w; line = l } = cc in
           rw u (refuses w l (named w) l k refl refl (rw g))
@@ -60,13 +61,6 @@ module _ (l : ℕ) (v : Value) (m : ℕ) (area area' : List ℕ) where
       → Emits (is_step l v m) m area area' (Err (record { reason = Re.InvalidIs; line = y }))
   unfolding is_step refuse_if refuse ◌>>=◌ named
   is-stops y e f g = refuses invalid_is l Re.InvalidIs y g refl f (rw e)
-
-operator-length : (o : Binary) (n x y : ℕ) → length (operator o n x y) ≡ added o
-unfolding operator added
-operator-length (plain o) n x y = refl
-operator-length ge n x y = refl
-operator-length le n x y = refl
-operator-length ne n x y = refl
 
 pub binary-emits : (o : Binary) (m k r : ℕ) (area area' : List ℕ) → Operated o k (m - 1) (k - 1) area area' r
     → Emits (binary_step o m k) k area area' (Ok r)

@@ -12,7 +12,6 @@ ghost use Rattle.build_expression.specs.Rows.{column_step, literal_step};
 ghost use Rattle.build_expression.specs.Builds.{Builds, Unmatched, Begins};
 ghost use Rattle.build_expression.specs.Calls.{root_of};
 
-use crate::position::position_of;
 use crate::{Begun, Operator};
 use ast::row::Kind;
 use ast::{Expressions, row};
@@ -27,7 +26,7 @@ fn found(f: Result<u32, Reason>, line: u32, area: &mut [u32], n: u32) -> Result<
     requires { Room n 1 area.old }
     ensures { Emits (column_step n line (found_of f)) n area.old area.new result }
 {
-    let i = position_of(f, line)?;
+    let i = f.map_err(|reason| reason.at(line))?;
     cells::column(area, n, i);
     Ok(n + 1)
 }

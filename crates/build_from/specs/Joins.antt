@@ -37,10 +37,11 @@ use Rattle.plan.specs.Cells.{Room}
 use Rattle.plan.specs.Steps.{RefusedWith, refused-on, Stands, stands_on}
 use Rattle.build_from.specs.Sources.{Laid}
 use Rattle.build_from.specs.Merges.{TwoScopes, scope-width, merge-empty, MergedScope, Merges}
-use Rattle.build_from.specs.Predicates.{predicate_in, PredicateStands, PredicateBuilt}
+use Rattle.build_expression.specs.Options.{OptionStands, OptionBuilt}
+use Rattle.build_from.specs.Predicates.{predicate_in}
 use Rattle.build_from.specs.Rows.{join_at, first_of, second_of, join_row}
 use Rattle.build_from.specs.declared.Source.{Source}
-use Rattle.build_from.specs.declared.predicates.Predicate.{Predicate}
+use Rattle.build_expression.specs.declared.option.BuiltOption.{BuiltOption}
 
 -- THE CONTRACT
 -- the sides a and b of the join in row r, and room for its predicate and its records
@@ -134,8 +135,8 @@ module _ (c q : Bytes) (cells : List ℕ) (ra rb : Answer building.Source) (o : 
       pub is : SidesLaid o ra rb outer (scopes a.scope) (scopes b.scope) (scopes s) i.cell i.node cells' records z (b.at.node + 1)
       pub stands : Stands i.cell area₀ nodes₀ cells' records z area' nodes'
 
-    pub sides-stand : (outer : Bool) {area' : List ℕ} {nodes' : Nodes} {x : Predicate}
-        → PredicateStands (scopes s) o b.at.cell area area' x
+    pub sides-stand : (outer : Bool) {area' : List ℕ} {nodes' : Nodes} {x : BuiltOption}
+        → OptionStands (scopes s) o b.at.cell area area' x
         → Pushed (record_numbers (join (a.at.node - 1) (b.at.node - 1) (option_of x.root) outer)) nodes nodes'
         → SidesStand outer x.cell area' nodes'
     sides-stand outer {x = x} p j =
@@ -197,12 +198,12 @@ module _ {c q : Bytes} {cells froms : List ℕ} {r : ℕ} {a b : Source} {area :
   }
 
   module _ {s : Scope} (g : Merges c q a.scope b.scope b.line (Ok s)) where
-    abbrev Over : List ℕ → Result Predicate code.Refusal → Type 0
-    Over area' p = (k : ℕ) → PredicateBuilt (scope_from (tree_at c q cells) c q (labels_of s) (take s.width s.matches)
+    abbrev Over : List ℕ → Result BuiltOption code.Refusal → Type 0
+    Over area' p = (k : ℕ) → OptionBuilt (scope_from (tree_at c q cells) c q (labels_of s) (take s.width s.matches)
         (table_numbers s) k) (predicate_in c q cells froms r) b.at.cell area area' p
 
-    over : {area' : List ℕ} (p : Result Predicate code.Refusal) → Over area' p
-        → PredicateBuilt (scope_of (tree_at c q cells) c q s) (predicate_in c q cells froms r) b.at.cell area area' p
+    over : {area' : List ℕ} (p : Result BuiltOption code.Refusal) → Over area' p
+        → OptionBuilt (scope_of (tree_at c q cells) c q s) (predicate_in c q cells froms r) b.at.cell area area' p
     unfolding scope_of
     over p d = d s.hidden
 
@@ -216,10 +217,10 @@ module _ {c q : Bytes} {cells froms : List ℕ} {r : ℕ} {a b : Source} {area :
           (sides-refused cat (line_at froms r) (join_at froms r) f f' (predicate_in c q cells froms r));
     }
 
-    module _ {area' : List ℕ} {p : Predicate} (d : Over area' (Ok p)) {outer : Bool} {nodes' : Nodes}
+    module _ {area' : List ℕ} {p : BuiltOption} (d : Over area' (Ok p)) {outer : Bool} {nodes' : Nodes}
         (t : outer ≡ is_outer (join_at froms r))
         (j : Pushed (record_numbers (join (a.at.node - 1) (b.at.node - 1) (option_of p.root) outer)) nodes nodes') where
-      abbrev stands : PredicateStands (scope_of (tree_at c q cells) c q s) (predicate_in c q cells froms r) b.at.cell area area' p
+      abbrev stands : OptionStands (scope_of (tree_at c q cells) c q s) (predicate_in c q cells froms r) b.at.cell area area' p
       stands = (over (Ok p) d).is
 
       pub join-in-use : nodes'.used ≡ nodes.used + join_size

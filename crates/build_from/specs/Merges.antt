@@ -78,10 +78,10 @@ labels-many s h = length-take-le s.width s.labels (omega (arith, h.width, h.labe
 -- what was told, by whether it is a reason
 pub told-allowed : (m : Result ⊤ Reason) (u : ⊤) → true ≡ is_ok m → m ≡ Ok u
 told-allowed (Ok x) u h = refl
-told-allowed (Err k) u h = absurd (let z : ◌≡◌ {A = ℕ} 0 1 = cc in omega arith)
+told-allowed (Err k) u h = grind arith
 
 pub told-refused : (m : Result ⊤ Reason) → false ≡ is_ok m → (k : Reason) × (m ≡ Err k)
-told-refused (Ok x) h = absurd (let z : ◌≡◌ {A = ℕ} 0 1 = cc in omega arith)
+told-refused (Ok x) h = grind arith
 told-refused (Err k) h = (k, refl)
 
 -- what was told, of the rules' merge

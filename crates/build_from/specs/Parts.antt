@@ -2,6 +2,7 @@
 use Rattle.std.specs.Prelude.{ℕ, ◌+◌, ◌*◌, ◌≤◌, ◌<◌, ◌≡◌, List, [], ◌∷◌, length, get_or, drop, Ok, Err}
 use Rattle.std.proofs.Common.{arith, add-one, sym, ◌∙◌, drop_of_length-le, drop-cons}
 use Rattle.std.proofs.Math.Path.{refl, ap}
+use Rattle.std.proofs.lemmas.List.{nil_from_length}
 use Rattle.rules.specs.Limits.{most_from_tables}
 use Rattle.rules.specs.Lists.{Bytes}
 use Rattle.rules.specs.Ast.{From}
@@ -213,10 +214,6 @@ part-whole {c} {q} {ts} {cells} {fs} {a = a} o e =
     }
 
 -- BY ROWS
-none_of : (fs : List From) → length fs ≡ 0 → fs ≡ []
-none_of [] h = refl
-none_of (f ∷ fs) h = absurd (omega arith)
-
 -- the first n rows have j items
 module _ (c q : Bytes) (ts cells froms : List ℕ) (n : ℕ) {area₀ : List ℕ} {nodes₀ : Nodes}
     (h : ClauseRoom c q ts (froms_at c q cells froms n) area₀ nodes₀) {j : ℕ} (e : j ≡ length
@@ -228,7 +225,7 @@ module _ (c q : Bytes) (ts cells froms : List ℕ) (n : ℕ) {area₀ : List ℕ
   pub clause-empty : {nodes : Nodes} {x : Source} → j ≡ 0
       → ((b p : Bytes) (us xs ys : List ℕ) → ClauseBuilds b p us xs [] ys nodes₀ ys nodes (Ok x))
       → ClauseBuilds c q ts cells items area₀ nodes₀ area₀ nodes (Ok x)
-  clause-empty z k = rw (none_of items (froms-count c q cells froms n ∙ sym e ∙ z)) (k c q ts cells area₀)
+  clause-empty z k = rw (nil_from_length items (froms-count c q cells froms n ∙ sym e ∙ z)) (k c q ts cells area₀)
 
   item-at : (i : ℕ) {r : ℕ} → i < j → r ≡ get_or (roots_at froms n) i 0
       → drop i items ≡ from_at c q cells froms r ∷ drop (i + 1) items

@@ -1,5 +1,5 @@
 -- The targets of a right join's remap, pushed one after the other.
-use Rattle.std.specs.Prelude.{ℕ, zero, suc, ◌+◌, ◌-◌, ◌≤◌, ◌≡◌, refl, length}
+use Rattle.std.specs.Prelude.{ℕ, zero, suc, ◌+◌, ◌-◌, ◌≤◌, ◌≡◌, length}
 use Rattle.std.proofs.Common.{arith, add-zero, add-one, ap, ◌∙◌}
 use mathlib.Core.List.{[], ◌∷◌, ◌++◌, map}
 use Rattle.std.proofs.Math.Option.{some}
@@ -7,6 +7,7 @@ use Rattle.std.proofs.lemmas.List.{length-map}
 use Rattle.rules.specs.Nodes.{remap}
 use Rattle.rules.specs.Area.{option_number, record_numbers}
 use Rattle.rules.specs.BuildFrom.{rising, swapped}
+use Rattle.claims.specs.Widths.Swapped.{length-rising}
 use Rattle.plan.specs.Layout.{record_head, length_place}
 use Rattle.plan.specs.Pushed.{Pushed, Stored, pushed-none}
 use Rattle.plan.specs.declared.nodes.Nodes.{Nodes}
@@ -20,11 +21,6 @@ rising-next i zero = rw (add-zero i)
 rising-next i (suc n) =
     let z : i + suc n ≡ i + 1 + n = omega arith in
     ap (λ l. some i ∷ l) (rising-next (i + 1) n ∙ rw z)
-
-rising-length : (i n : ℕ) → length (rising i n) ≡ n
-unfolding rising
-rising-length i zero = refl
-rising-length i (suc n) = ap suc (rising-length (i + 1) n)
 
 -- j targets are pushed
 pub record Pushing (i j : ℕ) (s t : Nodes) : Type 0 where
@@ -42,7 +38,7 @@ pushing-more {i} {j} p a = record {
 
 pub rising-end : (i n : ℕ) {s t : Nodes} → Pushed (map option_number (rising i n)) s t → t.used ≡ s.used + n
 rising-end i n {s} a =
-    a.appended.next ∙ ap (λ m. s.used + m) (length-map (rising i n) option_number ∙ rising-length i n)
+    a.appended.next ∙ ap (λ m. s.used + m) (length-map (rising i n) option_number ∙ length-rising n i)
 
 -- the whole, before its length is stored and then
 module _ (source a b : ℕ) {s t u v : Nodes} (o : Pushed (opened (remap source [])) s t)

@@ -4,6 +4,7 @@ use Rattle.std.proofs.Common.{arith, ap, ◌∙◌}
 use Rattle.std.proofs.Math.Path.{refl, sym}
 use mathlib.Core.Logic.{◌⊎◌, inl, inr}
 use Rattle.std.proofs.Math.Bool.{true, false}
+use Rattle.std.proofs.lemmas.Bool.{false≢true}
 use Rattle.rules.specs.Lists.{Bytes}
 use Rattle.rules.specs.Ast.{Join, cross, inner, left, right, From}
 use Rattle.rules.specs.Ast as Ast
@@ -89,10 +90,7 @@ right_is K.Left = refl
 right_is K.Right = refl
 
 no_table : (k : Kind) → is_join k ≡ true → k ≡ K.Table → ⊥
-no_table k h e = let z : ◌≡◌ {A = Bool} false true = sym (ap is_join e) ∙ h in true-false z
-  where
-    true-false : ◌≡◌ {A = Bool} false true → ⊥
-    true-false z = absurd (let y : ◌≡◌ {A = ℕ} 0 1 = cc in omega arith)
+no_table k h e = false≢true (sym (ap is_join e) ∙ h)
 
 -- joins whose left side is built first
 pub in-order : {k : Kind} → (k ≡ K.Cross) ⊎ ((k ≡ K.Inner) ⊎ (k ≡ K.Left)) → (is_join k ≡ true) × (right_kind k ≡ false)

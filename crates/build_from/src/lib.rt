@@ -46,7 +46,7 @@ pub fn build_from(
 {
     let rows = rows_of(froms, r);
     match rows {
-        None => tables::build_table(exprs, tables, froms, r, area, nodes, at),
+        None => tables::build_table(exprs, tables, froms, r, nodes, at),
         Some(side) => {
             let first = build_from(exprs, tables, froms, side.first, area, nodes, at);
             // A match, since ? would hold a scope of 1.6 KB once more in each frame of the recursion.

@@ -3,20 +3,14 @@ ghost use Rattle.std.specs.Prelude.{ℕ, ◌*◌};
 ghost use Rattle.rules.specs.Sizes.{option_size};
 ghost use Rattle.plan.specs.Cells.{Room};
 ghost use Rattle.build_expression.specs.Builds.{scope_at};
-ghost use Rattle.build_from.specs.Predicates.{predicate_in, PredicateBuilt};
+ghost use Rattle.build_expression.specs.Options.{OptionBuilt};
+ghost use Rattle.build_from.specs.Predicates.{predicate_in};
 
 use ast::Expressions;
-use build_expression::build_expression;
+use build_expression::option::{BuiltOption, build_option};
 use from::row;
 use numbers::refusals::Refusal;
 use scope::view::View;
-
-// The next cell, and the predicate's root, where there is one.
-#[derive(Clone, Copy, Debug, PartialEq, Eq)]
-pub struct Predicate {
-    pub cell: u32,
-    pub root: Option<u32>,
-}
 
 // The predicate of the join in row r.
 pub fn build_predicate(
@@ -26,26 +20,15 @@ pub fn build_predicate(
     scope: &View,
     area: &mut [u32],
     n: u32,
-) -> Result<Predicate, Refusal>
+) -> Result<BuiltOption, Refusal>
     requires { Room n (3 * option_size (predicate_in exprs.now.texts.catalog.now exprs.now.texts.statement.now
         exprs.now.table.now froms.now r)) area.old }
-    ensures { (h : ℕ) → PredicateBuilt (scope_at exprs.now.texts.catalog.now exprs.now.texts.statement.now
+    ensures { (h : ℕ) → OptionBuilt (scope_at exprs.now.texts.catalog.now exprs.now.texts.statement.now
         exprs.now.table.now
         scope.now.labels.now scope.now.matches.now scope.now.tables.now h)
         (predicate_in exprs.now.texts.catalog.now exprs.now.texts.statement.now exprs.now.table.now froms.now r)
         n area.old area.new result }
 {
-    match row::predicate_of(froms, r) {
-        None => Ok(Predicate {
-            cell: n,
-            root: None,
-        }),
-        Some(p) => {
-            let built = build_expression(exprs, p as usize, scope, area, n)?;
-            Ok(Predicate {
-                cell: built,
-                root: Some(built - 1),
-            })
-        }
-    }
+    let p = row::predicate_of(froms, r).map(|p| p as usize);
+    build_option(exprs, p, scope, area, n)
 }

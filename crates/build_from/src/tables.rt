@@ -1,5 +1,5 @@
 // A table of FROM: its scope under its alias or its name, and its scan.
-ghost use Rattle.std.specs.Prelude.{◌+◌, ◌≤◌, length};
+ghost use Rattle.std.specs.Prelude.{List, ℕ, ◌+◌, ◌≤◌, ◌<◌, ◌^◌, length};
 ghost use Rattle.plan.specs.Layout.{scan_size};
 ghost use Rattle.build_from.specs.Sources.{ItemRoom, Builds};
 ghost use Rattle.build_from.specs.Tables.{table_row, FromNamed, Scanned};
@@ -35,23 +35,22 @@ fn scan_row(texts: &Texts, froms: &[u32], r: u32, nodes: &mut Nodes)
     }
 }
 
-// The item in row r, which is a table.
-// (It leaves `area` alone: the contract says of it what it says of every item, that it has room and what stands in it.)
+// The item in row r, which is a table. It makes no cell: the area, whatever it is, stays as it was.
 pub fn build_table(
     exprs: &Expressions,
     tables: &[u32],
     froms: &[u32],
     r: u32,
-    area: &mut [u32],
     nodes: &mut Nodes,
     at: Step,
 ) -> Result<Source, Refusal>
-    requires { ItemRoom exprs.now.texts.catalog.now exprs.now.texts.statement.now tables.now
-        (table_row exprs.now.texts.catalog.now exprs.now.texts.statement.now froms.now r)
-        at area.old nodes.old }
-    ensures { Builds exprs.now.texts.catalog.now exprs.now.texts.statement.now tables.now exprs.now.table.now
+    requires nodes_room { nodes.old.used + scan_size ≤ length nodes.old.numbers.now }
+    requires next_node { at.node + 1 < 2 ^ 32 }
+    ensures { (area : List ℕ) → ItemRoom exprs.now.texts.catalog.now exprs.now.texts.statement.now tables.now
+        (table_row exprs.now.texts.catalog.now exprs.now.texts.statement.now froms.now r) at area nodes.old
+        → Builds exprs.now.texts.catalog.now exprs.now.texts.statement.now tables.now exprs.now.table.now
         (table_row exprs.now.texts.catalog.now exprs.now.texts.statement.now froms.now r) at
-        area.old nodes.old area.new nodes.new result }
+        area nodes.old area nodes.new result }
 {
     let l = row::line(froms, r);
     let name = row::name(froms, r);

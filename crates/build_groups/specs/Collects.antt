@@ -6,7 +6,7 @@ use Rattle.ast.specs.Collect.{collect_rows}
 use Rattle.ast.specs.Listed.{Listed, Listing, listing-on, listing-end, ListedWithin, within-listed}
 use Rattle.ast.specs.declared.buffer.Rows.{Rows}
 use Rattle.sections.specs.Access.{item_kind, having_kind, order_kind, numbers_at}
-use Rattle.sections.specs.Expressions.{first_row}
+use Rattle.sections.specs.Expressions.{expr_row}
 use Rattle.sections.specs.declared.entry.Entry.{Entry}
 use Rattle.statement.specs.EntryAccess.{clause_at}
 use Rattle.statement.specs.declared.access.Clause.{Clause}
@@ -24,7 +24,7 @@ module _ {xs : List ℕ} (parts : List ℕ) (kind i n : ℕ) {s s' : Rows}
   pub row_room : i < n → s'.used + 1 ≤ length s'.rows.now
   row_room l = omega (arith, k.room, ap length (entries-more parts kind i n l))
 
-  pub row_put : {e : Entry} {r : ℕ} {s'' : Rows} → i < n → e ≡ numbers_at parts kind i → r ≡ first_row e
+  pub row_put : {e : Entry} {r : ℕ} {s'' : Rows} → i < n → e ≡ numbers_at parts kind i → r ≡ expr_row e
       → Listed (r ∷ []) s' s'' → Listing xs (entry_rows parts kind (i + 1) (n - (i + 1))) s s''
   row_put l f g a = listing-on (rw (entries-more parts kind i n l, ← f, ← g) at k) a
 
@@ -35,7 +35,7 @@ module _ {xs : List ℕ} (parts : List ℕ) (kind i n : ℕ) {s s' : Rows}
 module _ (c q : Bytes) (t parts : List ℕ) (kind i n : ℕ) {xs : List ℕ} {s s' : Rows}
     (k : Listing xs (collect_each_rows c q t (entry_rows parts kind i (n - i))) s s') where
   pub collect-put : {e : Entry} {r : ℕ} {o : Option Unit} {s'' : Rows} → i < n → e ≡ numbers_at parts kind i
-      → r ≡ first_row e → ListedWithin (collect_rows c q t r) s' o s''
+      → r ≡ expr_row e → ListedWithin (collect_rows c q t r) s' o s''
       → Listing xs (collect_each_rows c q t (entry_rows parts kind (i + 1) (n - (i + 1)))) s s''
   unfolding collect_each_rows
   collect-put l f g a = collect-on (rw (entries-more parts kind i n l, ← f, ← g, collect_each_rows) at k) a

@@ -4,7 +4,7 @@ use native.Mathlib.Omega.{arith}
 use Rattle.std.proofs.Common.{add-one, ◌∙◌}
 use Rattle.std.proofs.Math.Path.{refl, sym, ap}
 use mathlib.Core.List.{List, [], ◌∷◌, ◌++◌, map, map-append, map-map}
-use Rattle.std.proofs.Math.Option.{some}
+use Rattle.std.proofs.Math.Option.{some, some-injective}
 use Rattle.std.proofs.Math.ListN.{length, get_or}
 use Rattle.rules.specs.Lists.{Bytes, entry_after, given, map_option}
 use Rattle.rules.specs.Ast.{Expr, Item, Key}
@@ -19,7 +19,7 @@ use Rattle.scope.specs.Scopes.{up_to}
 use Rattle.entries.specs.Entries.{Entry}
 use Rattle.sections.specs.Layout.{start_of, section_at}
 use Rattle.sections.specs.Access.{item_kind, group_kind, having_kind, order_kind, numbers_at, section-count}
-use Rattle.sections.specs.Expressions.{outside_row, first_row}
+use Rattle.sections.specs.Expressions.{outside_row, expr_row}
 use Rattle.statement.specs.Layout.{map_entries, to_item, to_group, to_key, to_clause, select_of}
 use Rattle.statement.specs.Access.{select_at}
 use Rattle.statement.specs.EntryAccess.{clause_at, clause_of, clause-is, group_at, map-length}
@@ -45,7 +45,7 @@ module _ (c q : Bytes) (t froms parts : List ℕ) where
 -- ROWS
 -- of the expressions of n entries of a section, from the i-th on
 unfoldable pub entry_rows : List ℕ → ℕ → ℕ → ℕ → List ℕ
-entry_rows parts kind i n = map (λ k. first_row (numbers_at parts kind k)) (up_to i n)
+entry_rows parts kind i n = map (λ k. expr_row (numbers_at parts kind k)) (up_to i n)
 
 -- of all entries
 unfoldable pub section_rows : List ℕ → ℕ → List ℕ
@@ -73,7 +73,7 @@ unfolding entry_rows up_to
 entries_none parts kind i n h = let z : n - i ≡ 0 = omega arith in rw z
 
 pub entries-more : (parts : List ℕ) (kind i n : ℕ) → i < n
-    → entry_rows parts kind i (n - i) ≡ first_row (numbers_at parts kind i) ∷ entry_rows parts kind (i + 1) (n - (i + 1))
+    → entry_rows parts kind i (n - i) ≡ expr_row (numbers_at parts kind i) ∷ entry_rows parts kind (i + 1) (n - (i + 1))
 unfolding entry_rows up_to
 entries-more parts kind i n h =
     let z : n - i ≡ suc (n - (i + 1)) = omega arith in
@@ -95,13 +95,10 @@ unfolding up_to entry_after
 by_entries f i [] h = refl
 by_entries {A} f i (x ∷ xs) h =
     let z : i + 0 ≡ i = omega arith in
-    let e : x ≡ f i = rw z at (some_same x (f (i + 0)) (h 0 (omega arith))) in
+    let e : x ≡ f i = rw z at (some-injective x (f (i + 0)) (h 0 (omega arith))) in
     rw (← e) (ap (λ ys. x ∷ ys) (by_entries f (suc i) xs (λ k l.
     let y : i + suc k ≡ suc i + k = omega arith in
     rw y at (h (suc k) (omega arith)))))
-  where
-    some_same : (a b : A) → some a ≡ some b → a ≡ b
-    some_same a b e = cc
 
 item-exprs : (es : List Entry) → map (λ (i : Item). i.expr) (map_entries to_item es) ≡ map_entries to_group es
 unfolding map_entries to_item to_group
@@ -126,8 +123,8 @@ module _ (c q : Bytes) (t : List ℕ) where
         let xs = map_entries to_group (section_at c q t parts kind) in
         let m : length xs ≡ length (section_at c q t parts kind) = map-length to_group (section_at c q t parts kind) in
         let n : length xs ≡ get_or parts (start_of kind) 0 = m ∙ section-count c q t parts kind in
-        map-map (tree_at c q t) (λ k. first_row (numbers_at parts kind k)) (up_to 0 (get_or parts (start_of kind) 0))
-        ∙ rw (← n) (by_entries (λ k. tree_at c q t (first_row (numbers_at parts kind k))) 0 xs
+        map-map (tree_at c q t) (λ k. expr_row (numbers_at parts kind k)) (up_to 0 (get_or parts (start_of kind) 0))
+        ∙ rw (← n) (by_entries (λ k. tree_at c q t (expr_row (numbers_at parts kind k))) 0 xs
         (λ k h.
         let z : 0 + k ≡ k = omega arith in
         rw z (group_at c q t parts kind k (numbers_at parts kind k) refl (omega (arith, m)) l)))

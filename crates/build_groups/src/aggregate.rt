@@ -26,15 +26,15 @@ fn build_retained(
     exprs: &Expressions,
     rows: &[usize],
     groups: usize,
-    scope: Scope,
+    scope: &Scope,
     area: &mut [u32],
     nodes: &mut Nodes,
     at: Step,
 ) -> Result<Stage, Refusal>
-    requires { KeptReady exprs.now.texts.catalog.now exprs.now.texts.statement.now exprs.now.table.now scope rows.now groups
-        at.cell at.node area.old nodes.old }
+    requires { KeptReady exprs.now.texts.catalog.now exprs.now.texts.statement.now exprs.now.table.now scope.now
+        rows.now groups at.cell at.node area.old nodes.old }
     ensures { (gs fs : List ℕ) → RowsKept (tree_in exprs.now) gs fs rows.now groups
-        → StageOver exprs.now.texts.catalog.now exprs.now.texts.statement.now exprs.now.table.now scope gs fs
+        → StageOver exprs.now.texts.catalog.now exprs.now.texts.statement.now exprs.now.table.now scope.now gs fs
         at.cell at.node area.old nodes.old area.new nodes.new result }
 {
     let source = at.node - 1;
@@ -60,15 +60,15 @@ pub fn build_aggregate(
     exprs: &Expressions,
     groups: &[usize],
     functions: &[usize],
-    scope: Scope,
+    scope: &Scope,
     area: &mut [u32],
     nodes: &mut Nodes,
     at: Step,
 ) -> Result<Stage, Refusal>
-    requires { AggregateReady exprs.now.texts.catalog.now exprs.now.texts.statement.now exprs.now.table.now scope
+    requires { AggregateReady exprs.now.texts.catalog.now exprs.now.texts.statement.now exprs.now.table.now scope.now
         groups.now functions.now at.cell at.node area.old nodes.old }
     ensures { StageBuilt exprs.now.texts.catalog.now exprs.now.texts.statement.now exprs.now.table.now
-        (groups_stage exprs.now.texts.catalog.now exprs.now.texts.statement.now exprs.now.table.now scope
+        (groups_stage exprs.now.texts.catalog.now exprs.now.texts.statement.now exprs.now.table.now scope.now
         (map (tree_in exprs.now) groups.now) (map (tree_in exprs.now) functions.now))
         at.cell at.node area.old nodes.old area.new nodes.new result }
 {

@@ -22,14 +22,14 @@ use stage::Stage;
 pub fn build_groups(
     exprs: &Expressions,
     parts: &[u32],
-    scope: Scope,
+    scope: &Scope,
     area: &mut [u32],
     nodes: &mut Nodes,
     at: Step,
 ) -> Result<Stage, Refusal>
-    requires { GroupsReady exprs.now.texts.catalog.now exprs.now.texts.statement.now exprs.now.table.now parts.now scope
-        at.cell at.node area.old nodes.old }
-    ensures { GroupsBuilt exprs.now.texts.catalog.now exprs.now.texts.statement.now exprs.now.table.now scope
+    requires { GroupsReady exprs.now.texts.catalog.now exprs.now.texts.statement.now exprs.now.table.now parts.now
+        scope.now at.cell at.node area.old nodes.old }
+    ensures { GroupsBuilt exprs.now.texts.catalog.now exprs.now.texts.statement.now exprs.now.table.now scope.now
         (groups_at exprs.now.texts.catalog.now exprs.now.texts.statement.now exprs.now.table.now parts.now)
         (functions_at exprs.now.texts.catalog.now exprs.now.texts.statement.now exprs.now.table.now parts.now)
         at.cell at.node area.old nodes.old area.new nodes.new result }
@@ -41,7 +41,7 @@ pub fn build_groups(
     let mut functions = Rows::new(&mut rows);
     function_rows(exprs, parts, &mut functions);
     if groups.used + functions.used == 0 {
-        return Ok(Stage { scope, at });
+        return Ok(Stage { scope: *scope, at });
     }
     build_aggregate(
         exprs,

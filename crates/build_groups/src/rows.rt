@@ -10,7 +10,7 @@ use ast::Expressions;
 use ast::buffer::Rows;
 use ast::walk::collect;
 use entries::Section;
-use sections::entry::{count, entry_at, first_row};
+use sections::entry::{count, entry_at};
 use statement::access::clause_at;
 
 // The groups.
@@ -20,7 +20,7 @@ pub fn group_rows(parts: &[u32], rows: &mut Rows)
 {
     let n = count(parts, Section::Group);
     for i in 0..n {
-        rows.push(first_row(entry_at(parts, Section::Group, i)));
+        rows.push(entry_at(parts, Section::Group, i).expr_row());
     }
 }
 
@@ -33,7 +33,7 @@ fn collect_section(exprs: &Expressions, parts: &[u32], kind: Section, rows: &mut
 {
     let n = count(parts, kind);
     for i in 0..n {
-        let r = first_row(entry_at(parts, kind, i));
+        let r = entry_at(parts, kind, i).expr_row();
         // There is room, so none is lost.
         collect(exprs, r, rows);
     }

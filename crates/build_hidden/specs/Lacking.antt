@@ -170,17 +170,17 @@ lacking-own : (o p : Option ℕ) (i : ℕ) → lacking o p ≡ some i → o ≡ 
 unfolding lacking
 lacking-own o none i e = e
 lacking-own none (some j) i e = e
-lacking-own (some k) (some j) i e = absurd (let z : ◌≡◌ {A = ℕ} 0 1 = cc in omega arith)
+lacking-own (some k) (some j) i e = grind arith
 
 position_at : (f : rules.Found) (i : ℕ) → position f ≡ some i → f ≡ rules.at i
 unfolding position
 position_at (rules.at j) i e = cc
-position_at (rules.missing n) i e = absurd (let z : ◌≡◌ {A = ℕ} 0 1 = cc in omega arith)
+position_at (rules.missing n) i e = grind arith
 
 module _ (c q : Bytes) (xs ms ts : List ℕ) (e : ℕ → Expr) (child : rules.Scope) (a : Expr) {i : ℕ} where
   column-below : (o : Option ColumnName) → lacking_column (scope_from e c q xs ms ts 0) child o ≡ some i → i < length xs
   unfolding lacking_column scope_from rules.width
-  column-below none g = absurd (let z : ◌≡◌ {A = ℕ} 0 1 = cc in omega arith)
+  column-below none g = grind arith
   column-below (some n) g = rw columns-length at (lookup-below (scope_from e c q xs ms ts 0) n.table n.name i
       (position_at _ i (lacking-own _ _ i g)))
 

@@ -14,7 +14,7 @@ use Rattle.rules.specs.BuildSelect.{later_of}
 use Rattle.ast.specs.Table.{table_size, tree_at}
 use Rattle.sections.specs.Layout.{section_at}
 use Rattle.sections.specs.Access.{having_kind, order_kind, numbers_at, after-drop}
-use Rattle.sections.specs.Expressions.{first_row}
+use Rattle.sections.specs.Expressions.{expr_row}
 use Rattle.sections.specs.declared.entry.Entry.{Entry}
 use Rattle.statement.specs.Layout.{map_entries, to_key, select_of}
 use Rattle.statement.specs.Access.{select_at}
@@ -82,12 +82,12 @@ keys-begin {s = s} f = record {
 module _ {cells parts : List ℕ} {s : Rows} {k : ℕ} {s' : Rows} (f : KeysFit cells parts s)
     (v : KeysVisiting cells parts s k s') (w : ℕ)
     (e : (c q : Bytes) (t : List ℕ) → w ≡ length (section_at c q t parts order_kind)) where
-  module _ {x : Entry} {r : ℕ} (l : k < w) (g : x ≡ numbers_at parts order_kind k) (y : r ≡ first_row x) where
+  module _ {x : Entry} {r : ℕ} (l : k < w) (g : x ≡ numbers_at parts order_kind k) (y : r ≡ expr_row x) where
     next-key : (c q : Bytes) → expressions_of (drop k (keys_at c q cells parts))
         ≡ tree_at c q cells r ∷ expressions_of (drop (suc k) (keys_at c q cells parts))
     unfolding keys_at
     next-key c q = ap expressions_of (after-drop k _ _ (key-at c q cells parts order_kind k x g
-        (omega (arith, l, e c q cells)) (omega (arith, f.table)))) ∙ rw y
+        (omega (arith, l, e c q cells)) (omega (arith, f.table)) _ refl)) ∙ rw y
 
     next-size : (c q : Bytes) → total size (expressions_of (drop k (keys_at c q cells parts)))
         ≡ size (tree_at c q cells r) + total size (expressions_of (drop (suc k) (keys_at c q cells parts)))

@@ -70,7 +70,8 @@ fn lacking_column(exprs: &Expressions, r: usize, parent: &View, child: &View) ->
     lacking_name(&exprs.texts, parent, child, place, sought)
 }
 
-// The parent's column to hide for the expression at row r.
+// The parent's column to hide for the expression at row r. (A match: with `or_else` the proof
+// was tried and did not close.)
 pub fn to_hide(exprs: &Expressions, r: usize, parent: &View, child: &View) -> Option<u32>
     ensures { Lacking exprs.now.texts.catalog.now exprs.now.texts.statement.now exprs.now.table.now
         parent.now.labels.now parent.now.matches.now parent.now.tables.now

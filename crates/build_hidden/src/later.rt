@@ -4,7 +4,7 @@ ghost use Rattle.build_hidden.specs.Later.{KeysFit, KeysVisited, LaterFit, Later
 use super::walk::visit_rows;
 use ast::buffer::Rows;
 use entries::Section;
-use sections::entry::{count, entry_at, first_row};
+use sections::entry::{count, entry_at};
 use statement::access::clause_at;
 
 // Those of the order keys, behind others.
@@ -15,7 +15,7 @@ fn order_rows(cells: &[u32], parts: &[u32], rows: &mut Rows)
     let total = count(parts, Section::Order);
     for k in 0..total {
         let e = entry_at(parts, Section::Order, k);
-        visit_rows(cells, first_row(e), rows);
+        visit_rows(cells, e.expr_row(), rows);
     }
 }
 

@@ -19,7 +19,7 @@ pub fn visit_rows(table: &[u32], r: usize, rows: &mut Rows) -> bool
         return !any;
     }
     let mut p = r + 1;
-    for i in 0..left {
+    for _ in 0..left {
         let answer = visit_rows(table, p, rows);
         if answer == any {
             return any;

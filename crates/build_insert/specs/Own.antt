@@ -10,14 +10,13 @@ use Rattle.rules.specs.Schema.{Table}
 use Rattle.rules.specs.Plan.{Node, cindex, vindex, Mapping}
 use Rattle.rules.specs.Plan as P
 use Rattle.rules.specs.Area.{span, option_number, mapping_numbers, own_numbers}
-use Rattle.claims.specs.Room.Nodes.{map_room}
+use Rattle.claims.specs.Room.Nodes.{map_room, mappings-room}
 use Rattle.plan.specs.Layout.{own_size, mapping_size, nodes_size}
 use Rattle.plan.specs.Pushed.{Pushed, pushed-none}
 use Rattle.plan.specs.Places.{place_numbers}
 use Rattle.plan.specs.declared.nodes.Nodes.{Nodes}
 use Rattle.text.specs.declared.places.Place.{Place}
 use Rattle.plan.specs.Own.{inserting, mappings-on, mapping-one, insert-mappings, insert-plain, insert-mapped}
-use Rattle.plan.specs.Room.{mappings-size}
 use Rattle.build_insert.specs.Map.{mappings, mappings-last, given_map}
 use Rattle.std.specs.Prelude as std
 use Rattle.std.specs.Prelude.{Some, None}
@@ -64,7 +63,7 @@ module _ {ps : List ℕ} {v : ℕ} {s t : Nodes} (p : PutSoFar ps v s t) where
     h,
     p.numbers.kept.all,
     p.numbers.appended.next,
-    mappings-size (mappings ps 0 v),
+    mappings-room (mappings ps 0 v),
     mappings-length ps 0 v,
   )
 

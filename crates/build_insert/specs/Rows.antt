@@ -17,7 +17,7 @@ use Rattle.rules.specs.Area.{row_numbers, sized, record_numbers}
 use Rattle.rules.specs.Scope.{empty}
 use Rattle.rules.specs.BuildExpression.{build, each}
 use Rattle.claims.specs.Answers.{Ensures, then, ensured, each-length}
-use Rattle.claims.specs.Room.Nodes.{rows_room, node_room, number-room}
+use Rattle.claims.specs.Room.Nodes.{rows_room, node_room, rows-size, number-room}
 use Rattle.appends.specs.Answers.{ok_same, ok-not-refused}
 use Rattle.appends.specs.Area.{records_numbers}
 use Rattle.appends.specs.Lists.Joined.{count-append}
@@ -40,7 +40,7 @@ use Rattle.plan.specs.Pushed.{Kept, Pushed, Stored, Countable, kept-on}
 use Rattle.plan.specs.declared.nodes.Nodes.{Nodes}
 use Rattle.plan.specs.Records.{opened, ended, opened-room, records-first}
 use Rattle.plan.specs.Parts.{rows_on, values-rows}
-use Rattle.plan.specs.Room.{values-in-use, rows-size}
+use Rattle.plan.specs.Room.{values-in-use}
 use Rattle.build_insert.specs.Lists.{one_row, values_node, Stands, Listed, Lists, lists-done, lists-refused}
 use Rattle.build_insert.specs.Lists.{was-done, was-refused, SoFar, so-far-none, so_far_more, so-far-stop, so-far-all}
 use Rattle.build_insert.specs.Values.{values_at, all-length}

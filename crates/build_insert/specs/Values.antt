@@ -8,12 +8,11 @@ use Rattle.rules.specs.Lists.{Bytes}
 use Rattle.rules.specs.Ast.{Expr, size, list_of}
 use Rattle.rules.specs.Sizes.{total}
 use Rattle.rules.specs.Plan.{Built}
-use Rattle.rules.specs.Plan as P
-use Rattle.rules.specs.Cells.{Cell, built_count, roots, number_rows, number_node}
+use Rattle.rules.specs.Cells.{Cell, built_count}
 use Rattle.rules.specs.Scope.{Scope, empty}
 use Rattle.rules.specs.BuildExpression.{build, each}
 use Rattle.claims.specs.Answers.{ensured, each-length}
-use Rattle.claims.specs.Room.Nodes.{rows_room, node_room, number-room}
+use Rattle.claims.specs.Room.Nodes.{roots-size}
 use Rattle.appends.specs.Answers.{ok_same, ok-not-refused}
 use Rattle.appends.specs.Expressions.Emit.{emit}
 use Rattle.appends.specs.Lists.Each.{Entries, after, emit_entry, entry_of, each-end, each_step, each-stop}
@@ -167,15 +166,11 @@ module _ {c q : Bytes} {cells : List ℕ} {v r n : ℕ} {area₀ : List ℕ} {s�
           })
 
 -- A ROW: as many roots as values
-roots-length : (vs : List Built) (n : ℕ) → length (roots n vs) ≡ length vs
-unfolding node_room rows_room number_node number_rows
-roots-length vs n = omega (arith, number-room (P.values (vs ∷ [])) n)
-
 pub all-length : (s : Scope) (n : ℕ) (es : List Expr) (xs : List Cell) (ns : List ℕ) (m : ℕ)
     → emit_all s n es ≡ ok (xs, ns, m) → length ns ≡ length es
 all-length s n es xs ns m h =
     let a = all-ok s es n xs ns m h in
-    sym (ap length a.numbers) ∙ roots-length a.built n
+    sym (ap length a.numbers) ∙ roots-size n a.built
     ∙ ensured (each (build s) es) _ (each-length (build s) es) a.built a.answer
 
 pub row-lists : (c q : Bytes) (cells : List ℕ) (v r : ℕ) {n : ℕ} {area area' : List ℕ} {s t u : Nodes} {x : Listed}
@@ -197,7 +192,3 @@ row-lists c q cells v r {n} {area} {area'} {s} {t} {u} {x} a h = go x h
           numbers = row-whole d.entry (pushed-as (ap (λ y. y ∷ []) e) a) d.numbers;
         })
     go (Err b) h = lists-refused one_row h.kept (kept-on a.kept h.all) (was-refused all_roots h b refl)
-
-pub row_room : {v : ℕ} {s t : Nodes} → Pushed (v ∷ []) s t → s.used + 1 + v ≤ length s.numbers.now
-    → t.used + v ≤ length t.numbers.now
-row_room a h = omega (arith, a.appended.next, a.kept.all, h)

@@ -10,7 +10,7 @@ use Rattle.rules.specs.Cells.{column}
 use Rattle.rules.specs.Area.{option_span, item_numbers}
 use Rattle.rules.specs.Hidden.{HiddenColumn}
 use Rattle.rules.specs.BuildSelect.{hidden_built}
-use Rattle.claims.specs.Lists.{map-append}
+use Rattle.std.proofs.lemmas.List.{map-append}
 use Rattle.appends.specs.Area.{cells_numbers}
 use Rattle.appends.specs.Lists.Each.{joined, after, entries-same, each-end, each_more}
 use Rattle.appends.specs.Lists.Kinds.{emit_firsts}
@@ -20,7 +20,8 @@ use Rattle.plan.specs.Cells.{Room, Puts, puts_then}
 use Rattle.plan.specs.Pushed.{Pushed, pushed-none}
 use Rattle.plan.specs.declared.nodes.Nodes.{Nodes}
 use Rattle.plan.specs.Parts.{items-on}
-use Rattle.plan.specs.Room.{items-size}
+use Rattle.build_projection.specs.Pushes.{items-none}
+use Rattle.claims.specs.Room.Nodes.{items-size}
 
 -- the parts of columns whose cells stand from the n-th on
 unfoldable pub column_parts : ℕ → List ℕ → List (ℕ × Option Word)
@@ -60,10 +61,6 @@ pub record Putting (ps : List ℕ) (n : ℕ) (area₀ area : List ℕ) (u₀ u :
   pub room : Room n (length ps) area
   pub space : u.used + item_size * (length ps - i) ≤ length u.numbers.now
   pub put : ColumnsPut (take i ps) n area₀ area u₀ u
-
-items-none : item_numbers [] ≡ []
-unfolding item_numbers
-items-none = refl
 
 pub putting-begin : (ps : List ℕ) (n : ℕ) (area : List ℕ) (u : Nodes) → Room n (length ps) area
     → u.used + item_size * length ps ≤ length u.numbers.now → Putting ps n area area u u 0

@@ -64,7 +64,7 @@ bytes-again c q a n = go (ltb a most_bytes) refl
 -- a name is the word at its place
 name-word : (c q : Bytes) (o : std.Option Place) (w : Word) → option_name c q o ≡ some w → w ≡ word_at c q w.start (length w.bytes)
 unfolding option_name word_at
-name-word c q std.None w h = absurd (let z : ◌≡◌ {A = ℕ} 0 1 = cc in omega arith)
+name-word c q std.None w h = grind arith
 name-word c q (std.Some p) w h =
     let e : word_at c q p.address p.length ≡ w = cc in
     rw (← e) (ap (λ (b : Bytes). record { bytes = b; start = p.address }) (sym (bytes-again c q p.address p.length)))
@@ -77,7 +77,7 @@ alias-word c q t parts x w h = go (ltb x statement_rows) refl
     go : (b : Bool) → ltb x statement_rows ≡ b → w ≡ word_at c q w.start (length w.bytes)
     go true e = name-word c q _ w (rw (item_of, e) at h)
     go false e = absurd (let y : ◌≡◌ {A = Option Word} none (some w) = rw (item_of, e) at h in
-        let z : ◌≡◌ {A = ℕ} 0 1 = cc in omega arith)
+        grind arith)
 
 -- WHAT THE NUMBERS MEAN
 module _ (c q : Bytes) (t parts xs ms ts : List ℕ) where

@@ -1,8 +1,9 @@
 -- The projected scope of the items.
-use Rattle.std.specs.Prelude.{ℕ, ◌≤◌, refl, Bool, not, List, map, ◌⊎◌, take}
+use Rattle.std.specs.Prelude.{ℕ, ◌≤◌, Bool, not, List, map, ◌⊎◌, take}
 use Rattle.std.proofs.Common.{arith, ◌∙◌, inl, inr, length-take-le}
 use Rattle.std.proofs.Math.Path.{◌≡◌, sym, ap}
 use Rattle.std.proofs.Math.Bool.{true, false}
+use Rattle.std.proofs.lemmas.Bool.{not-true, not-false}
 use Rattle.std.proofs.Math.ListN.{length, length-map}
 use Rattle.rules.specs.Limits.{most_columns}
 use Rattle.rules.specs.Lists.{Bytes, is_empty}
@@ -30,15 +31,6 @@ pub record ScopeProjected (c q : Bytes) (cells parts items : List ℕ) (s r : Sc
   pub shown : r.hidden ≡ 0
   pub is : scope_of (tree_at c q cells) c q r
       ≡ rules.project (scope_of (tree_at c q cells) c q s) (map (item_of c q cells parts) items)
-
--- WHETHER SOMETHING IS MATCHED
-not-true : (x : Bool) → true ≡ not x → x ≡ false
-not-true true h = h
-not-true false h = refl
-
-not-false : (x : Bool) → false ≡ not x → x ≡ true
-not-false true h = refl
-not-false false h = h
 
 -- THE SCOPE
 -- a projection has a column for each item
@@ -71,7 +63,7 @@ module _ {c q : Bytes} {t parts items : List ℕ} {s : Scope} (f : ItemsReady c 
     unfolding scope_of scope_from
     matched-fit e er = record {
       valid = f.valid;
-      matched = not-true _ (sym e ∙ m (tree_at c q t));
+      matched = not-true _ (sym (m (tree_at c q t)) ∙ e);
       few = omega (arith, ap length er, length-map items (row_of parts), f.few);
       same = ap length ex ∙ length-map items here ∙ sym (ap length er ∙ length-map items (row_of parts));
       slots = below;
@@ -89,8 +81,8 @@ module _ {c q : Bytes} {t parts items : List ℕ} {s : Scope} (f : ItemsReady c 
       where
         go : Plain s ⊎ (is_empty (scope_of (tree_at c q t) c q s).aggregates ≡ false) → Plain s
         go (inl p) = p
-        go (inr p) = absurd (let y : true ≡ false = sym (not-false _ (sym e ∙ m (tree_at c q t))) ∙ p in
-            let z : ◌≡◌ {A = ℕ} 0 1 = cc in omega arith)
+        go (inr p) = absurd (let y : true ≡ false = sym (not-false _ (sym (m (tree_at c q t)) ∙ e)) ∙ p in
+            grind arith)
 
     pub matched-projected : {rows : List ℕ} {r : Scope} → rows ≡ map (row_of parts) items
         → ItemsProjected c q t s xs rows r → ScopeProjected c q t parts items s r

@@ -9,7 +9,7 @@ use Rattle.rules.specs.Lists.{Bytes}
 use Rattle.rules.specs.Lines.{Word}
 use Rattle.rules.specs.Ast.{Item, size}
 use Rattle.rules.specs.Plan.{Built, Node}
-use Rattle.rules.specs.Cells.{Cell, built_count, number_first, column}
+use Rattle.rules.specs.Cells.{Cell, built_count, column}
 use Rattle.rules.specs.Nodes.{project}
 use Rattle.rules.specs.Scope as rules
 use Rattle.rules.specs.Stage as stages
@@ -37,7 +37,8 @@ use Rattle.plan.specs.Pushed.{Kept, kept-all, kept-on, Pushed, Stored, Countable
 use Rattle.plan.specs.declared.nodes.Nodes.{Nodes}
 use Rattle.plan.specs.Records.{opened, opened-room, ended}
 use Rattle.plan.specs.Parts.{project-items}
-use Rattle.plan.specs.Room.{items-size, project-in-use}
+use Rattle.claims.specs.Room.Nodes.{items-size, first-size}
+use Rattle.plan.specs.Room.{project-in-use}
 use Rattle.plan.specs.Steps.{refused-at, refused-on, stands_one, stage-lies, step-none, taken}
 use Rattle.stage.specs.Stages.{StageBuilt}
 use Rattle.build_expression.specs.Builds.{scope_at}
@@ -49,11 +50,6 @@ use Rattle.build_project.specs.Hidden.{column_parts, positions_of, hidden-emits}
 use Rattle.build_project.specs.Widens.{HiddenReady, hidden_at, HiddenPut}
 
 -- ITEMS: how many parts and cells they are
-first-length : {B : Type 0} (bs : List (Built × B)) (n : ℕ) → length (number_first n bs) ≡ length bs
-unfolding number_first
-first-length [] n = refl
-first-length (b ∷ bs) n = omega (arith, first-length bs (n + built_count b.0))
-
 item-three : (s : rules.Scope) (i : Item) → Ensures (item_built s i) (λ x. built_count x.0 ≤ 3 * size i.expr)
 unfolding item_built
 item-three s i =
@@ -80,7 +76,7 @@ items-pushed s c q t parts items n xs as' m e =
     (λ (i : Item). 3 * size i.expr) (item-three s) is') o.built o.answer in
     record {
       most = omega (arith, w, total-three c q t parts items, o.next);
-      parts_are = ap length (sym o.numbers) ∙ first-length o.built n ∙ l ∙ length-map items (item_of c q t parts);
+      parts_are = ap length (sym o.numbers) ∙ first-size n o.built ∙ l ∙ length-map items (item_of c q t parts);
     }
 
 module _ {c q : Bytes} {t parts items : List ℕ} {s : Scope} {n m : ℕ} {area : List ℕ} {u : Nodes}

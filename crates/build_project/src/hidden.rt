@@ -35,17 +35,17 @@ pub fn put_hidden(
     parts: &[u32],
     items: &[u32],
     labels: &[u32],
-    scope: Scope,
+    scope: &Scope,
     area: &mut [u32],
     nodes: &mut Nodes,
     cell: u32,
 ) -> Result<Scope, Refusal>
     requires hidden_ready { HiddenReady exprs.now.texts.catalog.now exprs.now.texts.statement.now exprs.now.table.now
-        parts.now items.now scope cell area.old nodes.old }
+        parts.now items.now scope.now cell area.old nodes.old }
     requires labels_value { labels.now ≡ item_labels exprs.now.texts.catalog.now exprs.now.texts.statement.now
-        exprs.now.table.now parts.now scope items.now }
+        exprs.now.table.now parts.now scope.now items.now }
     ensures { HiddenPut exprs.now.texts.catalog.now exprs.now.texts.statement.now exprs.now.table.now parts.now
-        items.now scope cell area.old area.new nodes.old nodes.new result }
+        items.now scope.now cell area.old area.new nodes.old nodes.new result }
 {
     let child = project_scope(exprs, parts, items, labels, scope);
     let mut positions = [0u32; COLUMNS];

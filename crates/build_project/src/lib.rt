@@ -33,24 +33,24 @@ pub fn build_projection(
     exprs: &Expressions,
     parts: &[u32],
     items: &[u32],
-    scope: Scope,
+    scope: &Scope,
     area: &mut [u32],
     nodes: &mut Nodes,
     at: Step,
 ) -> Result<Stage, Refusal>
     requires { ProjectionReady exprs.now.texts.catalog.now exprs.now.texts.statement.now exprs.now.table.now parts.now
-        items.now scope at.cell at.node area.old nodes.old }
+        items.now scope.now at.cell at.node area.old nodes.old }
     ensures { (froms : List ℕ) → StageBuilt exprs.now.texts.catalog.now exprs.now.texts.statement.now exprs.now.table.now
         (λ d. build_projection
         (stage_of d (scope_of (tree_in exprs.now)
-        exprs.now.texts.catalog.now exprs.now.texts.statement.now scope))
+        exprs.now.texts.catalog.now exprs.now.texts.statement.now scope.now))
         (map (item_of exprs.now.texts.catalog.now exprs.now.texts.statement.now exprs.now.table.now parts.now)
         items.now)
         (later_of (select_at exprs.now.texts.catalog.now exprs.now.texts.statement.now exprs.now.table.now froms
         parts.now))) at.cell at.node area.old nodes.old area.new nodes.new result }
 {
     if is_lone(exprs.table, parts, items) {
-        return Ok(Stage { scope, at });
+        return Ok(Stage { scope: *scope, at });
     }
     let start = nodes.used;
     begin(nodes, Kind::Project, at.node - 1);

@@ -15,14 +15,14 @@ pub fn project_scope(
     parts: &[u32],
     items: &[u32],
     labels: &[u32],
-    scope: Scope,
+    scope: &Scope,
 ) -> Scope
     requires items_ready { ItemsReady exprs.now.texts.catalog.now exprs.now.texts.statement.now exprs.now.table.now
-        parts.now items.now scope }
+        parts.now items.now scope.now }
     requires labels_value { labels.now ≡ item_labels exprs.now.texts.catalog.now exprs.now.texts.statement.now
-        exprs.now.table.now parts.now scope items.now }
+        exprs.now.table.now parts.now scope.now items.now }
     ensures { ScopeProjected exprs.now.texts.catalog.now exprs.now.texts.statement.now exprs.now.table.now parts.now
-        items.now scope result }
+        items.now scope.now result }
 {
     if scope.view().is_matched() {
         let mut rows = [0usize; COLUMNS];

@@ -8,18 +8,18 @@ use Rattle.rules.specs.Area.{span, option_span}
 use Rattle.ast.specs.Names.{option_name}
 use Rattle.ast.specs.Table.{statement_rows, tree_at}
 use Rattle.sections.specs.Access.{item_kind, numbers_at}
-use Rattle.sections.specs.Expressions.{first_row}
+use Rattle.sections.specs.Expressions.{expr_row}
 use Rattle.sections.specs.declared.entry.Entry.{Entry}
 use Rattle.std.specs.Prelude as std
 use Rattle.text.specs.declared.places.Place.{Place}
-use Rattle.text.specs.Places.{option_numbers}
+use Rattle.text.specs.Places.{option_numbers, clipped_place}
 use Rattle.statement.specs.Access.{name_or}
 use Rattle.statement.specs.EntryAccess.{word_of}
 use Rattle.build_projection.specs.Stars.{starred_at}
 use Rattle.build_projection.specs.Items.{entry_item, item_of}
 
 unfoldable pub row_of : List ℕ → ℕ → ℕ
-row_of parts x = elim (ltb x statement_rows) [ true ↦ first_row (numbers_at parts item_kind x) | false ↦ x ]
+row_of parts x = elim (ltb x statement_rows) [ true ↦ expr_row (numbers_at parts item_kind x) | false ↦ x ]
 
 -- the address of its alias, and how many bytes of it there are; 0 0 where it has none
 unfoldable pub alias_address : List ℕ → ℕ → ℕ
@@ -32,10 +32,6 @@ alias_length c q parts x = elim (ltb x statement_rows) [
 ]
 
 -- the place of its alias, as many bytes of it as there are
-unfoldable pub clipped_place : Bytes → Bytes → std.Option Place → std.Option Place
-clipped_place c q std.None = std.None
-clipped_place c q (std.Some p) = std.Some (record { address = p.address; length = length (bytes_at c q p.address p.length) })
-
 unfoldable pub alias_place : Bytes → Bytes → List ℕ → ℕ → std.Option Place
 alias_place c q parts x = elim (ltb x statement_rows) [
   | true ↦ clipped_place c q (numbers_at parts item_kind x).name
@@ -62,7 +58,7 @@ module _ (parts : List ℕ) (x : ℕ) where
   place-starred c q h = rw (alias_place, le-ltb x statement_rows h)
 
   module _ (h : x < statement_rows) (e : Entry) (g : e ≡ numbers_at parts item_kind x) where
-    pub row-entry : (r : ℕ) → r ≡ first_row e → r ≡ row_of parts x
+    pub row-entry : (r : ℕ) → r ≡ expr_row e → r ≡ row_of parts x
     unfolding row_of
     row-entry r f = rw (row_of, lt-ltb x statement_rows h, ← g) f
 

@@ -57,12 +57,12 @@ not-star : (l : ℕ) (is' : List Item) → refuse star_without_from l ≡ ok is'
 unfolding refuse
 not-star l is' e = ok-not-refused is' _ (sym e)
 
-pub expand-done : {cells₀ parts ts labels : List ℕ} {b : Bool} {k n s : ℕ} {cells items : List ℕ} (total : ℕ)
+pub expand-done : {cells₀ parts ts labels : List ℕ} {b : Bool} {k n s : ℕ} {cells items items' : List ℕ} (total : ℕ)
     → Listing cells₀ parts ts labels b k n s cells items
     → ((c q : Bytes) (x : List ℕ) → total ≡ length (section_at c q x parts item_kind)) → total ≤ k
-    → ItemsExpanded cells₀ cells parts ts labels items b (std.Ok n)
+    → items' ≡ items → ItemsExpanded cells₀ cells parts ts labels items' b (std.Ok n)
 unfolding outcome_of
-expand-done {cells₀} {parts} {ts} {labels = labels'} {b} {n = n} {cells = cells} {items} total h m j = record {
+expand-done {cells₀} {parts} {ts} {labels = labels'} {b} {n = n} {cells = cells} {items} total h m j u = rw u (record {
   is = λ c q r.
       let all = chosen b (columns_of c q ts labels') (items_at c q cells₀ parts) in
       let e : map (item_of c q cells parts) (take n items) ≡ all = listing-end h m j c q r in
@@ -76,7 +76,7 @@ expand-done {cells₀} {parts} {ts} {labels = labels'} {b} {n = n} {cells = cell
             let y : all ≡ is' = ok_same (sym a ∙ g) in
             rw (← y, z) e;
       };
-}
+})
 
 pub expand-refused : {cells₀ parts ts labels : List ℕ} {b : Bool} {cells items : List ℕ} (l : ℕ) {x : Refusal}
     → x ≡ record { reason = named limit_passed; line = l } → ((c q : Bytes) → Ready c q cells₀ parts ts labels

@@ -1,8 +1,8 @@
 -- The items of a SELECT by their numbers: entries, and starred columns behind the statement's rows.
 use Rattle.std.specs.Prelude as std
-use Rattle.std.specs.Prelude.{ℕ, suc, ◌+◌, ◌≤◌, ◌<◌, ◌≡◌, Bool, true, false, ◌&&◌, ltb, eqb, get_or, drop}
+use Rattle.std.specs.Prelude.{ℕ, zero, suc, ◌+◌, ◌≤◌, ◌<◌, ◌≡◌, Bool, true, false, ◌&&◌, ltb, eqb, get_or, drop}
 use Rattle.std.proofs.Common.{arith, add-one, ◌∙◌, drop_of_length-le}
-use Rattle.std.proofs.Math.Path.{refl, sym, ap}
+use Rattle.std.proofs.Math.Path.{refl, sym, ap, subst}
 use mathlib.Core.List.{List, [], ◌∷◌}
 use Rattle.std.proofs.Math.Option.{Option, none, some}
 use Rattle.std.proofs.Math.ListN.{length}
@@ -21,7 +21,7 @@ use Rattle.ast.specs.declared.row.Kind.{Kind}
 use Rattle.ast.specs.declared.row.Kind.TheVariants as K
 use Rattle.sections.specs.Layout.{start_of, section_at}
 use Rattle.sections.specs.Access.{item_kind, group_kind, numbers_at, after-drop, section-count}
-use Rattle.sections.specs.Expressions.{first_row}
+use Rattle.sections.specs.Expressions.{expr_row}
 use Rattle.sections.specs.declared.entry.Entry.{Entry}
 use Rattle.statement.specs.Layout.{map_entries, to_item}
 use Rattle.statement.specs.EntryAccess.{item-at, map-length}
@@ -36,7 +36,7 @@ items_at c q cells parts = map_entries to_item (section_at c q cells parts item_
 unfoldable pub entry_item : Bytes → Bytes → List ℕ → List ℕ → ℕ → Item
 entry_item c q cells parts k = record {
   line = (numbers_at parts item_kind k).line;
-  expr = tree_at c q cells (first_row (numbers_at parts item_kind k));
+  expr = tree_at c q cells (expr_row (numbers_at parts item_kind k));
   alias = option_name c q (numbers_at parts item_kind k).name;
 }
 
@@ -136,11 +136,11 @@ module _ (cells parts : List ℕ) (k : ℕ) (e : Entry) (h : e ≡ numbers_at pa
   unfolding plain_star entry_item option_name
   plain-aliased g c q = rw (plain_star, ← h, g)
 
-  module _ (x : std.Option ℕ) (r : ℕ) (f : r ≡ first_row e) (t : (c q : Bytes) → option_of x ≡ as_star (tree_at c q cells r)) where
+  module _ (x : std.Option ℕ) (r : ℕ) (f : r ≡ expr_row e) (t : (c q : Bytes) → option_of x ≡ as_star (tree_at c q cells r)) where
     pub plain-free : e.name ≡ std.None → (c q : Bytes) → option_of x ≡ plain_star (entry_item c q cells parts k ∷ [])
     unfolding entry_item option_name
     plain-free g c q =
-        t c q ∙ ap (λ i. as_star (tree_at c q cells i)) (f ∙ ap first_row h)
+        t c q ∙ ap (λ i. as_star (tree_at c q cells i)) (f ∙ ap expr_row h)
         ∙ sym (plain-alone (entry_item c q cells parts k) (rw (← h, g)))
 
     pub sought-is : (b : Bool) → b ≡ true → (c q : Bytes) → option_of x ≡ sought b (entry_item c q cells parts k)
@@ -170,7 +170,7 @@ first-none i r h = by-alias i.alias refl
     by-star : (o : Option ℕ) → ◌≡◌ {A = Option ℕ} (elim o [ some l ↦ some l | none ↦ none ]) none
         → ◌≡◌ {A = Option ℕ} (elim o [ some l ↦ some l | none ↦ plain_star r ]) (plain_star r)
     by-star none e = refl
-    by-star (some l) e = absurd (let z : ◌≡◌ {A = ℕ} 0 1 = cc in omega arith)
+    by-star (some l) e = grind arith
 
     by-alias : (a : Option Word) → i.alias ≡ a → plain_star (i ∷ r) ≡ plain_star r
     by-alias (some w) e = rw (plain_star, e)
@@ -182,11 +182,11 @@ first_some i r l h = by-alias i.alias refl
   where
     by-star : (o : Option ℕ) → ◌≡◌ {A = Option ℕ} (elim o [ some m ↦ some m | none ↦ none ]) (some l)
         → ◌≡◌ {A = Option ℕ} (elim o [ some m ↦ some m | none ↦ plain_star r ]) (some l)
-    by-star none e = absurd (let z : ◌≡◌ {A = ℕ} 0 1 = cc in omega arith)
+    by-star none e = grind arith
     by-star (some m) e = e
 
     by-alias : (a : Option Word) → i.alias ≡ a → plain_star (i ∷ r) ≡ some l
-    by-alias (some w) e = absurd (let z : ◌≡◌ {A = Option ℕ} none (some l) = rw (plain_star, e) at h in let y : ◌≡◌ {A = ℕ} 0 1 = cc in omega arith)
+    by-alias (some w) e = absurd (let z : ◌≡◌ {A = Option ℕ} none (some l) = rw (plain_star, e) at h in grind arith)
     by-alias none e = rw (plain_star, e) (by-star (as_star i.expr) (rw (plain_star, e) at h))
 
 -- what the items from k on decide
@@ -215,6 +215,30 @@ module _ {cells parts : List ℕ} {k n : ℕ} (s : Seeking cells parts k) (g : l
   seek-end h c q =
       let z : length (items_at c q cells parts) ≤ k = omega (arith, items-length c q cells parts, m c q cells) in
       sym (ap plain_star (drop_of_length-le (items_at c q cells parts) z)) ∙ s.rest c q
+
+module _ (cells parts : List ℕ) where
+  -- entry k is a star with no alias, or it is none
+  abbrev pub Plain : ℕ → std.Option ℕ → Type 0
+  Plain k x = (c q : Bytes) → option_of x ≡ plain_star (entry_item c q cells parts k ∷ [])
+
+  start : Seeking cells parts 0
+  start = record { rest = λ c q. refl }
+
+  module _ {n : ℕ} (g : length cells ≡ table_size)
+      (m : (c q : Bytes) (x : List ℕ) → n ≡ length (section_at c q x parts item_kind)) where
+    seek-past : (d : ℕ) {k i : ℕ} → k + d ≡ i → i ≤ n → ((j : ℕ) → 0 ≤ j → j < i → Plain j std.None)
+        → Seeking cells parts k → Seeking cells parts i
+    seek-past zero {k} {i} e l h s = let z : k ≡ i = omega arith in subst (Seeking cells parts) z s
+    seek-past (suc d) {k} e l h s =
+        seek-past d (omega arith) l h (seek-miss s g m std.None (omega arith) (h k (omega arith) (omega arith)) refl)
+
+    pub seek-first : (r : std.Option ℕ)
+        → std.MatchOption r ((j : ℕ) → 0 ≤ j → j < n → Plain j std.None)
+        (λ l. (i : ℕ) × (0 ≤ i) × (i < n) × Plain i (std.Some l) × ((j : ℕ) → 0 ≤ j → j < i → Plain j std.None))
+        → (c q : Bytes) → option_of r ≡ plain_star (items_at c q cells parts)
+    seek-first std.None h = seek-end (seek-past n (omega arith) (omega arith) h start) g m (omega arith)
+    seek-first (std.Some l) h =
+        seek_hit (seek-past h.0 (omega arith) (omega (arith, h.2)) h.4 start) g m (std.Some l) h.2 h.3 l refl
 
 -- ONE ITEM
 -- one item and no group

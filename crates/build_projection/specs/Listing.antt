@@ -6,7 +6,7 @@ use Rattle.std.proofs.Common.{add-one, sym, ◌∙◌, length-append, drop_of_le
 use Rattle.std.proofs.Math.Path.{refl, ap}
 use Rattle.std.proofs.Math.Bool.{false}
 use mathlib.Core.List.{List, [], ◌∷◌, ◌++◌, map, append_assoc, append-nil}
-use Rattle.std.proofs.Math.Option.{some}
+use Rattle.std.proofs.Math.Option.{some-injective}
 use Rattle.std.proofs.Math.ListN.{length, take, length-set, length-map}
 use Rattle.std.proofs.lemmas.List.Edits.{sets, sets-eq}
 use Rattle.std.proofs.Math.Seq.{length-sets, length-take-le}
@@ -15,7 +15,7 @@ use Rattle.rules.specs.Lists.{Bytes, entry_after}
 use Rattle.rules.specs.Ast.{Item}
 use Rattle.rules.specs.Plan.{Label, nameless, unqualified, qualified}
 use Rattle.rules.specs.Items.{starred_column, expand_stars}
-use Rattle.claims.specs.Lists.{map-append}
+use Rattle.std.proofs.lemmas.List.{map-append}
 use Rattle.ast.specs.Table.{row_size, statement_rows, starred_rows, table_size}
 use Rattle.numbers.specs.declared.refusals.Refusal.{Refusal}
 use Rattle.numbers.specs.Kept.{Kept}
@@ -35,9 +35,6 @@ use Rattle.build_projection.specs.Terms.{Ready, chosen}
 use Rattle.build_projection.specs.declared.items.Listed.{Listed}
 
 -- ENTRIES THAT ARE KEPT
-some_same : (a b : Item) → some a ≡ some b → a ≡ b
-some_same a b e = cc
-
 -- what is stored behind the statement's rows changes no entry
 entry_kept : (c q : Bytes) (cells parts ts labels x : List ℕ) → Ready c q cells parts ts labels
     → length cells ≡ table_size → Kept 0 (row_size * statement_rows) cells x → length x ≡ table_size
@@ -46,7 +43,7 @@ entry_kept : (c q : Bytes) (cells parts ts labels x : List ℕ) → Ready c q ce
 unfolding items_at
 entry_kept c q cells parts ts labels x r g b l k h =
     let e : section_at c q x parts item_kind ≡ section_at c q cells parts item_kind = r.sections x b l item_kind (omega arith) in
-    some_same _ _ (sym (entry-after c q x parts l k (omega (arith, ap length e, h)))
+    some-injective _ _ (sym (entry-after c q x parts l k (omega (arith, ap length e, h)))
     ∙ ap (λ es. entry_after k (map_entries to_item es)) e
     ∙ entry-after c q cells parts g k h)
 
@@ -61,7 +58,7 @@ unfolding chosen new_items sought expand_stars
 chosen-item true std.None i r ls e = rw (expand_stars, ← e)
 chosen-item true (std.Some l) i r ls e = rw (expand_stars, ← e)
 chosen-item false std.None i r ls e = refl
-chosen-item false (std.Some l) i r ls e = absurd (let z : ◌≡◌ {A = ℕ} 0 1 = cc in omega arith)
+chosen-item false (std.Some l) i r ls e = grind arith
 
 -- a starred row is no entry
 starred-rows : (c q : Bytes) (x parts : List ℕ) (r w : ℕ) → statement_rows ≤ r
@@ -244,10 +241,11 @@ module _ {cells₀ parts ts labels : List ℕ} {b : Bool} {k n s : ℕ} {cells i
       }
 
   -- one entry more
-  pub listing-more : {line : ℕ} {cells' items' : List ℕ} {x : Listed}
-      → ItemListed cells cells' ts labels items items' k line star (record { count = n; starred = s }) (std.Ok x)
-      → Listing cells₀ parts ts labels b (k + 1) x.count x.starred cells' items'
-  listing-more a = rw (a.is.count, a.is.starred, a.is.rows, a.is.numbers, add-one k) (by-star star found a.is.within)
+  pub listing-more : {line : ℕ} {cells' : List ℕ} {before after : Listed} {u : Unit {0}}
+      → before.count ≡ n → before.starred ≡ s → before.items.now ≡ items
+      → ItemListed cells cells' ts labels k line star before after (std.Ok u)
+      → Listing cells₀ parts ts labels b (k + 1) after.count after.starred cells' after.items.now
+  listing-more e f g a = rw (a.is.count, a.is.starred, a.is.rows, a.is.numbers, add-one k, e, f, g) (by-star star found (omega (arith, a.is.within, e)))
     where
       by-star : (y : std.Option ℕ) → ((c q : Bytes) → Ready c q cells₀ parts ts labels → Found c q cells₀ parts ts labels b k y)
           → n + width_of y (length labels) ≤ most_columns
@@ -257,13 +255,13 @@ module _ {cells₀ parts ts labels : List ℕ} {b : Bool} {k n s : ℕ} {cells i
       by-star (std.Some l) f d = unfold width_of starred_of cells_with numbers_for in star-more l f d
 
   -- one too many: the item behind the most, with its line
-  pub listing-limit : {line : ℕ} {cells' items' : List ℕ} {x : Refusal}
-      → ItemListed cells cells' ts labels items items' k line star (record { count = n; starred = s }) (std.Err x)
+  pub listing-limit : {line : ℕ} {cells' : List ℕ} {before after : Listed} {x : Refusal} → before.count ≡ n
+      → ItemListed cells cells' ts labels k line star before after (std.Err x)
       → line ≡ (numbers_at parts item_kind k).line
       → (c q : Bytes) → Ready c q cells₀ parts ts labels
       → Wide most_columns (limit_line star line) (chosen b (columns_of c q ts labels) (items_at c q cells₀ parts))
   unfolding entry_item numbers_at
-  listing-limit {line} a g c q d =
+  listing-limit {line} e a g c q d =
       let all = h.holds c q d cells (kept-all 0 _ cells) h.room in
       let f = (found c q d).left in
       let ls = columns_of c q ts labels in
@@ -272,7 +270,7 @@ module _ {cells₀ parts ts labels : List ℕ} {b : Bool} {k n s : ℕ} {cells i
       let z : length xs ≡ n = length-map (take n items) (item_of c q cells parts) ∙ length-take-le n items (omega (arith, h.most, h.space)) in
       rw (← (ap (λ r. xs ++ r) (sym f) ∙ all)) (wide-behind xs n most_columns (limit_line star line) z h.most
       (new-wide star i ls _ (most_columns - n) (limit_line star line) (ap (limit_line star) g)
-      (omega (arith, a.is.beyond, new-length star i ls, columns-length c q ts labels, ap (width_of star) (columns-length c q ts labels)))))
+      (omega (arith, a.is.beyond, e, new-length star i ls, columns-length c q ts labels, ap (width_of star) (columns-length c q ts labels)))))
 
 -- all are listed
 pub listing-end : {cells₀ parts ts labels : List ℕ} {b : Bool} {k n s total : ℕ} {cells items : List ℕ}

@@ -7,7 +7,7 @@ use mathlib.Core.List.{List, [], ◌∷◌, ◌++◌, map, append_assoc, append-
 use Rattle.std.proofs.Math.Option.{Option}
 use Rattle.rules.specs.Refusals.{Answer, ok}
 use Rattle.rules.specs.Limits.{most_columns}
-use Rattle.rules.specs.Lists.{Bytes, concat}
+use Rattle.rules.specs.Lists.{Bytes}
 use Rattle.rules.specs.Lines.{Word}
 use Rattle.rules.specs.Ast.{size}
 use Rattle.rules.specs.Cells.{Cell}
@@ -24,13 +24,13 @@ use Rattle.numbers.specs.declared.refusals.Refusal.{Refusal}
 use Rattle.numbers.specs.Kept.{Kept, kept-part, kept_on, kept_set}
 use Rattle.scope.specs.UsedMatches.{used_matches}
 use Rattle.plan.specs.Layout.{cells_end, item_size}
-use Rattle.plan.specs.Cells.{Room}
+use Rattle.plan.specs.Cells.{Room, cells-none}
 use Rattle.plan.specs.Emits.{Emitting, Written, Emits, accepted}
 use Rattle.plan.specs.Pushed.{Pushed, pushed-none}
 use Rattle.plan.specs.Pushed as nodes
 use Rattle.plan.specs.declared.nodes.Nodes.{Nodes}
 use Rattle.plan.specs.Parts.{items-on}
-use Rattle.plan.specs.Room.{items-size}
+use Rattle.claims.specs.Room.Nodes.{items-size}
 use Rattle.plan.specs.Steps.{RefusedWith, refused-on, emits-refused}
 use Rattle.build_expression.specs.Rows.{emit-within}
 use Rattle.build_expression.specs.Builds.{scope_at, Builds, used-at}
@@ -140,13 +140,9 @@ pub record Pushing (c q : Bytes) (t parts xs ms ts items : List ℕ) (n : ℕ) (
   pub space : u.used + item_size * (length items - i) ≤ length u.numbers.now
   pub sofar : (h : ℕ) → Sofar c q t parts xs ms ts items n area₀ area u₀ u i m h
 
-items-none : item_numbers [] ≡ []
+pub items-none : item_numbers [] ≡ []
 unfolding item_numbers
 items-none = refl
-
-cells-none : cells_numbers [] ≡ []
-unfolding cells_numbers concat
-cells-none = refl
 
 pub pushing-begin : {c q : Bytes} {t parts items : List ℕ} {n : ℕ} {area : List ℕ} {u : Nodes}
     (xs ms ts : List ℕ) → ItemsFit c q t parts items n area u

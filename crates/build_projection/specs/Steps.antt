@@ -41,51 +41,57 @@ cells_with std.None cells ts s labels = cells
 cells_with (std.Some l) cells ts s labels = with_columns cells ts s l labels
 
 -- listed behind those before: there is room for it
-pub record Listable (cells cells' ts labels items items' : List ℕ) (k : ℕ) (star : std.Option ℕ) (before x : Listed)
-    : Type 0 where
+pub record Listable (cells cells' ts labels : List ℕ) (k : ℕ) (star : std.Option ℕ) (before x : Listed) : Type 0 where
   pub within : before.count + width_of star (length labels) ≤ most_columns
   pub count : x.count ≡ before.count + width_of star (length labels)
   pub starred : x.starred ≡ before.starred + starred_of star (length labels)
   pub rows : cells' ≡ cells_with star cells ts before.starred labels
-  pub numbers : items' ≡ sets items before.count (numbers_for star k before.starred (length labels))
+  pub numbers : x.items.now ≡ sets before.items.now before.count (numbers_for star k before.starred (length labels))
 
 -- one too many
 pub record TooMany (w line : ℕ) (star : std.Option ℕ) (n : ℕ) (x : Refusal) : Type 0 where
   pub beyond : most_columns < n + width_of star w
   pub is : x ≡ record { reason = named limit_passed; line = limit_line star line }
 
-pub record ItemListed (cells cells' ts labels items items' : List ℕ) (k line : ℕ) (star : std.Option ℕ) (before : Listed)
-    (r : std.Result Listed Refusal) : Type 0 where
-  pub is : std.MatchResult r (Listable cells cells' ts labels items items' k star before)
+-- in the same lent slice
+pub record ItemListed (cells cells' ts labels : List ℕ) (k line : ℕ) (star : std.Option ℕ) (before after : Listed)
+    (r : std.Result (Unit {0}) Refusal) : Type 0 where
+  pub same : after.items.ghost_name ≡ before.items.ghost_name
+  pub is : std.MatchResult r (λ u. Listable cells cells' ts labels k star before after)
       (TooMany (length labels) line star before.count)
 
-module _ (cells ts labels items : List ℕ) (k line : ℕ) (before : Listed) where
-  pub entry-limit : most_columns ≤ before.count → ItemListed cells cells ts labels items items k line std.None before
+module _ (cells ts labels : List ℕ) (k line : ℕ) (before : Listed) where
+  pub entry-limit : most_columns ≤ before.count → ItemListed cells cells ts labels k line std.None before before
       (std.Err (record { reason = LimitPassed; line = line }))
   unfolding width_of limit_line named
-  entry-limit h = record { is = record { beyond = omega arith; is = refl } }
-
-  pub entry_listed : before.count < most_columns → ItemListed cells cells ts labels items (set items before.count k) k line std.None before
-      (std.Ok (record { count = before.count + 1; starred = before.starred }))
-  unfolding width_of starred_of cells_with numbers_for
-  entry_listed h = record {
-    is = record { within = omega arith; count = refl; starred = omega arith; rows = refl; numbers = refl };
-  }
+  entry-limit h = record { same = refl; is = record { beyond = omega arith; is = refl } }
 
   pub star-limit : (l : ℕ) → most_columns < before.count + length labels
-      → ItemListed cells cells ts labels items items k line (std.Some l) before
+      → ItemListed cells cells ts labels k line (std.Some l) before before
       (std.Err (record { reason = LimitPassed; line = l }))
   unfolding width_of limit_line named
-  star-limit l h = record { is = record { beyond = h; is = refl } }
+  star-limit l h = record { same = refl; is = record { beyond = h; is = refl } }
 
-  pub star-listed : (l : ℕ) (cells' items' : List ℕ) → before.count + length labels ≤ most_columns
-      → cells' ≡ with_columns cells ts before.starred l labels → items' ≡ sets items before.count (up_to (starred_row before.starred) (length labels))
-      → ItemListed cells cells' ts labels items items' k line (std.Some l) before
-      (std.Ok (record { count = before.count + length labels; starred = before.starred + length labels }))
-  unfolding width_of starred_of cells_with numbers_for
-  star-listed l cells' items' h e f = record {
-    is = record { within = h; count = refl; starred = refl; rows = e; numbers = f };
-  }
+  module _ (after : Listed) (same : after.items.ghost_name ≡ before.items.ghost_name) where
+    pub entry_listed : before.count < most_columns → after.count ≡ before.count + 1 → after.starred ≡ before.starred
+        → after.items.now ≡ set before.items.now before.count k
+        → ItemListed cells cells ts labels k line std.None before after (std.Ok tt)
+    unfolding width_of starred_of cells_with numbers_for
+    entry_listed h a b e = record {
+      same = same;
+      is = record { within = omega arith; count = a; starred = omega (arith, b); rows = refl; numbers = e };
+    }
+
+    pub star-listed : (l : ℕ) (cells' : List ℕ) → before.count + length labels ≤ most_columns
+        → after.count ≡ before.count + length labels → after.starred ≡ before.starred + length labels
+        → cells' ≡ with_columns cells ts before.starred l labels
+        → after.items.now ≡ sets before.items.now before.count (up_to (starred_row before.starred) (length labels))
+        → ItemListed cells cells' ts labels k line (std.Some l) before after (std.Ok tt)
+    unfolding width_of starred_of cells_with numbers_for
+    star-listed l cells' h a b e f = record {
+      same = same;
+      is = record { within = h; count = a; starred = b; rows = e; numbers = f };
+    }
 
 -- NUMBERS ONE AFTER THE OTHER
 -- the w numbers from first on, in the places from n on, j of them so far

@@ -1,12 +1,13 @@
 // The items of a SELECT, each star replaced by FROM's columns (planner.rs, build_select). An item is a number: that of
 // its entry, or the row of a starred column, which is behind the statement's rows.
-ghost use Rattle.std.specs.Prelude.{◌≡◌, [], ◌∷◌, ◌+◌, ◌≤◌, ◌<◌, length};
+ghost use Rattle.std.specs.Prelude.{◌≡◌, List, ℕ, [], ◌∷◌, ◌+◌, ◌≤◌, ◌<◌, length};
 ghost use Rattle.rules.specs.Limits.{most_columns};
 ghost use Rattle.rules.specs.Lists.{Bytes};
 ghost use Rattle.rules.specs.Views.{as_star};
 ghost use Rattle.rules.specs.Items.{plain_star};
 ghost use Rattle.ast.specs.Table.{statement_rows, starred_rows, table_size, tree_at};
 ghost use Rattle.numbers.specs.Options.{option_of};
+ghost use Rattle.sections.specs.Access.{item_kind, numbers_at};
 ghost use Rattle.scope.specs.Scopes.{up_to};
 ghost use Rattle.build_projection.specs.Items.{entry_item, item_of, items_at, sought, single};
 ghost use Rattle.build_projection.specs.Steps.{ItemListed};
@@ -18,12 +19,13 @@ use ast::rows::STATEMENT_ROWS;
 use entries::Section;
 use numbers::refusals::{Reason, Refusal};
 use scope::COLUMNS;
-use sections::entry::{count, entry_at, first_row};
+use sections::entry::{Entry, count, entry_at};
 
-// How many items are listed so far, and how many starred columns.
-#[derive(Clone, Copy, Debug, PartialEq, Eq)]
-struct Listed {
-    count: u32,
+// A lent slice, how many items are listed in it so far, and how many of them are starred columns.
+#[derive(Drop)]
+struct Listed<'i> {
+    items: &'i mut [u32],
+    count: usize,
     starred: u32,
 }
 
@@ -44,7 +46,7 @@ fn plain_entry(cells: &[u32], parts: &[u32], k: u32) -> Option<u32>
     let e = entry_at(parts, Section::Item, k);
     match e.name {
         Some(_) => None,
-        None => star_at(cells, first_row(e)),
+        None => star_at(cells, e.expr_row()),
     }
 }
 
@@ -64,12 +66,7 @@ fn plain_star(cells: &[u32], parts: &[u32]) -> Option<u32>
     ensures { (c q : Bytes) → option_of result ≡ plain_star (items_at c q cells.now parts.now) }
 {
     let n = count(parts, Section::Item);
-    for k in 0..n {
-        if let Some(line) = plain_entry(cells, parts, k) {
-            return Some(line);
-        }
-    }
-    None
+    (0..n).find_map(|k| plain_entry(cells, parts, k))
 }
 
 // Numbers from first on, in each place.
@@ -88,26 +85,24 @@ fn list_item(
     cells: &mut [u32],
     tables: &[u32],
     labels: &[u32],
-    items: &mut [u32],
     k: u32,
     line: u32,
     star: Option<u32>,
-    listed: Listed,
-) -> Result<Listed, Refusal>
-    requires { (length items.old ≡ most_columns) × (listed.starred ≤ listed.count) × (listed.count ≤ most_columns) }
-    ensures { ItemListed cells.old cells.new tables.now labels.now items.old items.new k line star listed result }
+    listed: &mut Listed,
+) -> Result<(), Refusal>
+    requires { (length listed.old.items.now ≡ most_columns) × (listed.old.starred ≤ listed.old.count)
+        × (listed.old.count ≤ most_columns) }
+    ensures { ItemListed cells.old cells.new tables.now labels.now k line star listed.old listed.new result }
 {
-    let n = listed.count as usize;
+    let n = listed.count;
     match star {
         None => {
             if COLUMNS <= n {
                 return Err(Reason::LimitPassed.at(line));
             }
-            items[n] = k;
-            Ok(Listed {
-                count: listed.count + 1,
-                starred: listed.starred,
-            })
+            listed.items[n] = k;
+            listed.count += 1;
+            Ok(())
         }
         Some(line) => {
             let w = labels.len();
@@ -115,24 +110,23 @@ fn list_item(
                 return Err(Reason::LimitPassed.at(line));
             }
             put_columns(cells, tables, labels, listed.starred, line);
-            put_rows(&mut items[n..n + w], STATEMENT_ROWS + listed.starred);
-            Ok(Listed {
-                count: listed.count + w as u32,
-                starred: listed.starred + w as u32,
-            })
+            put_rows(&mut listed.items[n..n + w], STATEMENT_ROWS + listed.starred);
+            listed.count += w;
+            listed.starred += w as u32;
+            Ok(())
         }
     }
 }
 
-// The star that entry k is, where stars are expanded.
-fn item_star(cells: &[u32], parts: &[u32], expand: bool, k: u32) -> Option<u32>
-    ensures { (c q : Bytes) → option_of result ≡ sought expand (entry_item c q cells.now parts.now k) }
+// The star that an entry is, where stars are expanded.
+fn item_star(cells: &[u32], e: Entry, expand: bool) -> Option<u32>
+    ensures { (parts : List ℕ) (k : ℕ) → e ≡ numbers_at parts item_kind k
+        → (c q : Bytes) → option_of result ≡ sought expand (entry_item c q cells.now parts k) }
 {
     if !expand {
         return None;
     }
-    let e = entry_at(parts, Section::Item, k);
-    star_at(cells, first_row(e))
+    star_at(cells, e.expr_row())
 }
 
 // How many items there are, stars expanded or not.
@@ -150,15 +144,16 @@ fn expand_items(
 {
     let total = count(parts, Section::Item);
     let mut listed = Listed {
+        items,
         count: 0,
         starred: 0,
     };
     for k in 0..total {
-        let star = item_star(cells, parts, expand, k);
-        let line = entry_at(parts, Section::Item, k).line;
-        listed = list_item(cells, tables, labels, items, k, line, star, listed)?;
+        let e = entry_at(parts, Section::Item, k);
+        let star = item_star(cells, e, expand);
+        list_item(cells, tables, labels, k, e.line, star, &mut listed)?;
     }
-    Ok(listed.count)
+    Ok(listed.count as u32)
 }
 
 // Whether there is one item and no group.

@@ -18,7 +18,7 @@ use numbers::refusals::Refusal;
 use plan::nodes::Nodes;
 use plan::parts::item;
 use scope::view::View;
-use sections::entry::{entry_at, first_row};
+use sections::entry::entry_at;
 use text::places::{Place, Texts};
 
 // The row of item x.
@@ -27,7 +27,7 @@ pub fn item_row(parts: &[u32], x: u32) -> usize
 {
     if x < STATEMENT_ROWS {
         let e = entry_at(parts, Section::Item, x);
-        return first_row(e);
+        return e.expr_row();
     }
     x as usize
 }

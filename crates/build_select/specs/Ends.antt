@@ -19,6 +19,7 @@ use Rattle.appends.specs.Select.Stages as stages
 use Rattle.appends.specs.Select.Stages.{select_remap, select_limit, select_offset}
 use Rattle.ast.specs.Table.{tree_at}
 use Rattle.scope.specs.Scopes.{scope_of}
+use Rattle.scope.specs.declared.Scope.{Scope}
 use Rattle.plan.specs.Layout.{most_plan_cells, nodes_size, plan_size, rows_size, source_head, select_code}
 use Rattle.plan.specs.Pushed.{pushed-none}
 use Rattle.plan.specs.Finished.{finished}
@@ -78,11 +79,11 @@ remap-cells d s = go (remap_hidden s)
     go none = refl
     go (some ts) = unfold cell_count expressions in refl
 
-module _ {w g : ℕ} {i : Step} {area : List ℕ} {nodes : Nodes} (h : LimitState w g i area nodes) where
+module _ {scope : Scope} {i : Step} {area : List ℕ} {nodes : Nodes} (h : LimitState scope i area nodes) where
   pub end-cells : i.cell ≤ most_plan_cells
   end-cells = omega (arith, held-cells h.held, rooms.limit-cells h.past h.offset h.is)
 
-  pub remap-follows : Follows (source_head + w) i.node nodes
+  pub remap-follows : Follows (source_head + scope.width) i.node nodes
   remap-follows = held-follows h.held (omega (
     arith,
     held-numbers h.held,
@@ -91,11 +92,8 @@ module _ {w g : ℕ} {i : Step} {area : List ℕ} {nodes : Nodes} (h : LimitStat
     scope-wide,
   ))
     where
-      scope-wide : rules.width h.stage.scope ≡ w
-      scope-wide = ap rules.width h.scoped.is ∙ scope-width _ _ _ h.scope h.scoped.valid ∙ h.width
-
-  pub remap-hidden : g ≤ w
-  remap-hidden = omega (arith, h.scoped.hidden, h.width, h.hidden)
+      scope-wide : rules.width h.stage.scope ≡ scope.width
+      scope-wide = ap rules.width h.scoped.is ∙ scope-width _ _ _ scope h.scoped.valid
 
   abbrev c : Bytes
   c = h.texts.0
@@ -104,9 +102,9 @@ module _ {w g : ℕ} {i : Step} {area : List ℕ} {nodes : Nodes} (h : LimitStat
   q = h.texts.1
 
   module _ {nodes' : Nodes} {p : Step} (s : Steps (λ d. d)
-      (λ d. ok (build_remap d (scope_of (tree_at c q h.cells) c q h.scope))) i.cell i.node area nodes area nodes'
+      (λ d. ok (build_remap d (scope_of (tree_at c q h.cells) c q scope))) i.cell i.node area nodes area nodes'
       (Ok p)) where
-    on : HeldOn h.select (λ d. d) (ok (build_remap h.node (scope_of (tree_at c q h.cells) c q h.scope))) p area nodes'
+    on : HeldOn h.select (λ d. d) (ok (build_remap h.node (scope_of (tree_at c q h.cells) c q scope))) p area nodes'
     on = step-on h.held s p refl
 
     node-is : build_remap h.node h.stage.scope ≡ on.node
@@ -133,8 +131,8 @@ module _ {w g : ℕ} {i : Step} {area : List ℕ} {nodes : Nodes} (h : LimitStat
     remapped-plans f z = select-ends on.held remapped-cells (ap (λ (d : Node Built). ok (P.select d)) node-is) f z
 
 -- LIMIT
-module _ {c q : Bytes} {cells parts : List ℕ} {w g : ℕ} {i : Step} {area : List ℕ} {nodes : Nodes}
-    (h : OffsetState c q cells parts w g i area nodes) where
+module _ {c q : Bytes} {cells parts : List ℕ} {scope : Scope} {i : Step} {area : List ℕ} {nodes : Nodes}
+    (h : OffsetState c q cells parts scope i area nodes) where
   pub limit-follows : Follows rows_size i.node nodes
   limit-follows = held-follows h.held
       (omega (arith, held-numbers h.held, rooms.limit-numbers h.past h.is h.held.free.fits, h.held.free.later))
@@ -155,7 +153,7 @@ module _ {c q : Bytes} {cells parts : List ℕ} {w g : ℕ} {i : Step} {area : L
         (refused-on (step-stop h.held (limit-step hz (Err x) t) x refl)
         (stages.limit-refused h.select h.stage h.node)) refl
 
-    pub limit-on : {p : Step} → LimitSteps z nodes' (Ok p) → LimitState w g p area nodes'
+    pub limit-on : {p : Step} → LimitSteps z nodes' (Ok p) → LimitState scope p area nodes'
     limit-on {p} t =
         let o = step-on h.held (limit-step hz (Ok p) t) p refl in
         record {
@@ -170,10 +168,7 @@ module _ {c q : Bytes} {cells parts : List ℕ} {w g : ℕ} {i : Step} {area : L
           past = h.past;
           offset = h.is;
           is = o.answer;
-          scope = h.scope;
           scoped = h.scoped;
-          width = h.width;
-          hidden = h.hidden;
           held = o.held;
         }
 
@@ -185,8 +180,8 @@ module _ {c q : Bytes} {cells parts : List ℕ} {w g : ℕ} {i : Step} {area : L
         (stages.limit-step h.select h.stage h.node (limit-on t).node (limit-on t).is) p
 
 -- OFFSET
-module _ {c q : Bytes} {cells parts : List ℕ} {w g : ℕ} {i : Step} {area : List ℕ} {nodes : Nodes}
-    (h : OrderState c q cells parts w g i area nodes) where
+module _ {c q : Bytes} {cells parts : List ℕ} {scope : Scope} {i : Step} {area : List ℕ} {nodes : Nodes}
+    (h : OrderState c q cells parts scope i area nodes) where
   pub offset-follows : Follows rows_size i.node nodes
   offset-follows = held-follows h.held
       (omega (arith, held-numbers h.held, rooms.offset-numbers h.past h.held.free.fits, h.held.free.later))
@@ -207,7 +202,7 @@ module _ {c q : Bytes} {cells parts : List ℕ} {w g : ℕ} {i : Step} {area : L
         (refused-on (step-stop h.held (offset_step hz (Err x) t) x refl)
         (stages.offset-refused h.select h.stage h.node)) refl
 
-    pub offset-on : {p : Step} → OffsetSteps z nodes' (Ok p) → OffsetState c q cells parts w g p area nodes'
+    pub offset-on : {p : Step} → OffsetSteps z nodes' (Ok p) → OffsetState c q cells parts scope p area nodes'
     offset-on {p} t =
         let o = step-on h.held (offset_step hz (Ok p) t) p refl in
         record {
@@ -219,10 +214,7 @@ module _ {c q : Bytes} {cells parts : List ℕ} {w g : ℕ} {i : Step} {area : L
           past = h.past;
           is = o.answer;
           read = h.read;
-          scope = h.scope;
           scoped = h.scoped;
-          width = h.width;
-          hidden = h.hidden;
           held = o.held;
         }
 

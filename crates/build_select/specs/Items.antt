@@ -48,11 +48,11 @@ pub record Listed (a : Answer (List Item)) (n : ℕ) : Type 0 where
 listed : (a : Answer (List Item)) (n : ℕ) → ◌≡◌ {A = Result ℕ Refusal} (Ok n) (outcome_of a) → Listed a n
 unfolding outcome_of
 listed (ok xs) n e = record { items = xs; is = refl; count = cc }
-listed (refused w) n e = absurd (let z : ◌≡◌ {A = ℕ} 0 1 = cc in omega arith)
+listed (refused w) n e = grind arith
 
 not_listed : (a : Answer (List Item)) (x : Refusal) → ◌≡◌ {A = Result ℕ Refusal} (Err x) (outcome_of a) → RefusedWith a x
 unfolding outcome_of
-not_listed (ok xs) x e = absurd (let z : ◌≡◌ {A = ℕ} 0 1 = cc in omega arith)
+not_listed (ok xs) x e = grind arith
 not_listed (refused w) x e = record { why = w; is = refl; refusal = cc }
 
 module _ {c q : Bytes} {cells parts : List ℕ} {scope : Scope} {i : Step} {area : List ℕ} {nodes : Nodes}

@@ -104,7 +104,7 @@ module _ {c q : Bytes} {cells parts : List ℕ} {scope : Scope} {i : Step} {area
         t.kept)
 
     module _ {area₂ : List ℕ} {nodes₂ : Nodes} {y : Step} (t : OrderSteps area₂ nodes₂ (Ok y)) where
-      pub order-state : OrderState c q cells parts scope.width scope.hidden y area₂ nodes₂
+      pub order-state : OrderState c q cells parts scope y area₂ nodes₂
       order-state =
           let o = step-on on.held (order-step (Ok y) t) y refl in
           record {
@@ -114,10 +114,7 @@ module _ {c q : Bytes} {cells parts : List ℕ} {scope : Scope} {i : Step} {area
             node = o.node;
             past = record { before = on.node; past = after; is = o.answer };
             read = h.read;
-            scope = scope;
             scoped = h.scoped;
-            width = refl;
-            hidden = refl;
             held = o.held;
           }
 

@@ -15,16 +15,7 @@ use Rattle.rules.specs.Sizes.{total, clause_size, items_size, keys_size}
 use Rattle.claims.specs.Cases.{either_way}
 use Rattle.claims.specs.Count.Totals.{total-append, total-map}
 use Rattle.claims.specs.Count.Uses.{later-total, given-size}
-
-size-some : (e : Expr) → 1 ≤ size e
-unfolding size
-size-some (star l) = omega arith
-size-some (column l t n) = omega arith
-size-some (literal l v) = omega arith
-size-some (call l n as') = omega arith
-size-some (unary l o a) = omega arith
-size-some (binary l o a b) = omega arith
-size-some (is l a v) = omega arith
+use Rattle.claims.specs.Reading.Capped.{size-positive}
 
 -- AGGREGATES
 mutual
@@ -104,7 +95,7 @@ stars-sizes ls (i ∷ is') = go (as_star i.expr) (stars-sizes ls is')
       starred-sizes l ls,
       length-append (map (starred_column l) ls) (expand_stars ls is'),
       length-map ls (starred_column l),
-      size-some i.expr,
+      size-positive i.expr,
     )
 
 pub expanded-sizes : (q : Select) (ls : List Label)

@@ -136,8 +136,8 @@ pub record ProjectionState (c q : Bytes) (cells parts : List ℕ) (scope : Scope
   pub scoped : Scoped c q cells stage.scope scope
   pub held : Held select stage.node i area nodes
 
--- ORDER, over w columns of which the last h are hidden
-pub record OrderState (c q : Bytes) (cells parts : List ℕ) (w h : ℕ) (i : Step) (area : List ℕ)
+-- ORDER
+pub record OrderState (c q : Bytes) (cells parts : List ℕ) (scope : Scope) (i : Step) (area : List ℕ)
     (nodes : Nodes) : Type 0 where
   pub catalog : Catalog
   pub select : Select
@@ -145,14 +145,11 @@ pub record OrderState (c q : Bytes) (cells parts : List ℕ) (w h : ℕ) (i : St
   pub node : Node Built
   pub past : AfterOrder catalog select stage node
   pub read : Read c q cells parts select
-  pub scope : Scope
   pub scoped : Scoped c q cells stage.scope scope
-  pub width : scope.width ≡ w
-  pub hidden : scope.hidden ≡ h
   pub held : Held select node i area nodes
 
 -- OFFSET
-pub record OffsetState (c q : Bytes) (cells parts : List ℕ) (w h : ℕ) (i : Step) (area : List ℕ)
+pub record OffsetState (c q : Bytes) (cells parts : List ℕ) (scope : Scope) (i : Step) (area : List ℕ)
     (nodes : Nodes) : Type 0 where
   pub catalog : Catalog
   pub select : Select
@@ -162,14 +159,11 @@ pub record OffsetState (c q : Bytes) (cells parts : List ℕ) (w h : ℕ) (i : S
   pub past : AfterOrder catalog select stage ordered
   pub is : build_rows invalid_offset (λ i t. P.offset t i) ordered select.offset ≡ ok node
   pub read : Read c q cells parts select
-  pub scope : Scope
   pub scoped : Scoped c q cells stage.scope scope
-  pub width : scope.width ≡ w
-  pub hidden : scope.hidden ≡ h
   pub held : Held select node i area nodes
 
 -- LIMIT
-pub record LimitState (w h : ℕ) (i : Step) (area : List ℕ) (nodes : Nodes) : Type 0 where
+pub record LimitState (scope : Scope) (i : Step) (area : List ℕ) (nodes : Nodes) : Type 0 where
   pub texts : Bytes × Bytes
   pub cells : List ℕ
   pub catalog : Catalog
@@ -181,8 +175,5 @@ pub record LimitState (w h : ℕ) (i : Step) (area : List ℕ) (nodes : Nodes) :
   pub past : AfterOrder catalog select stage ordered
   pub offset : build_rows invalid_offset (λ i t. P.offset t i) ordered select.offset ≡ ok before
   pub is : build_rows invalid_limit (λ i t. P.limit t i) before select.limit ≡ ok node
-  pub scope : Scope
   pub scoped : Scoped texts.0 texts.1 cells stage.scope scope
-  pub width : scope.width ≡ w
-  pub hidden : scope.hidden ≡ h
   pub held : Held select node i area nodes

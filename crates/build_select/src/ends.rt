@@ -12,15 +12,16 @@ use numbers::refusals::Refusal;
 use plan::finish::{Kind, finish};
 use plan::nodes::Nodes;
 use plan::steps::Step;
+use scope::Scope;
 use statement::access::clause_at;
 
 // The remap that drops hidden columns, and the end.
-fn select_remap(width: u32, hidden: u32, area: &mut [u32], nodes: &mut Nodes, at: Step) -> u32
-    requires { LimitState width hidden at area.old nodes.old }
-    ensures { (h : LimitState width hidden at area.old nodes.old)
+fn select_remap(scope: &Scope, area: &mut [u32], nodes: &mut Nodes, at: Step) -> u32
+    requires { LimitState scope.now at area.old nodes.old }
+    ensures { (h : LimitState scope.now at area.old nodes.old)
         → Plans (select_remap h.select h.stage h.node) area.old area.new (Ok result) }
 {
-    let remapped = build_remap(width, hidden, nodes, at);
+    let remapped = build_remap(scope.width, scope.hidden, nodes, at);
     let own = nodes.used;
     finish(area, nodes, Kind::Select, remapped, own);
     remapped.cell
@@ -30,40 +31,38 @@ fn select_remap(width: u32, hidden: u32, area: &mut [u32], nodes: &mut Nodes, at
 fn select_limit(
     exprs: &Expressions,
     parts: &[u32],
-    width: u32,
-    hidden: u32,
+    scope: &Scope,
     area: &mut [u32],
     nodes: &mut Nodes,
     at: Step,
 ) -> Result<u32, Refusal>
-    requires { OffsetState exprs.now.texts.catalog.now exprs.now.texts.statement.now exprs.now.table.now parts.now width
-        hidden at area.old nodes.old }
+    requires { OffsetState exprs.now.texts.catalog.now exprs.now.texts.statement.now exprs.now.table.now parts.now
+        scope.now at area.old nodes.old }
     ensures { (h : OffsetState exprs.now.texts.catalog.now exprs.now.texts.statement.now exprs.now.table.now parts.now
-        width hidden at area.old nodes.old)
+        scope.now at area.old nodes.old)
         → Plans (select_limit h.select h.stage h.node) area.old area.new result }
 {
     let clause = clause_at(parts, Section::Limit);
     let limited = build_limit(exprs, clause, nodes, at)?;
-    Ok(select_remap(width, hidden, area, nodes, limited))
+    Ok(select_remap(scope, area, nodes, limited))
 }
 
 // OFFSET behind ORDER, and all that follows.
 pub fn select_offset(
     exprs: &Expressions,
     parts: &[u32],
-    width: u32,
-    hidden: u32,
+    scope: &Scope,
     area: &mut [u32],
     nodes: &mut Nodes,
     at: Step,
 ) -> Result<u32, Refusal>
-    requires { OrderState exprs.now.texts.catalog.now exprs.now.texts.statement.now exprs.now.table.now parts.now width
-        hidden at area.old nodes.old }
+    requires { OrderState exprs.now.texts.catalog.now exprs.now.texts.statement.now exprs.now.table.now parts.now
+        scope.now at area.old nodes.old }
     ensures { (h : OrderState exprs.now.texts.catalog.now exprs.now.texts.statement.now exprs.now.table.now parts.now
-        width hidden at area.old nodes.old)
+        scope.now at area.old nodes.old)
         → Plans (select_offset h.select h.stage h.node) area.old area.new result }
 {
     let clause = clause_at(parts, Section::Offset);
     let skipped = build_offset(exprs, clause, nodes, at)?;
-    select_limit(exprs, parts, width, hidden, area, nodes, skipped)
+    select_limit(exprs, parts, scope, area, nodes, skipped)
 }

@@ -19,20 +19,20 @@ pub fn select_groups(
     exprs: &Expressions,
     parts: &[u32],
     items: &[u32],
-    scope: Scope,
+    scope: &Scope,
     area: &mut [u32],
     nodes: &mut Nodes,
     at: Step,
 ) -> Result<u32, Refusal>
     requires { WhereState exprs.now.texts.catalog.now exprs.now.texts.statement.now exprs.now.table.now parts.now items.now
-        scope at area.old nodes.old }
+        scope.now at area.old nodes.old }
     ensures { (h : WhereState exprs.now.texts.catalog.now exprs.now.texts.statement.now exprs.now.table.now parts.now
-        items.now scope at area.old nodes.old)
+        items.now scope.now at area.old nodes.old)
         → Plans (select_groups h.select
         (map (item_of exprs.now.texts.catalog.now exprs.now.texts.statement.now exprs.now.table.now parts.now) items.now)
         h.stage) area.old area.new result }
 {
     let grouped = build_groups(exprs, parts, scope, area, nodes, at)?;
-    let projected = build_projection(exprs, parts, items, grouped.scope, area, nodes, grouped.at)?;
-    select_later(exprs, parts, projected.scope, area, nodes, projected.at)
+    let projected = build_projection(exprs, parts, items, &grouped.scope, area, nodes, grouped.at)?;
+    select_later(exprs, parts, &projected.scope, area, nodes, projected.at)
 }

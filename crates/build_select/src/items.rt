@@ -11,10 +11,10 @@ use ast::Expressions;
 use build_clauses::filters::build_where;
 use build_projection::items::build_items;
 use entries::Section;
+use numbers::first;
 use numbers::refusals::Refusal;
 use plan::nodes::Nodes;
 use plan::steps::Step;
-use scope::view::first;
 use scope::{COLUMNS, Scope};
 use statement::access::clause_at;
 use text::places::Texts;
@@ -24,15 +24,15 @@ fn select_where(
     exprs: &Expressions,
     parts: &[u32],
     items: &[u32],
-    scope: Scope,
+    scope: &Scope,
     area: &mut [u32],
     nodes: &mut Nodes,
     at: Step,
 ) -> Result<u32, Refusal>
     requires { ItemsState exprs.now.texts.catalog.now exprs.now.texts.statement.now exprs.now.table.now parts.now
-        items.now scope at area.old nodes.old }
+        items.now scope.now at area.old nodes.old }
     ensures { (h : ItemsState exprs.now.texts.catalog.now exprs.now.texts.statement.now exprs.now.table.now parts.now
-        items.now scope at area.old nodes.old)
+        items.now scope.now at area.old nodes.old)
         → Plans (select_where h.select h.stage
         (map (item_of exprs.now.texts.catalog.now exprs.now.texts.statement.now exprs.now.table.now parts.now)
         items.now))
@@ -48,15 +48,15 @@ pub fn select_items(
     texts: &Texts,
     cells: &mut [u32],
     parts: &[u32],
-    scope: Scope,
+    scope: &Scope,
     area: &mut [u32],
     nodes: &mut Nodes,
     at: Step,
 ) -> Result<u32, Refusal>
-    requires { FromState texts.now.catalog.now texts.now.statement.now cells.old parts.now scope at
+    requires { FromState texts.now.catalog.now texts.now.statement.now cells.old parts.now scope.now at
         area.old nodes.old }
     ensures { (h : FromState texts.now.catalog.now texts.now.statement.now cells.old parts.now
-        scope at area.old nodes.old)
+        scope.now at area.old nodes.old)
         → Plans (select_items
         (select_at texts.now.catalog.now texts.now.statement.now cells.old h.froms parts.now)
         h.stage) area.old area.new result }

@@ -18,20 +18,20 @@ use statement::access::clause_at;
 pub fn select_later(
     exprs: &Expressions,
     parts: &[u32],
-    scope: Scope,
+    scope: &Scope,
     area: &mut [u32],
     nodes: &mut Nodes,
     at: Step,
 ) -> Result<u32, Refusal>
-    requires { ProjectionState exprs.now.texts.catalog.now exprs.now.texts.statement.now exprs.now.table.now parts.now scope
-        at area.old nodes.old }
+    requires { ProjectionState exprs.now.texts.catalog.now exprs.now.texts.statement.now exprs.now.table.now parts.now
+        scope.now at area.old nodes.old }
     ensures { (h : ProjectionState exprs.now.texts.catalog.now exprs.now.texts.statement.now exprs.now.table.now
-        parts.now scope at area.old nodes.old)
+        parts.now scope.now at area.old nodes.old)
         → Plans (select_having h.select h.stage) area.old area.new result }
 {
     let clause = clause_at(parts, Section::Having);
     let view = scope.view();
     let having = build_having(exprs, clause, &view, area, nodes, at)?;
     let order = build_order(exprs, parts, &view, area, nodes, having)?;
-    select_offset(exprs, parts, scope.width, scope.hidden, area, nodes, order)
+    select_offset(exprs, parts, scope, area, nodes, order)
 }

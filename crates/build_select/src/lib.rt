@@ -53,5 +53,5 @@ pub fn build_select(
         area,
         nodes,
     )?;
-    select_items(texts, cells, parts, source.scope, area, nodes, source.at)
+    select_items(texts, cells, parts, &source.scope, area, nodes, source.at)
 }

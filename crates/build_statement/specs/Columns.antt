@@ -13,7 +13,7 @@ use Rattle.rules.specs.Lines.{Word}
 use Rattle.rules.specs.Schema.{Value, Catalog}
 use Rattle.rules.specs.Ast.{NewColumn}
 use Rattle.rules.specs.Ast as Ast
-use Rattle.rules.specs.Plan.{Built, Made, Plan}
+use Rattle.rules.specs.Plan.{Made}
 use Rattle.rules.specs.Plan as P
 use Rattle.rules.specs.BuildExpression.{each}
 use Rattle.rules.specs.BuildStatement.{KeyColumn, key_columns, primary_key, default_value, made_column, build_create, build_statement}
@@ -27,7 +27,8 @@ use Rattle.numbers.specs.Reasons.{told, noted, named-reason}
 use Rattle.numbers.specs.declared.refusals.Refusal.{Refusal}
 use Rattle.schema.specs.Layout.{catalog_at}
 use Rattle.sections.specs.Layout.{section_at}
-use Rattle.sections.specs.Access.{column_kind, numbers_at}
+use Rattle.entries.specs.declared.NewColumn as given
+use Rattle.sections.specs.Access.{column_kind, numbers_at, new_column}
 use Rattle.sections.specs.declared.entry.Entry.{Entry}
 use Rattle.expression.specs.Answers.{map_answer}
 use Rattle.numbers.specs.Literals.{given_numbers}
@@ -41,10 +42,9 @@ use Rattle.plan.specs.Pushed.{Kept, Pushed, kept-all, kept-on, pushed-none}
 use Rattle.plan.specs.declared.nodes.Nodes.{Nodes}
 use Rattle.plan.specs.Own as O
 use Rattle.plan.specs.Own.{creating, column_numbers, column-whole, column-one, columns-on, create-whole}
-use Rattle.plan.specs.Room.{columns-size}
+use Rattle.claims.specs.Room.Nodes.{made-room}
 use Rattle.plan.specs.Finished.{finished}
 use Rattle.plan.specs.Exit.{pieces, create-exit}
-use Rattle.plan.specs.Emits.{Written}
 use Rattle.plan.specs.Steps.{RefusedWith, refused-on}
 use Rattle.build_statement.specs.Plans.{Ready, Plans, planned_of}
 use Rattle.build_statement.specs.Ends.{finish-room, first-own, plan-count, planned}
@@ -63,12 +63,12 @@ column-eight m = go m.reference
     go (some w) = refl
 
 -- behind its first numbers there is room for its default
-pub default-room : (c q : Bytes) (e : Entry) (n : Bool) {s t : Nodes}
-    → ((d : Option Value) → Pushed (column_numbers (made_of c q e n d)) s t)
+pub default-room : (c q : Bytes) (e : Entry) (new : given.NewColumn) (n : Bool) {s t : Nodes}
+    → ((d : Option Value) → Pushed (column_numbers (made_of c q e new n d)) s t)
     → s.used + column_size + cell_size ≤ length s.numbers.now → t.used + cell_size ≤ length t.numbers.now
-default-room c q e n h l =
+default-room c q e new n h l =
     let a = (h none).appended in
-    omega (arith, a.next, a.all, column-eight (made_of c q e n none))
+    omega (arith, a.next, a.all, column-eight (made_of c q e new n none))
 
 -- a default that is given
 record Known (a : Answer (Option Value)) (n : std.Option Literal) : Type 0 where
@@ -88,30 +88,30 @@ failed (refused v) w h =
     let z : told statement w ≡ v = cc in
     record { why = v; is = refl; refusal = sym (ap noted (sym z) ∙ rw (named-reason w.reason)) }
 
-module _ (c q : Bytes) (cells : List ℕ) (e : Entry) (n : Bool) (z : n ≡ nullable_of e.column) (r : Result (std.Option Literal) Refusal)
+module _ (c q : Bytes) (cells : List ℕ) (e : Entry) (new : given.NewColumn) (n : Bool) (z : n ≡ nullable_of new) (r : Result (std.Option Literal) Refusal)
     (h : default_of r ≡ map_answer default_numbers (default_value n (given_of c q cells e))) where
   pub column-done : {s t u : Nodes} {y : ⊤} (x : std.Option Literal) → r ≡ Ok x
-      → ((d : Option Value) → Pushed (column_numbers (made_of c q e n d)) s t)
+      → ((d : Option Value) → Pushed (column_numbers (made_of c q e new n d)) s t)
       → ((d : Option Value) → default_numbers d ≡ given_numbers x → Pushed (default_numbers d) t u)
-      → Pushes made_numbers (made_column (column_of c q cells e)) s u (Ok y)
+      → Pushes made_numbers (made_column (column_of c q cells e new)) s u (Ok y)
   unfolding map_answer made_of
   column-done x g a b =
       let y = known (default_value n (given_of c q cells e)) x (sym (ap default_of g) ∙ h) in
-      let m : made_column (column_of c q cells e) ≡ ok (made_of c q e n y.value) =
+      let m : made_column (column_of c q cells e new) ≡ ok (made_of c q e new n y.value) =
       made (default_value n (given_of c q cells e)) y.value y.ok-is refl in
-      pushes-done made_numbers (made_of c q e n y.value) m
-      (column-whole (made_of c q e n y.value) (a y.value) (b y.value y.numbers))
+      pushes-done made_numbers (made_of c q e new n y.value) m
+      (column-whole (made_of c q e new n y.value) (a y.value) (b y.value y.numbers))
     where
       made : (x : Answer (Option Value)) (d : Option Value) → x ≡ ok d → default_value n (given_of c q cells e) ≡ x
-          → made_column (column_of c q cells e) ≡ ok (made_of c q e n d)
-      made x d f y = made-column c q cells e ∙ rw (← z, y, f)
+          → made_column (column_of c q cells e new) ≡ ok (made_of c q e new n d)
+      made x d f y = made-column c q cells e new ∙ rw (← z, y, f)
 
   pub column-refused : {s u : Nodes} (w : Refusal) → r ≡ Err w → Kept s u
-      → Pushes made_numbers (made_column (column_of c q cells e)) s u (Err w)
+      → Pushes made_numbers (made_column (column_of c q cells e new)) s u (Err w)
   unfolding map_answer
   column-refused w g kept =
       let y = failed (default_value n (given_of c q cells e)) w (sym (ap default_of g) ∙ h) in
-      pushes-refused made_numbers (refused-on y (λ v x. made-column c q cells e ∙ rw (← z, x))) kept
+      pushes-refused made_numbers (refused-on y (λ v x. made-column c q cells e new ∙ rw (← z, x))) kept
 
 -- ALL COLUMNS
 module _ (c q : Bytes) (cells parts : List ℕ) where
@@ -137,7 +137,7 @@ module _ (c q : Bytes) (cells parts : List ℕ) where
     -- how many numbers are in use
     pub in_use : t.used ≡ s.used + (column_size + cell_size) * i
     unfolding columns_numbers
-    in_use = omega (arith, p.numbers.appended.next, columns-size p.columns, p.counted)
+    in_use = omega (arith, p.numbers.appended.next, made-room p.columns, p.counted)
 
     pub still : Kept s t
     still = p.numbers.kept
@@ -145,8 +145,9 @@ module _ (c q : Bytes) (cells parts : List ℕ) where
     abbrev rest : List NewColumn
     rest = drop (suc i) (columns_at c q cells parts)
 
-    module _ (e : Entry) (x : e ≡ numbers_at parts column_kind i) (l : i < length (section_at c q cells parts column_kind))
-        {u : Nodes} {r : Pushing} (g : Pushes made_numbers (made_column (column_of c q cells e)) t u r) where
+    module _ (e : Entry) (x : e ≡ numbers_at parts column_kind i)
+        (new : given.NewColumn) (d : new ≡ new_column parts i) (l : i < length (section_at c q cells parts column_kind))
+        {u : Nodes} {r : Pushing} (g : Pushes made_numbers (made_column (column_of c q cells e new)) t u r) where
       pub so-far-step : {y : ⊤} → r ≡ Ok y → SoFar (i + 1) s u
       unfolding columns_numbers ◌>>=◌
       so-far-step f =
@@ -154,9 +155,9 @@ module _ (c q : Bytes) (cells parts : List ℕ) where
           record {
             columns = p.columns ++ (a.value ∷ []);
             counted = length-append p.columns (a.value ∷ []) ∙ rw p.counted;
-            left = rw (add-one i) (p.left ∙ rw (column-here c q cells parts i e x l)
+            left = rw (add-one i) (p.left ∙ rw (column-here c q cells parts i e new x d l)
                 (ap (λ (y : Answer (List Made)). y >>= λ ns. ok (p.columns ++ ns))
-                (columns-step (column_of c q cells e) rest a.value a.ok-is) ∙ go a.value (each made_column rest)));
+                (columns-step (column_of c q cells e new) rest a.value a.ok-is) ∙ go a.value (each made_column rest)));
             numbers = columns-on p.columns (a.value ∷ []) p.numbers (column-one a.value a.numbers);
           }
         where
@@ -168,8 +169,8 @@ module _ (c q : Bytes) (cells parts : List ℕ) where
       pub so-far-stop : (w : Refusal) → r ≡ Err w → Pushes columns_numbers made s u (Err w)
       unfolding ◌>>=◌
       so-far-stop w f = pushes-refused columns_numbers (refused-on (was-refused made_numbers g w f)
-          (λ v y. p.left ∙ rw (column-here c q cells parts i e x l)
-          (bind-refused _ _ v (columns-refused (column_of c q cells e) rest v y)))) (kept-on still g.kept)
+          (λ v y. p.left ∙ rw (column-here c q cells parts i e new x d l)
+          (bind-refused _ _ v (columns-refused (column_of c q cells e new) rest v y)))) (kept-on still g.kept)
 
     pub so-far-all : {y : ⊤} → length (section_at c q cells parts column_kind) ≤ i → Pushes columns_numbers made s t (Ok y)
     unfolding each ◌>>=◌
@@ -257,11 +258,6 @@ module _ (c q : Bytes) (cells parts : List ℕ) where
       unfolding keys_of primary_key build_create with_key create_of
       one_key h = bind_ok _ _ key
           (ap (primary_key (line_at parts)) (keys-are ∙ ap (λ ks. first ∷ ks) (ap (keys_of c q cells parts) h)))
-
--- another answer that is the same
-pub plans-same : {a b : Answer (Plan Built)} {area area' : List ℕ} {r : Written} → b ≡ a → Plans a area area' r
-    → Plans b area area' r
-plans-same e h = rw e h
 
 -- FROM WHAT WAS READ
 module _ (c q : Bytes) (cells froms parts : List ℕ) (e : K.Create ≡ kind_of (kind_number parts)) where

@@ -1,11 +1,12 @@
 -- CREATE as its parts were read: its columns by their numbers, the columns given as primary key, and each column's defaults
 -- and flags.
-use Rattle.std.specs.Prelude.{ℕ, suc, ◌≤◌, ◌<◌, ◌≡◌, Bool, ◌&&◌, ◌||◌, List, [], ◌∷◌, map, length, drop, Result, Ok, Err, Some, None}
+use Rattle.std.specs.Prelude.{ℕ, zero, suc, ◌+◌, ◌-◌, ◌≤◌, ◌<◌, ◌≡◌, Bool, ◌&&◌, ◌||◌, List, [], ◌∷◌, map, length, drop, Result, Ok, Err, Some, None}
 use Rattle.std.specs.Prelude as std
-use Rattle.std.proofs.Common.{arith, drop_of_length-le}
+use Rattle.std.proofs.Common.{arith, drop_of_length-le, ◌∙◌}
 use Rattle.std.proofs.Math.Path.{refl, ap}
 use Rattle.std.proofs.Math.Bool.{true, false, not}
 use Rattle.std.proofs.Math.Option.{Option, some}
+use Rattle.std.proofs.lemmas.Option.{same_Some, none-some}
 use Rattle.rules.specs.Refusals.{statement, Answer, ok, refused, ◌>>=◌, refuse}
 use Rattle.rules.specs.Limits.{most_table_columns}
 use Rattle.rules.specs.Lists.{Bytes, concat, is_some, or_else}
@@ -27,8 +28,8 @@ use Rattle.numbers.specs.Options.{option_of}
 use Rattle.numbers.specs.Datatypes.{type_of}
 use Rattle.entries.specs.declared.NewColumn as given
 use Rattle.sections.specs.Layout.{section_at}
-use Rattle.sections.specs.Access.{column_kind, numbers_at, after-drop}
-use Rattle.sections.specs.Expressions.{first_row}
+use Rattle.sections.specs.Access.{column_kind, numbers_at, new_column, after-drop}
+use Rattle.sections.specs.Expressions.{expr_row}
 use Rattle.sections.specs.declared.entry.Entry.{Entry}
 use Rattle.value.specs.Values.{value_of}
 use Rattle.value.specs.declared.Value as Va
@@ -40,9 +41,10 @@ use Rattle.numbers.specs.declared.literals.Literal.{Literal}
 use Rattle.statement.specs.Layout.{to_column, map_entries, create_of}
 use Rattle.statement.specs.Access.{line_at, name_address, name_length, name_word, name_or}
 use Rattle.statement.specs.EntryAccess.{word_of, given_of, given-none, given-some, map-length, column-at}
+pub use Rattle.statement.specs.EntryAccess.{column_of}
 use Rattle.build_statement.specs.Kinds.{Free}
 use Rattle.plan.specs.Places.{place_numbers}
-use Rattle.text.specs.Places.{option_numbers}
+use Rattle.text.specs.Places.{option_numbers, clipped_place}
 use Rattle.plan.specs.declared.nodes.Nodes.{Nodes}
 
 -- COLUMNS
@@ -76,38 +78,25 @@ module _ (c q : Bytes) where
   index_of n = (n.index || n.unique || is_some (option_name c q n.reference)) && not n.key
 
   -- the column that is made of an entry, with its default
-  unfoldable pub made_of : Entry → Bool → Option Value → Made
-  made_of e n d = record {
+  unfoldable pub made_of : Entry → given.NewColumn → Bool → Option Value → Made
+  made_of e new n d = record {
     name = word_of c q e;
-    type = type_of e.column.datatype;
+    type = type_of new.datatype;
     nullable = n;
     default = d;
-    unique = e.column.unique || e.column.key;
-    index = index_of e.column;
-    reference = option_name c q e.column.reference;
+    unique = new.unique || new.key;
+    index = index_of new;
+    reference = option_name c q new.reference;
   }
 
   module _ (cells : List ℕ) where
-    unfoldable pub column_of : Entry → NewColumn
-    column_of e = record {
-      line = e.line;
-      name = word_of c q e;
-      type = type_of e.column.datatype;
-      key = e.column.key;
-      nullable = option_of e.column.nullable;
-      unique = e.column.unique;
-      index = e.column.index;
-      default = given_of c q cells e;
-      reference = option_name c q e.column.reference;
-    }
-
     -- a column is made where its default is
-    pub made-column : (e : Entry)
-        → made_column (column_of e) ≡ map_answer (made_of e (nullable_of e.column)) (default_value (nullable_of e.column) (given_of c q cells e))
+    pub made-column : (e : Entry) (new : given.NewColumn)
+        → made_column (column_of c q cells e new) ≡ map_answer (made_of e new (nullable_of new)) (default_value (nullable_of new) (given_of c q cells e))
     unfolding made_column column_of made_of nullable_of index_of map_answer ◌>>=◌
-    made-column e = go (default_value (nullable_of e.column) (given_of c q cells e))
+    made-column e new = go (default_value (nullable_of new) (given_of c q cells e))
       where
-        go : (a : Answer (Option Value)) → (a >>= λ d. ok (made_of e (nullable_of e.column) d)) ≡ map_answer (made_of e (nullable_of e.column)) a
+        go : (a : Answer (Option Value)) → (a >>= λ d. ok (made_of e new (nullable_of new) d)) ≡ map_answer (made_of e new (nullable_of new)) a
         go (ok d) = refl
         go (refused w) = refl
 
@@ -115,10 +104,9 @@ module _ (c q : Bytes) where
       abbrev pub columns_at : List NewColumn
       columns_at = map_entries to_column (section_at c q cells parts column_kind)
 
-      pub column-here : (i : ℕ) (e : Entry) → e ≡ numbers_at parts column_kind i
-          → i < length (section_at c q cells parts column_kind) → drop i columns_at ≡ column_of e ∷ drop (suc i) columns_at
-      unfolding column_of
-      column-here i e h l = after-drop i columns_at (column_of e) (column-at c q cells parts column_kind i e h l)
+      pub column-here : (i : ℕ) (e : Entry) (new : given.NewColumn) → e ≡ numbers_at parts column_kind i → new ≡ new_column parts i
+          → i < length (section_at c q cells parts column_kind) → drop i columns_at ≡ column_of c q cells e new ∷ drop (suc i) columns_at
+      column-here i e new h g l = after-drop i columns_at (column_of c q cells e new) (column-at c q cells parts column_kind i e h l new g)
 
       pub column-end : (i : ℕ) → length (section_at c q cells parts column_kind) ≤ i → drop i columns_at ≡ []
       column-end i h = drop_of_length-le columns_at {i = i} (rw (map-length to_column (section_at c q cells parts column_kind)) h)
@@ -138,37 +126,51 @@ module _ (c q : Bytes) where
         pub keys : key_columns k (drop k columns_at) ≡ keys_of r
         pub inside : (i : ℕ) → r ≡ Some i → i < length (section_at c q cells parts column_kind)
 
-      pub key-hit : (i : ℕ) (e : Entry) → e ≡ numbers_at parts column_kind i
-          → i < length (section_at c q cells parts column_kind) → e.column.key ≡ true
+      pub key-hit : (i : ℕ) (new : given.NewColumn) → new ≡ new_column parts i
+          → i < length (section_at c q cells parts column_kind) → new.key ≡ true
           → key_columns i (drop i columns_at) ≡ keys_of (Some i)
       unfolding key_columns keys_of column_of
-      key-hit i e h l k =
-          let z : e.line ≡ (numbers_at parts column_kind i).line = ap (λ (x : Entry). x.line) h in
-          rw (column-here i e h l, key_columns, k, z)
+      key-hit i new g l k = rw (column-here i (numbers_at parts column_kind i) new refl g l, key_columns, k)
 
-      pub key-miss : (i : ℕ) (e : Entry) → e ≡ numbers_at parts column_kind i
-          → i < length (section_at c q cells parts column_kind) → e.column.key ≡ false
+      pub key-miss : (i : ℕ) (new : given.NewColumn) → new ≡ new_column parts i
+          → i < length (section_at c q cells parts column_kind) → new.key ≡ false
           → key_columns i (drop i columns_at) ≡ key_columns (suc i) (drop (suc i) columns_at)
       unfolding key_columns column_of
-      key-miss i e h l k = rw (column-here i e h l, key_columns, k)
+      key-miss i new g l k = rw (column-here i (numbers_at parts column_kind i) new refl g l, key_columns, k)
 
       pub key-none : (i : ℕ) → length (section_at c q cells parts column_kind) ≤ i
           → key_columns i (drop i columns_at) ≡ keys_of None
       unfolding key_columns keys_of
       key-none i h = rw (column-end i h)
 
-pub at_same : {i j : ℕ} → Some i ≡ Some j → i ≡ j
-at_same e = cc
+      -- no key from position k up to i
+      keys-behind : (d : ℕ) {k i : ℕ} → k + d ≡ i
+          → ((j : ℕ) → k ≤ j → j < i → (j < length (section_at c q cells parts column_kind)) × ((new_column parts j).key ≡ false))
+          → key_columns k (drop k columns_at) ≡ key_columns i (drop i columns_at)
+      keys-behind zero {k} {i} e h = let z : k ≡ i = omega arith in ap (λ n. key_columns n (drop n columns_at)) z
+      keys-behind (suc d) {k} e h =
+          let here = h k (omega arith) (omega arith) in
+          key-miss k (new_column parts k) refl here.0 here.1
+          ∙ keys-behind d (omega arith) (λ j a b. h j (omega arith) b)
 
-pub missing_at : {i : ℕ} {A : Type 0} → None ≡ Some i → A
-missing_at e = absurd (let z : ◌≡◌ {A = ℕ} 0 1 = cc in omega arith)
+      pub keys-found : (k : ℕ) (r : std.Option ℕ) {n : ℕ} → n ≡ length (section_at c q cells parts column_kind)
+          → std.MatchOption r ((j : ℕ) → k ≤ j → j < n → (new_column parts j).key ≡ false)
+          (λ i. (k ≤ i) × (i < n) × ((new_column parts i).key ≡ true)
+          × ((j : ℕ) → k ≤ j → j < i → (new_column parts j).key ≡ false))
+          → Keys k r
+      keys-found k None {n} e h = record {
+        keys = keys-behind (n - k) refl (λ j a b. (omega (arith, e), h j a (omega (arith, e))))
+            ∙ key-none (k + (n - k)) (omega (arith, e));
+        inside = λ i f. absurd (none-some i f);
+      }
+      keys-found k (Some i) e h = record {
+        keys = keys-behind (i - k) (omega (arith, h.0)) (λ j a b. (omega (arith, e, h.1), h.3 j a b))
+            ∙ key-hit i (new_column parts i) refl (omega (arith, e, h.1)) h.2;
+        inside = λ j f. rw (← same_Some _ _ f) (omega (arith, e, h.1));
+      }
 
 -- REFERENCES
 -- the place of the name of the table that a column refers to
-unfoldable pub clipped_place : Bytes → Bytes → std.Option Place → std.Option Place
-clipped_place c q std.None = std.None
-clipped_place c q (std.Some p) = std.Some (record { address = p.address; length = length (bytes_at c q p.address p.length) })
-
 abbrev pub reference_of : Bytes → Bytes → given.NewColumn → std.Option Place
 reference_of c q n = clipped_place c q n.reference
 
@@ -188,22 +190,27 @@ module _ (c q : Bytes) (n : given.NewColumn) where
       go true = refl
       go false = refl
 
-  module _ (k : n.key ≡ false) where
-    pub index-given : n.index ≡ true → true ≡ index_of c q n
+  -- b says whether an index is given or the column is unique
+  module _ (k : n.key ≡ false) {b : Bool} (e : b ≡ (n.index || n.unique)) where
+    pub index-given : b ≡ true → b ≡ index_of c q n
     unfolding index_of
-    index-given h = rw (k, h)
-
-    pub index-unique : n.index ≡ false → n.unique ≡ true → true ≡ index_of c q n
-    unfolding index_of
-    index-unique g h = rw (k, g, h)
-
-    pub index-reference : n.index ≡ false → n.unique ≡ false → std.is_some n.reference ≡ index_of c q n
-    unfolding index_of option_name is_some
-    index-reference g h = rw (k, g, h) (go n.reference)
+    index-given h = rw k (go n.index n.unique (is_some (option_name c q n.reference)) b e h)
       where
-        go : (o : std.Option Place) → std.is_some o ≡ ((false || false || is_some (option_name c q o)) && true)
-        go std.None = refl
-        go (std.Some p) = refl
+        go : (i u r b : Bool) → b ≡ (i || u) → b ≡ true → b ≡ ((i || u || r) && true)
+        go true u r b e h = h
+        go false true r b e h = h
+        go false false r b e h = grind arith
+
+    pub index-reference : b ≡ false → std.is_some n.reference ≡ index_of c q n
+    unfolding index_of option_name is_some
+    index-reference h = rw k (go n.index n.unique n.reference b e h)
+      where
+        go : (i u : Bool) (o : std.Option Place) (b : Bool) → b ≡ (i || u) → b ≡ false
+            → std.is_some o ≡ ((i || u || is_some (option_name c q o)) && true)
+        go true u o b e h = grind arith
+        go false true o b e h = grind arith
+        go false false std.None b e h = refl
+        go false false (std.Some p) b e h = refl
 
 -- DEFAULTS
 unfoldable pub default_of : Result (std.Option Literal) Refusal → Answer (List ℕ)
@@ -224,7 +231,7 @@ module _ (c q : Bytes) (cells : List ℕ) (e : Entry) (n : Bool) where
   unfolding default_of given_numbers map_answer default_value null_default default_numbers
   none-given z b = rw (given-none c q cells e z, b)
 
-  module _ (z : e.expressions ≡ 0 → ⊥) (r : ℕ) (f : r ≡ first_row e) (x : Result Constant Refusal)
+  module _ (z : e.expressions ≡ 0 → ⊥) (r : ℕ) (f : r ≡ expr_row e) (x : Result Constant Refusal)
       (h : constant_of c q x ≡ constant (tree_at c q cells r)) where
     constant-is : default_value n (given_of c q cells e) ≡ (constant_of c q x >>= λ v. ok (some v))
     unfolding default_value

@@ -1,7 +1,7 @@
 -- DELETE: the plan at the end, and its answer.
 use Rattle.std.specs.Prelude.{ℕ, ◌+◌, ◌≤◌, ◌≡◌, List, [], ◌∷◌, ◌++◌, length, take, Result, Ok, Err}
 use Rattle.std.proofs.Common.{arith, sym, ◌∙◌}
-use Rattle.std.proofs.Math.Path.{refl, ap}
+use Rattle.std.proofs.Math.Path.{ap}
 use Rattle.std.proofs.Math.Option.{Option, none}
 use Rattle.rules.specs.Refusals.{ok}
 use Rattle.rules.specs.Lists.{Bytes}
@@ -27,7 +27,7 @@ use Rattle.plan.specs.Layout.{cells_end, own_size, delete_code, plan_size, most_
 use Rattle.plan.specs.Pushed.{Pushed}
 use Rattle.plan.specs.Places.{place_numbers}
 use Rattle.plan.specs.declared.nodes.Nodes.{Nodes}
-use Rattle.plan.specs.Emits.{accepted}
+use Rattle.numbers.specs.Options.{option_of}
 use Rattle.plan.specs.Finished.{finished}
 use Rattle.plan.specs.Exit.{pieces, delete-exit}
 use Rattle.numbers.specs.declared.refusals.Refusal.{Refusal}
@@ -39,10 +39,11 @@ use Rattle.build_statement.specs.Scans.{Scanned, scan-record, scan-in-use, scan-
 use Rattle.build_statement.specs.Targets.{TargetReady, TargetBuilt, target-stands, target-refused, filter-taken}
 use Rattle.build_statement.specs.declared.target.Target.{Target}
 
--- THE END: m cells stand in the area, and area' is the plan's, of the i-th table under the name that is the n bytes at a
-pub record DeleteEnds (c q : Bytes) (tables : List ℕ) (i a n m : ℕ) (area area' : List ℕ) : Type 0 where
-  pub is : (xs : List Cell) (o : Option ℕ) (before : List ℕ) (d : Node Built) → option_number o ≡ m
-      → length area ≡ length before → take (cells_end m) area ≡ take (cells_end 0) before ++ cells_numbers xs
+-- THE END: m cells stand in the area, and area' is the plan's, of the i-th table under the name that is the n bytes at a, its
+-- filter's root o
+pub record DeleteEnds (c q : Bytes) (tables : List ℕ) (i a n : ℕ) (o : Option ℕ) (m : ℕ) (area area' : List ℕ) : Type 0 where
+  pub is : (xs : List Cell) (before : List ℕ) (d : Node Built) → length area ≡ length before
+      → take (cells_end m) area ≡ take (cells_end 0) before ++ cells_numbers xs
       → plan_numbers (P.delete (table_named c q tables i a n) d)
       ≡ area_of delete_code xs (scan (table_named c q tables i a n) none o ∷ [])
       (span (table_named c q tables i a n).name ++ ((table_named c q tables i a n).key ∷ [])) m 1
@@ -74,15 +75,15 @@ module _ (c q : Bytes) (tables : List ℕ) (i a n : ℕ) (x : Option ℕ) {p : P
         × (u.used ≤ length u.numbers.now)
     delete-room w = finish-room f (scan-kept c q tables i a n x ha hl h) (own (P.values [])) w
 
-    pub delete-ends : (m : ℕ) {area' : List ℕ} → ((o : Option ℕ) → option_number o ≡ m → x ≡ o) → m ≤ most_plan_cells
-        → area' ≡ finished delete_code m 1 t.used u.used u.numbers.now area → DeleteEnds c q tables i a n m area area'
-    delete-ends m r w z = record {
-      is = λ xs o before d e₁ e₂ e₃ e₄.
+    pub delete-ends : (m : ℕ) {area' : List ℕ} → m ≤ most_plan_cells
+        → area' ≡ finished delete_code m 1 t.used u.used u.numbers.now area → DeleteEnds c q tables i a n x m area area'
+    delete-ends m w z = record {
+      is = λ xs before d e₂ e₃ e₄.
           let b = table_named c q tables i a n in
           let v : Node ℕ = P.values [] in
-          let ps = pieces {cs = xs} {n = m} {t = area} (scan b none o ∷ []) (own_numbers (P.delete b v)) before e₂
-          (omega (arith, w, f.area_room)) e₃ f.none (rw (r o e₁) at (scan-record c q tables i a n x ha hl h)) (own v) in
-          z ∙ delete-exit xs (scan b none o ∷ []) m 1 t.used u.used u.numbers.now area before (sym e₂) b d v e₄ ps;
+          let ps = pieces {cs = xs} {n = m} {t = area} (scan b none x ∷ []) (own_numbers (P.delete b v)) before e₂
+          (omega (arith, w, f.area_room)) e₃ f.none (scan-record c q tables i a n x ha hl h) (own v) in
+          z ∙ delete-exit xs (scan b none x ∷ []) m 1 t.used u.used u.numbers.now area before (sym e₂) b d v e₄ ps;
     }
 
 -- THE ANSWER
@@ -112,19 +113,21 @@ module _ (c q : Bytes) (tables cells parts : List ℕ) {area : List ℕ} {nodes 
         refused-at k.why b.kept (ap Err k.refusal) k.is
 
     module _ (t : Target) (e : x ≡ Ok t) where
-      pub delete-most : t.cells ≤ most_plan_cells
+      pub delete-most : t.filter.cell ≤ most_plan_cells
       unfolding clause_size delete_of
       delete-most = omega (arith, few, (filter-taken c q tables cells parts (target-stands c q tables cells parts b t e)).most)
 
+      pub delete-root : option_number (option_of t.filter.root) ≤ t.filter.cell
+      delete-root = (target-stands c q tables cells parts b t e).filter.behind
+
       pub delete-planned : {area₂ : List ℕ} → length area₂ ≡ length area₁
-          → DeleteEnds c q tables t.table t.name.address t.name.length t.cells area₁ area₂
-          → Plans (build_delete (catalog_at c q tables) (delete_at c q cells parts)) area area₂ (Ok t.cells)
+          → DeleteEnds c q tables t.table t.name.address t.name.length (option_of t.filter.root) t.filter.cell area₁ area₂
+          → Plans (build_delete (catalog_at c q tables) (delete_at c q cells parts)) area area₂ (Ok t.filter.cell)
       unfolding delete_of
       delete-planned l d =
           let k = target-stands c q tables cells parts b t e in
-          let p = accepted t.cells k.filter refl in
-          let v = filter-taken c q tables cells parts k in
-          let s = delete-step (catalog_at c q tables) (delete_at c q cells parts) _ k.table p.cells v.root t.cells v.is in
+          let p = k.filter in
+          let s = delete-step (catalog_at c q tables) (delete_at c q cells parts) _ k.table p.cells (option_of t.filter.root) t.filter.cell p.is in
           planned (P.delete (table_named c q tables t.table t.name.address t.name.length) s.node) s.answer
-          (plan-count _ _ _ _ _ t.cells 1 s.area) (l ∙ b.kept)
-          (d.is p.cells v.root area s.node v.number b.kept (k.filter.cells p.cells t.cells p.is) s.area)
+          (plan-count _ _ _ _ _ t.filter.cell 1 s.area) (l ∙ b.kept)
+          (d.is p.cells area s.node b.kept p.stands s.area)

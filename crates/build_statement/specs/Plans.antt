@@ -29,3 +29,8 @@ pub record Plans (a : Answer (Plan Built)) (area area' : List ℕ) (r : Written)
   pub answer : r ≡ planned_of a
   pub kept : length area' ≡ length area
   pub exit : (p : Plan Built) → a ≡ ok p → area' ≡ (outcome area a).area
+
+-- another answer that is the same
+pub plans-same : {a b : Answer (Plan Built)} {area area' : List ℕ} {r : Written} → b ≡ a → Plans a area area' r
+    → Plans b area area' r
+plans-same e h = rw e h

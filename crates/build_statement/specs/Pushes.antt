@@ -5,12 +5,11 @@ use Rattle.std.proofs.Math.Path.{◌≡◌, refl, sym, ap}
 use Rattle.std.proofs.Common.{◌∙◌}
 use Rattle.rules.specs.Refusals.{Answer, ok, refused}
 use Rattle.appends.specs.Answers.{ok-not-refused, ok_same}
-use Rattle.numbers.specs.Reasons.{noted}
 use Rattle.numbers.specs.declared.refusals.Refusal.{Refusal}
 use Rattle.plan.specs.Pushed.{Kept, Pushed}
 use Rattle.plan.specs.declared.nodes.Nodes.{Nodes}
 use Rattle.plan.specs.Emits.{result_by}
-use Rattle.plan.specs.Steps.{RefusedWith}
+use Rattle.plan.specs.Steps.{RefusedWith, result-refused}
 
 -- whether it is accepted, or the refusal
 abbrev pub Pushing : Type 0
@@ -58,17 +57,8 @@ module _ {A : Type 0} (f : A → List ℕ) where
         go (refused w) h = absurd (ok-err (sym e ∙ p.answer ∙ ap pushed_of h))
           where
             ok-err : {v : Refusal} → ◌≡◌ {A = Pushing} (Ok y) (Err v) → ⊥
-            ok-err g = let z : ◌≡◌ {A = ℕ} 0 1 = cc in omega arith
+            ok-err g = grind arith
 
     pub was-refused : (v : Refusal) → r ≡ Err v → RefusedWith a v
     unfolding pushed_of
-    was-refused v e = go a refl
-      where
-        go : (b : Answer A) → a ≡ b → RefusedWith a v
-        go (ok x) h = absurd (err-ok (sym e ∙ p.answer ∙ ap pushed_of h))
-          where
-            err-ok : {y : ⊤} → ◌≡◌ {A = Pushing} (Err v) (Ok y) → ⊥
-            err-ok g = let z : ◌≡◌ {A = ℕ} 0 1 = cc in omega arith
-        go (refused w) h =
-            let z : ◌≡◌ {A = Pushing} (Err v) (Err (noted w)) = sym e ∙ p.answer ∙ ap pushed_of h in
-            record { why = w; is = h; refusal = cc }
+    was-refused v e = result-refused {B = ⊤} a (λ x. tt) (sym e ∙ p.answer)

@@ -2,16 +2,15 @@
 use Rattle.std.specs.Prelude.{ℕ, ◌+◌, ◌*◌, ◌-◌, ◌≤◌, ◌≡◌, List, [], ◌∷◌, length, SomeIff, Some, None}
 use Rattle.std.specs.Prelude as std
 use Rattle.std.proofs.Common.{arith}
-use Rattle.std.proofs.Math.Path.{refl, ap}
-use Rattle.std.proofs.Math.Option.{Option, none, some}
+use Rattle.std.proofs.Math.Path.{refl}
+use Rattle.std.proofs.Math.Option.{Option, none}
 use Rattle.rules.specs.Lists.{Bytes}
 use Rattle.rules.specs.Lines.{Word}
 use Rattle.rules.specs.Places.{bytes_at}
 use Rattle.rules.specs.Schema.{Table, named_by}
 use Rattle.rules.specs.Limits.{most_cells, least_area}
 use Rattle.rules.specs.Nodes.{scan}
-use Rattle.numbers.specs.Options.{option_of}
-use Rattle.rules.specs.Area.{span, option_span, option_number, sized, record_numbers}
+use Rattle.rules.specs.Area.{span, option_span, sized, record_numbers}
 use Rattle.rules.specs.Sizes.{clause_size}
 use Rattle.appends.specs.Area.{records_numbers}
 use Rattle.sections.specs.Layout.{section_at}
@@ -29,20 +28,6 @@ use Rattle.plan.specs.Records.{records-first}
 use Rattle.plan.specs.Cells.{Room}
 use Rattle.build_statement.specs.Ends.{span-at}
 use Rattle.build_statement.specs.Tables.{table_named}
-
--- the root of a filter whose cells end before cell m: the last of them, if there are any
-pub root-is : (m : ℕ) (r : std.Option ℕ) → SomeIff r (1 ≤ m) (m - 1) → (o : Option ℕ) → option_number o ≡ m
-    → option_of r ≡ o
-unfolding option_number
-root-is m None h none e = refl
-root-is m None h (some y) e = absurd (h (omega (arith, e)))
-root-is m (Some x) h none e = absurd (omega (arith, e, h.0))
-root-is m (Some x) h (some y) e = let z : x ≡ y = omega (arith, e, h.1) in ap some z
-
-pub root-most : (m : ℕ) (r : std.Option ℕ) → SomeIff r (1 ≤ m) (m - 1) → option_number (option_of r) ≤ m
-unfolding option_number
-root-most m None h = omega arith
-root-most m (Some x) h = omega (arith, h.0, h.1)
 
 -- what is pushed for a scan of a table whose name is at the place p, its filter's root x
 abbrev pub Scanned : Place → Option ℕ → Nodes → Nodes → Type 0

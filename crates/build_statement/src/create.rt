@@ -31,7 +31,7 @@ use plan::nodes::Nodes;
 use plan::own;
 use plan::steps::Step;
 use sections::entry;
-use sections::entry::Entry;
+use sections::entry::{Entry, new_column};
 use statement::access;
 use text::places::{Place, Texts};
 use value;
@@ -41,13 +41,7 @@ fn key_column(parts: &[u32], k: u32) -> Option<u32>
     ensures { (c q : Bytes) (cells : List ℕ) → create.Keys c q cells parts.now k result }
 {
     let count = entry::count(parts, Section::Column);
-    for i in k..count {
-        let e = entry::entry_at(parts, Section::Column, i);
-        if e.column.key {
-            return Some(i);
-        }
-    }
-    None
+    (k..count).find(|i| new_column(parts, *i).key)
 }
 
 // Whether a column may be null: as it is given, or else where it is no key.
@@ -67,16 +61,7 @@ fn is_unique(column: NewColumn) -> bool
 fn is_indexed(column: NewColumn) -> bool
     ensures { (c q : Bytes) → result ≡ create.index_of c q column }
 {
-    if column.key {
-        return false;
-    }
-    if column.index {
-        return true;
-    }
-    if column.unique {
-        return true;
-    }
-    column.reference.is_some()
+    !column.key && (column.index || column.unique || column.reference.is_some())
 }
 
 // The name of the table that a column refers to.
@@ -92,13 +77,13 @@ fn default_of(exprs: &Expressions, e: Entry, nullable: bool) -> Result<Option<Li
     ensures { create.default_of result ≡ map_answer default_numbers
         (default_value nullable (given_of exprs.now.texts.catalog.now exprs.now.texts.statement.now exprs.now.table.now e)) }
 {
-    if e.expressions == 0 {
+    let Some(row) = e.first_row() else {
         if nullable {
             return Ok(Some(of_value(&exprs.texts, value::Value::Null)));
         }
         return Ok(None);
-    }
-    let constant = build_constant_value(exprs, entry::first_row(e))?;
+    };
+    let constant = build_constant_value(exprs, row)?;
     match constant {
         Constant::Literal(literal) => Ok(Some(in_plan(&exprs.texts, literal))),
         Constant::Value(v) => Ok(Some(of_value(&exprs.texts, v))),
@@ -106,20 +91,20 @@ fn default_of(exprs: &Expressions, e: Entry, nullable: bool) -> Result<Option<Li
 }
 
 // A column but for its default.
-fn put_column(texts: &Texts, e: Entry, nullable: bool, nodes: &mut Nodes)
+fn put_column(texts: &Texts, e: Entry, new: NewColumn, nullable: bool, nodes: &mut Nodes)
     requires { nodes.old.used + column_size ≤ length nodes.old.numbers.now }
     ensures { (d : Option Value) → Pushed
-        (column_numbers (create.made_of texts.now.catalog.now texts.now.statement.now e nullable d))
+        (column_numbers (create.made_of texts.now.catalog.now texts.now.statement.now e new nullable d))
         nodes.old nodes.new }
 {
     let name = texts.clipped(access::name_or(e.name));
-    let reference = reference(texts, e.column);
-    let unique = is_unique(e.column);
-    let index = is_indexed(e.column);
+    let reference = reference(texts, new);
+    let unique = is_unique(new);
+    let index = is_indexed(new);
     own::column(
         nodes,
         name,
-        e.column.datatype,
+        new.datatype,
         nullable,
         unique,
         index,
@@ -128,15 +113,16 @@ fn put_column(texts: &Texts, e: Entry, nullable: bool, nodes: &mut Nodes)
 }
 
 // A column and its default.
-fn column(exprs: &Expressions, e: Entry, nodes: &mut Nodes) -> Result<(), Refusal>
+fn column(exprs: &Expressions, e: Entry, new: NewColumn, nodes: &mut Nodes) -> Result<(), Refusal>
     requires { nodes.old.used + column_size + cell_size ≤ length nodes.old.numbers.now }
     ensures { Pushes made_numbers
-        (made_column (create.column_of exprs.now.texts.catalog.now exprs.now.texts.statement.now exprs.now.table.now e))
+        (made_column (create.column_of exprs.now.texts.catalog.now exprs.now.texts.statement.now exprs.now.table.now e
+        new))
         nodes.old nodes.new result }
 {
-    let nullable = is_nullable(e.column);
+    let nullable = is_nullable(new);
     let default = default_of(exprs, e, nullable)?;
-    put_column(&exprs.texts, e, nullable, nodes);
+    put_column(&exprs.texts, e, new, nullable, nodes);
     own::default_value(nodes, default);
     Ok(())
 }
@@ -154,7 +140,8 @@ fn columns(exprs: &Expressions, parts: &[u32], nodes: &mut Nodes) -> Result<(), 
     let count = entry::count(parts, Section::Column);
     for i in 0..count {
         let e = entry::entry_at(parts, Section::Column, i);
-        column(exprs, e, nodes)?;
+        let new = new_column(parts, i);
+        column(exprs, e, new, nodes)?;
     }
     Ok(())
 }

@@ -1,14 +1,16 @@
 // DELETE: one scan, with its filter (planner.rs, build_delete).
 ghost use Rattle.std.specs.Prelude.{◌≤◌};
+ghost use Rattle.rules.specs.Area.{option_number};
 ghost use Rattle.rules.specs.Ast as ast;
 ghost use Rattle.rules.specs.BuildStatement.{build_delete};
+ghost use Rattle.numbers.specs.Options.{option_of};
 ghost use Rattle.schema.specs.Layout.{catalog_at};
 ghost use Rattle.plan.specs.Layout.{most_plan_cells};
 ghost use Rattle.build_statement.specs.Plans.{Plans};
 ghost use Rattle.build_statement.specs.Kinds.{Free, ReadyFor, delete_at};
 ghost use Rattle.build_statement.specs.Deletes.{DeleteEnds};
 
-use crate::target::build_target;
+use crate::target::{Target, build_target};
 use ast::Expressions;
 use numbers::refusals::Refusal;
 use plan::finish::{Kind, finish};
@@ -16,29 +18,23 @@ use plan::nodes::{Nodes, scan};
 use plan::own;
 use plan::steps::Step;
 use schema::key;
-use text::places::{Place, Texts};
+use text::places::Texts;
 
-// The plan of the i-th table, which is named by the bytes at a place, behind the cells of its filter.
-fn end_delete(
-    texts: &Texts,
-    tables: &[u32],
-    i: u32,
-    name: Place,
-    area: &mut [u32],
-    nodes: &mut Nodes,
-    cells: u32,
-)
+// The plan of a table behind the cells of its filter.
+fn end_delete(texts: &Texts, tables: &[u32], target: &Target, area: &mut [u32], nodes: &mut Nodes)
     requires free { Free area.old nodes.old }
-    requires few_cells { cells ≤ most_plan_cells }
-    ensures { DeleteEnds texts.now.catalog.now texts.now.statement.now tables.now i name.address name.length cells
+    requires few_cells { target.now.filter.cell ≤ most_plan_cells }
+    requires root_behind { option_number (option_of target.now.filter.root) ≤ target.now.filter.cell }
+    ensures { DeleteEnds texts.now.catalog.now texts.now.statement.now tables.now target.now.table
+        target.now.name.address target.now.name.length (option_of target.now.filter.root) target.now.filter.cell
         area.old area.new }
 {
-    let name = texts.clipped(name);
-    scan(nodes, name, None, cells.checked_sub(1));
+    let name = texts.clipped(target.name);
+    scan(nodes, name, None, target.filter.root);
     let own = nodes.used;
-    own::delete(nodes, name, key(tables, i));
+    own::delete(nodes, name, key(tables, target.table));
     let at = Step {
-        cell: cells,
+        cell: target.filter.cell,
         node: 1,
     };
     finish(area, nodes, Kind::Delete, at, own);
@@ -60,14 +56,6 @@ pub fn build_delete(
         area.old area.new result }
 {
     let target = build_target(exprs, tables, parts, area)?;
-    end_delete(
-        &exprs.texts,
-        tables,
-        target.table,
-        target.name,
-        area,
-        nodes,
-        target.cells,
-    );
-    Ok(target.cells)
+    end_delete(&exprs.texts, tables, &target, area, nodes);
+    Ok(target.filter.cell)
 }

@@ -1,7 +1,6 @@
 // DELETE, CREATE and DROP planned (planner.rs, build and the functions it calls), and what INSERT and UPDATE share with them.
 #![tactic(auto)]
 
-pub mod clause; // clause.rt: WHERE
 pub mod create; // create.rt: CREATE TABLE
 pub mod delete; // delete.rt: DELETE
 pub mod drop; // drop.rt: DROP TABLE

@@ -2,8 +2,8 @@
 ghost use Rattle.build_statement.specs.Tables.{TablePosition};
 ghost use Rattle.build_statement.specs.Targets.{TargetReady, TargetBuilt};
 
-use crate::clause::build_where;
 use ast::Expressions;
+use build_expression::option::{BuiltOption, build_option};
 use entries::Section;
 use numbers::refusals::{Reason, Refusal};
 use schema::get_table;
@@ -11,13 +11,13 @@ use scope::Scope;
 use statement::access;
 use text::places::{Place, Texts};
 
-// A table by its name's place and its position in the catalog, its scope, and the next cell behind its filter's.
+// A table by its name's place and its position in the catalog, its scope, and its filter: its cells are the plan's first ones.
 #[derive(Clone, Copy, Debug, PartialEq, Eq)]
 pub struct Target {
     pub name: Place,
     pub table: u32,
     pub scope: Scope,
-    pub cells: u32,
+    pub filter: BuiltOption,
 }
 
 // The position of the table of a name; refused at a line where there is none.
@@ -43,11 +43,12 @@ pub fn build_target(
     let table = find_table(&exprs.texts, tables, name, access::line(parts))?;
     let scope = Scope::from_table(tables, table, name);
     let clause = access::clause_at(parts, Section::Where);
-    let cells = build_where(exprs, clause, &scope.view(), area)?;
+    let row = clause.map(|clause| clause.row);
+    let filter = build_option(exprs, row, &scope.view(), area, 0)?;
     Ok(Target {
         name,
         table,
         scope,
-        cells,
+        filter,
     })
 }

@@ -22,7 +22,7 @@ use Rattle.appends.specs.Statements.Update.{set-step, set_value_lem, set-default
 use Rattle.numbers.specs.Literals.{literal_value, given_value}
 use Rattle.numbers.specs.declared.literals.Literal.{Literal}
 use Rattle.ast.specs.Table.{tree_at}
-use Rattle.sections.specs.Expressions.{first_row}
+use Rattle.sections.specs.Expressions.{expr_row}
 use Rattle.sections.specs.declared.entry.Entry.{Entry}
 use Rattle.statement.specs.EntryAccess.{given_of, given-none, given-some}
 use Rattle.plan.specs.Cells.{Room, Puts}
@@ -71,14 +71,14 @@ module _ {c q : Bytes} {t xs ms ts : List ℕ} {cs : List Column} {j : ℕ} {e :
   unfolding value_step
   values-none z h = record { is = λ k. emits-same (rw (given-none c q t e z)) h }
 
-  pub values-some : (r : ℕ) → (e.expressions ≡ 0 → ⊥) → r ≡ first_row e → Builds c q t xs ms ts r n area area' x
+  pub values-some : (r : ℕ) → (e.expressions ≡ 0 → ⊥) → r ≡ expr_row e → Builds c q t xs ms ts r n area area' x
       → Values c q t xs ms ts cs j e n area area' x
   unfolding value_step
   values-some r z f b = record { is = λ k. emits-same (rw (given-some c q t e z, ← f)) (b.is k) }
 
 module _ (c q : Bytes) (t : List ℕ) (e : Entry) {n : ℕ} {area : List ℕ}
     (h : Room n (3 * option_size (given_of c q t e) + 1) area) where
-  pub value_room : (r : ℕ) → (e.expressions ≡ 0 → ⊥) → r ≡ first_row e → Room n (3 * size (tree_at c q t r)) area
+  pub value_room : (r : ℕ) → (e.expressions ≡ 0 → ⊥) → r ≡ expr_row e → Room n (3 * size (tree_at c q t r)) area
   unfolding option_size
   value_room r z f =
       let m : option_size (given_of c q t e) ≡ size (tree_at c q t r) = rw (given-some c q t e z, f) in
@@ -104,7 +104,7 @@ module _ (s : Scope) (cs : List Column) (x : Ast.Set) (n j : ℕ) (f : lookup s 
           rw (← y, ← z, u) (set-default s cs x n j f d v w)
       go none v none w h =
           let k : ◌≡◌ {A = Emitting} (refuse no_default x.line) (ok (ys, m)) = rw (v, w) at h in
-          absurd (let z : ◌≡◌ {A = ℕ} 0 1 = cc in omega arith)
+          grind arith
 
   pub set-not-taken : (w : Refusal) → value_step s cs x.line j n x.value ≡ refused w
       → emit_second (set_built s cs) n x ≡ refused w
@@ -131,4 +131,4 @@ value-some s cs l j n none ys m h = go (default_at cs j) h
   where
     go : (d : Option Value) → default_step n l d ≡ ok (ys, m) → n < m
     go (some d) g = let z : n + 1 ≡ m = ap (λ p. p.1) (ok_same g) in omega (arith, z)
-    go none g = absurd (let z : ◌≡◌ {A = ℕ} 0 1 = cc in omega arith)
+    go none g = grind arith

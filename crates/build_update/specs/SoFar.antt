@@ -15,7 +15,7 @@ use Rattle.rules.specs.Sizes.{total, option_size, sets_size}
 use Rattle.rules.specs.BuildExpression.{each}
 use Rattle.rules.specs.BuildStatement.{set_built}
 use Rattle.claims.specs.Answers.{ensured, each-length}
-use Rattle.claims.specs.Room.Nodes.{second-size}
+use Rattle.claims.specs.Room.Nodes.{sets-size, second-size}
 use Rattle.appends.specs.Area.{cells_numbers, cells-numbers-append}
 use Rattle.appends.specs.Lists.Each.{Entries, joined, after, after_none, after-after, after-refused, each-joined}
 use Rattle.appends.specs.Lists.Kinds.{emit_seconds, seconds-ok}
@@ -32,7 +32,6 @@ use Rattle.plan.specs.declared.nodes.Nodes.{Nodes}
 use Rattle.plan.specs.Emits.{Written}
 use Rattle.plan.specs.Cells.{Room}
 use Rattle.plan.specs.Own.{sets-on}
-use Rattle.plan.specs.Room.{sets-size}
 use Rattle.build_update.specs.Writes.{Setting, Writes, writes-done, writes-refused, was-done, was-refused, set_of}
 use Rattle.numbers.specs.declared.refusals.Refusal as code
 use Rattle.plan.specs.Steps.{refused-on}

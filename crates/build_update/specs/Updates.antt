@@ -36,11 +36,12 @@ use Rattle.plan.specs.Places.{place_numbers}
 use Rattle.plan.specs.declared.nodes.Nodes.{Nodes}
 use Rattle.text.specs.declared.places.Place.{Place}
 use Rattle.plan.specs.Cells.{Room}
-use Rattle.plan.specs.Emits.{Written, accepted}
+use Rattle.plan.specs.Emits.{Written}
 use Rattle.plan.specs.Own as O
 use Rattle.plan.specs.Own.{updating, update-whole}
 use Rattle.plan.specs.Finished.{finished}
 use Rattle.plan.specs.Exit.{pieces, update-exit}
+use Rattle.numbers.specs.Options.{option_of}
 use Rattle.numbers.specs.declared.refusals.Refusal.{Refusal}
 use Rattle.build_expression.specs.Builds.{scope_at}
 use Rattle.build_statement.specs.Plans.{Plans}
@@ -58,12 +59,13 @@ pub record FewSets (m : ℕ) (xs : List Ast.Set) : Type 0 where
   pub counted : length xs ≤ most_entries
   pub cells : m + (3 * sets_size xs + length xs) ≤ most_plan_cells
 
--- BEHIND THE FILTER: m cells stand in the area, and area' is the plan's, of the table t, where the sets' answer a is accepted
-pub record UpdateEnds (a : Setting) (t : Table) (m : ℕ) (area area' : List ℕ) (x : Written) : Type 0 where
+-- BEHIND THE FILTER, whose root is o: m cells stand in the area, and area' is the plan's, of the table t, where the sets'
+-- answer a is accepted
+pub record UpdateEnds (a : Setting) (t : Table) (o : Option ℕ) (m : ℕ) (area area' : List ℕ) (x : Written) : Type 0 where
   pub answer : x ≡ written_of a
   pub kept : length area' ≡ length area
-  pub exit : (p : Entries (ℕ × ℕ)) → a ≡ ok p → (xs : List Cell) (o : Option ℕ) (before : List ℕ) (d : Node Built)
-      (us : List (ℕ × Built)) → option_number o ≡ m → length area ≡ length before
+  pub exit : (p : Entries (ℕ × ℕ)) → a ≡ ok p → (xs : List Cell) (before : List ℕ) (d : Node Built)
+      (us : List (ℕ × Built)) → length area ≡ length before
       → take (cells_end m) area ≡ take (cells_end 0) before ++ cells_numbers xs
       → plan_numbers (P.update t d us) ≡ area_of update_code (xs ++ p.0) (scan t none o ∷ [])
       (span t.name ++ (t.key ∷ length p.1 ∷ set_numbers p.1)) p.2 1
@@ -117,7 +119,7 @@ module _ (c q : Bytes) (tables : List ℕ) (i a n : ℕ) (o : Option ℕ) {p : P
       module _ (s : rules.Scope) (cs : List Column) (hv : v ≡ length xs) {area₂ : List ℕ} {s₄ : Nodes} {r : Written}
           (w : Writes (emit_seconds (set_built s cs) m xs) m area area₂ s₃ s₄ r) where
         pub update-stops : (x : Refusal) → r ≡ Err x
-            → UpdateEnds (emit_seconds (set_built s cs) m xs) (table_named c q tables i a n) m area area₂ (Err x)
+            → UpdateEnds (emit_seconds (set_built s cs) m xs) (table_named c q tables i a n) o m area area₂ (Err x)
         unfolding written_of
         update-stops x e =
             let b = was-refused w x e in
@@ -146,27 +148,27 @@ module _ (c q : Bytes) (tables : List ℕ) (i a n : ℕ) (o : Option ℕ) {p : P
           update-room =
               finish-room (free-kept f w.area_kept) (scan-kept c q tables i a n o ha hl h) own few-cells
 
-          pub update-ends : {area' : List ℕ} → ((o' : Option ℕ) → option_number o' ≡ m → o ≡ o') → length area' ≡ length area₂
+          pub update-ends : {area' : List ℕ} → length area' ≡ length area₂
               → area' ≡ finished update_code z 1 s₂.used s₄.used s₄.numbers.now area₂
-              → UpdateEnds (emit_seconds (set_built s cs) m xs) (table_named c q tables i a n) m area area' (Ok z)
+              → UpdateEnds (emit_seconds (set_built s cs) m xs) (table_named c q tables i a n) o m area area' (Ok z)
           unfolding written_of
-          update-ends k l' u =
+          update-ends l' u =
               let t : Table = table_named c q tables i a n in
               let b = was-done w z d in
               record {
                 answer = ap Ok (sym b.next) ∙ sym (ap written_of b.ok-is);
                 kept = l' ∙ w.area_kept;
-                exit = λ p x ys o' before d us e₁ e₂ e₃ e₄.
+                exit = λ p x ys before d us e₂ e₃ e₄.
                     let same : b.entries ≡ p = ok_same (sym b.ok-is ∙ x) in
                     let node : Node ℕ = P.values [] in
                     let bs = b.entries.1 in
                     let stand : take (cells_end z) area₂ ≡ take (cells_end 0) before ++ cells_numbers (ys ++ b.entries.0) =
                     b.cells ∙ rw (e₃, cells-numbers-append ys b.entries.0, append_assoc) in
-                    let ps = pieces {cs = ys ++ b.entries.0} {n = z} {t = area₂} (scan t none o' ∷ [])
+                    let ps = pieces {cs = ys ++ b.entries.0} {n = z} {t = area₂} (scan t none o ∷ [])
                     (own_numbers (P.update t node bs)) before (w.area_kept ∙ e₂)
                     (omega (arith, few-cells, f.area_room, w.area_kept)) stand f.none
-                    (rw (k o' e₁) at (scan-record c q tables i a n o ha hl h)) own in
-                    u ∙ update-exit (ys ++ b.entries.0) (scan t none o' ∷ []) z 1 s₂.used s₄.used s₄.numbers.now area₂ before
+                    (scan-record c q tables i a n o ha hl h) own in
+                    u ∙ update-exit (ys ++ b.entries.0) (scan t none o ∷ []) z 1 s₂.used s₄.used s₄.numbers.now area₂ before
                     (sym (w.area_kept ∙ e₂)) t d us node bs (rw (← same, b.next) at e₄) ps;
               }
 
@@ -203,42 +205,42 @@ module _ (c q : Bytes) (tables cells parts : List ℕ) {area : List ℕ} {nodes 
       stands : TargetStands c q tables cells parts area area₁ t
       stands = target-stands c q tables cells parts b t e
 
-      pub update-few-sets : FewSets t.cells (sets_at c q cells parts)
+      pub update-few-sets : FewSets t.filter.cell (sets_at c q cells parts)
       unfolding update_of clause_size
       update-few-sets = record {
         counted = h.within.counts;
         cells = omega (arith, few, (filter-taken c q tables cells parts stands).most, h.within.counts);
       }
 
+      pub update-root : option_number (option_of t.filter.root) ≤ t.filter.cell
+      update-root = stands.filter.behind
+
       pub update-planned : {area₂ : List ℕ} {y : Written}
           → ((k : ℕ) → UpdateEnds
           (emit_seconds (set_built
           (scope_at c q cells (labels_of t.scope) (take t.scope.width t.scope.matches) (table_numbers t.scope) k)
-          (table_at c q tables t.table).columns) t.cells (sets_at c q cells parts))
-          here t.cells area₁ area₂ y)
+          (table_at c q tables t.table).columns) t.filter.cell (sets_at c q cells parts))
+          here (option_of t.filter.root) t.filter.cell area₁ area₂ y)
           → Plans (build_update (catalog_at c q tables) (update_at c q cells parts)) area area₂ y
       unfolding update_of scope_of named_by written_of
-      update-planned {area₂} {y} d = go (emit_seconds (set_built (table_scope here) here.columns) t.cells (sets_at c q cells parts)) refl
+      update-planned {area₂} {y} d = go (emit_seconds (set_built (table_scope here) here.columns) t.filter.cell (sets_at c q cells parts)) refl
         where
-          ended : UpdateEnds (emit_seconds (set_built (table_scope here) here.columns) t.cells (sets_at c q cells parts))
-              here t.cells area₁ area₂ y
+          ended : UpdateEnds (emit_seconds (set_built (table_scope here) here.columns) t.filter.cell (sets_at c q cells parts))
+              here (option_of t.filter.root) t.filter.cell area₁ area₂ y
           ended = rw (← stands.scope) (d t.scope.hidden)
 
           go : (u : Setting)
-              → emit_seconds (set_built (table_scope here) here.columns) t.cells (sets_at c q cells parts) ≡ u
+              → emit_seconds (set_built (table_scope here) here.columns) t.filter.cell (sets_at c q cells parts) ≡ u
               → Plans (build_update (catalog_at c q tables) (update_at c q cells parts)) area area₂ y
           go (ok p) j =
-              let f = accepted t.cells stands.filter refl in
-              let v = filter-taken c q tables cells parts stands in
-              let k = U.update-step (catalog_at c q tables) (update_at c q cells parts) here stands.table f.cells v.root t.cells
-              v.is p.0 p.1 p.2 j in
+              let f = stands.filter in
+              let k = U.update-step (catalog_at c q tables) (update_at c q cells parts) here stands.table f.cells (option_of t.filter.root) t.filter.cell
+              f.is p.0 p.1 p.2 j in
               rw (ended.answer ∙ ap written_of j)
               (planned (P.update here k.node k.sets) k.answer (plan-count _ _ _ _ _ p.2 1 k.area)
               (ended.kept ∙ b.kept)
-              (ended.exit p j f.cells v.root area k.node k.sets v.number b.kept
-              (stands.filter.cells f.cells t.cells f.is) k.area))
+              (ended.exit p j f.cells area k.node k.sets b.kept f.stands k.area))
           go (refused w) j =
-              let f = accepted t.cells stands.filter refl in
-              let v = filter-taken c q tables cells parts stands in
+              let f = stands.filter in
               refused-at w (ended.kept ∙ b.kept) (ended.answer ∙ ap written_of j)
-              (U.update-sets (catalog_at c q tables) (update_at c q cells parts) here stands.table f.cells v.root t.cells v.is w j)
+              (U.update-sets (catalog_at c q tables) (update_at c q cells parts) here stands.table f.cells (option_of t.filter.root) t.filter.cell f.is w j)

@@ -22,7 +22,7 @@ use Rattle.appends.specs.Lists.Loops.{seconds-step, seconds-stop, seconds-done}
 use Rattle.appends.specs.Statements.Update.{set-column}
 use Rattle.ast.specs.Table.{tree_at}
 use Rattle.scope.specs.Lookup.{found_of, qualifier_of, Looked}
-use Rattle.numbers.specs.Reasons.{named, noted}
+use Rattle.numbers.specs.Reasons.{named}
 use Rattle.numbers.specs.declared.refusals.Reason.{Reason}
 use Rattle.numbers.specs.declared.refusals.Refusal.{Refusal}
 use Rattle.sections.specs.declared.entry.Entry.{Entry}
@@ -35,7 +35,7 @@ use Rattle.plan.specs.declared.nodes.Nodes.{Nodes}
 use Rattle.plan.specs.Emits.{result_by, Written, Emits, accepted}
 use Rattle.build_expression.specs.Builds.{scope_at}
 use Rattle.build_expression.specs.Positions.{position_of}
-use Rattle.plan.specs.Steps.{RefusedWith, refused-at, refused-on, emits-refused}
+use Rattle.plan.specs.Steps.{RefusedWith, refused-at, refused-on, result-refused, emits-refused}
 use Rattle.build_update.specs.Sets.{value_step, Values, set-taken, set-not-taken, value-some}
 
 -- cells, the position and the root of each set, and the next cell
@@ -98,20 +98,11 @@ module _ {a : Setting} {n : ℕ} {area area' : List ℕ} {s t : Nodes} where
         go (refused w) g = absurd (clash (sym e ∙ h.answer ∙ ap written_of g))
           where
             clash : {x : ℕ} {v : Refusal} → ◌≡◌ {A = Written} (Ok x) (Err v) → ⊥
-            clash g = let z : ◌≡◌ {A = ℕ} 0 1 = cc in omega arith
+            clash g = grind arith
 
     pub was-refused : (w : Refusal) → r ≡ Err w → RefusedWith a w
     unfolding written_of
-    was-refused w e = go a refl
-      where
-        go : (b : Setting) → a ≡ b → RefusedWith a w
-        go (ok p) g = absurd (clash (sym e ∙ h.answer ∙ ap written_of g))
-          where
-            clash : {x : ℕ} {v : Refusal} → ◌≡◌ {A = Written} (Err v) (Ok x) → ⊥
-            clash g = let z : ◌≡◌ {A = ℕ} 0 1 = cc in omega arith
-        go (refused v) g =
-            let z : ◌≡◌ {A = Written} (Err w) (Err (noted v)) = sym e ∙ h.answer ∙ ap written_of g in
-            record { why = v; is = g; refusal = cc }
+    was-refused w e = result-refused a (λ p. p.2) (sym e ∙ h.answer)
 
 -- ONE SET
 -- of an entry
@@ -138,7 +129,7 @@ module _ (s : Scope) (cs : List Column) (n : ℕ) (x : Ast.Set) where
       where
         go : (g : Found) → f ≡ g → ◌≡◌ {A = Written} (Err v) (position_of (found x.line g))
             → Writes (emit_seconds (set_built s cs) n (x ∷ [])) n area area u u (Err v)
-        go (at j) z y = absurd (let v : ◌≡◌ {A = ℕ} 0 1 = cc in omega arith)
+        go (at j) z y = grind arith
         go (missing w) z y =
             let k : v ≡ record { reason = named w; line = x.line } = cc in
             rw k (writes-refused
@@ -150,7 +141,7 @@ module _ (s : Scope) (cs : List Column) (n : ℕ) (x : Ast.Set) where
       where
         go : (g : Found) → f ≡ g → ◌≡◌ {A = Written} (Ok j) (position_of (found x.line g)) → lookup s none x.name ≡ at j
         go (at i) z y = let u : i ≡ j = cc in hf ∙ z ∙ ap at u
-        go (missing w) z y = absurd (let v : ◌≡◌ {A = ℕ} 0 1 = cc in omega arith)
+        go (missing w) z y = grind arith
 
     module _ (j : ℕ) (e : p ≡ Ok j) {area area' : List ℕ} {r : Written}
         (v : Emits (value_step s cs x.line j n x.value) n area area' r) where

@@ -14,7 +14,7 @@ use numbers::refusals::{Reason, Refusal};
 use plan::cells::constant;
 use schema::default_at;
 use scope::view::View;
-use sections::entry::{Entry, first_row};
+use sections::entry::Entry;
 use text::places::Texts;
 
 // The default of the j-th column of the i-th table; refused at a line where there is none.
@@ -58,9 +58,8 @@ pub fn build_set(
         (table_at exprs.now.texts.catalog.now exprs.now.texts.statement.now tables.now i).columns
         j e n area.old area.new result }
 {
-    if e.expressions == 0 {
+    let Some(r) = e.first_row() else {
         return build_default(&exprs.texts, tables, i, j, e.line, area, n);
-    }
-    let r = first_row(e);
+    };
     build_expression(exprs, r, scope, area, n)
 }

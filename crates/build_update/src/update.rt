@@ -1,9 +1,12 @@
 // UPDATE: one scan with its filter, then what the columns are set to.
-ghost use Rattle.std.specs.Prelude.{ℕ};
+ghost use Rattle.std.specs.Prelude.{ℕ, ◌≤◌, take};
+ghost use Rattle.rules.specs.Area.{option_number};
 ghost use Rattle.rules.specs.Ast as ast;
 ghost use Rattle.rules.specs.BuildStatement.{set_built, build_update};
 ghost use Rattle.appends.specs.Lists.Kinds.{emit_seconds};
+ghost use Rattle.numbers.specs.Options.{option_of};
 ghost use Rattle.schema.specs.Layout.{table_at, catalog_at};
+ghost use Rattle.scope.specs.Scopes.{labels_of, table_numbers};
 ghost use Rattle.build_expression.specs.Builds.{scope_at};
 ghost use Rattle.build_statement.specs.Plans.{Plans};
 ghost use Rattle.build_statement.specs.Kinds.{Free, ReadyFor, update_at};
@@ -13,7 +16,7 @@ ghost use Rattle.build_update.specs.Updates.{FewSets, UpdateEnds};
 
 use crate::sets::write_sets;
 use ast::Expressions;
-use build_statement::target::build_target;
+use build_statement::target::{Target, build_target};
 use entries::Section;
 use numbers::refusals::Refusal;
 use plan::finish::{Kind, finish};
@@ -21,42 +24,49 @@ use plan::nodes::{Nodes, scan};
 use plan::own;
 use plan::steps::Step;
 use schema::key;
-use scope::view::View;
 use sections::entry;
-use text::places::Place;
 
-// The plan of the i-th table, which is named by the bytes at a place, behind the cells of its filter: the scan, the sets and
-// the end.
+// The plan of a table behind the cells of its filter: the scan, the sets and the end.
 fn end_update(
     exprs: &Expressions,
     tables: &[u32],
     parts: &[u32],
-    i: u32,
-    name: Place,
-    scope: &View,
+    target: &Target,
     area: &mut [u32],
     nodes: &mut Nodes,
-    cells: u32,
 ) -> Result<u32, Refusal>
     requires free { Free area.old nodes.old }
-    requires few_sets { FewSets cells (sets_at exprs.now.texts.catalog.now exprs.now.texts.statement.now exprs.now.table.now
+    requires few_sets { FewSets target.now.filter.cell (sets_at exprs.now.texts.catalog.now exprs.now.texts.statement.now exprs.now.table.now
         parts.now) }
+    requires root_behind { option_number (option_of target.now.filter.root) ≤ target.now.filter.cell }
     ensures { (h : ℕ) → UpdateEnds
         (emit_seconds (set_built
         (scope_at exprs.now.texts.catalog.now exprs.now.texts.statement.now exprs.now.table.now
-        scope.now.labels.now scope.now.matches.now scope.now.tables.now h)
-        (table_at exprs.now.texts.catalog.now exprs.now.texts.statement.now tables.now i).columns)
-        cells (sets_at exprs.now.texts.catalog.now exprs.now.texts.statement.now exprs.now.table.now parts.now))
-        (table_named exprs.now.texts.catalog.now exprs.now.texts.statement.now tables.now i name.address name.length)
-        cells area.old area.new result }
+        (labels_of target.now.scope) (take target.now.scope.width target.now.scope.matches) (table_numbers target.now.scope) h)
+        (table_at exprs.now.texts.catalog.now exprs.now.texts.statement.now tables.now target.now.table).columns)
+        target.now.filter.cell
+        (sets_at exprs.now.texts.catalog.now exprs.now.texts.statement.now exprs.now.table.now parts.now))
+        (table_named exprs.now.texts.catalog.now exprs.now.texts.statement.now tables.now target.now.table
+        target.now.name.address target.now.name.length)
+        (option_of target.now.filter.root) target.now.filter.cell area.old area.new result }
 {
     let texts = exprs.texts;
-    let name = texts.clipped(name);
-    scan(nodes, name, None, cells.checked_sub(1));
+    let name = texts.clipped(target.name);
+    scan(nodes, name, None, target.filter.root);
     let own = nodes.used;
     let sets = entry::count(parts, Section::Set);
-    own::update(nodes, name, key(tables, i), sets);
-    let written = write_sets(exprs, tables, parts, i, scope, area, nodes, cells)?;
+    own::update(nodes, name, key(tables, target.table), sets);
+    let view = target.scope.view();
+    let written = write_sets(
+        exprs,
+        tables,
+        parts,
+        target.table,
+        &view,
+        area,
+        nodes,
+        target.filter.cell,
+    )?;
     let at = Step {
         cell: written,
         node: 1,
@@ -81,16 +91,5 @@ pub fn build_update(
         area.old area.new result }
 {
     let target = build_target(exprs, tables, parts, area)?;
-    let view = target.scope.view();
-    end_update(
-        exprs,
-        tables,
-        parts,
-        target.table,
-        target.name,
-        &view,
-        area,
-        nodes,
-        target.cells,
-    )
+    end_update(exprs, tables, parts, &target, area, nodes)
 }

@@ -27,7 +27,7 @@ ensures (refused r) Q k = tt
 -- from an accepted answer to what holds of it
 pub ensured : {A : Type 0} (m : Answer A) (Q : A → Type 0) → Ensures m Q → (a : A) → m ≡ ok a → Q a
 ensured (ok b) Q h a e = let q : b ≡ a = cc in rw (← q) h
-ensured (refused r) Q h a e = absurd (let z : ◌≡◌ {A = ℕ} 0 1 = cc in omega arith)
+ensured (refused r) Q h a e = grind arith
 
 -- nothing is asked
 abbrev pub Any : {A : Type 0} → A → Type 0

@@ -1,6 +1,6 @@
 -- More laws of what holds of every entry of a list and of what an option gives.
-use Rattle.std.specs.Prelude.{ℕ, zero, suc, ◌<◌, ◌≡◌, refl, List, [], ◌∷◌, ◌++◌, map, length}
-use Rattle.std.proofs.Common.{arith, ap}
+use Rattle.std.specs.Prelude.{ℕ, zero, suc, ◌<◌, ◌≡◌, List, [], ◌∷◌, map, length}
+use Rattle.std.proofs.Common.{arith}
 use Rattle.std.proofs.Math.Option.{Option, none, some}
 use Rattle.rules.specs.Lists.{map_option, given, concat, entry_after}
 use Rattle.claims.specs.Answers.{Any, All, Given, all_append, all_left, all_right, all-every, all_map}
@@ -18,10 +18,6 @@ pub all_both : {B : Type 0} (P Q : B → Type 0) (xs : List B) → All P xs → 
 unfolding All
 all_both P Q [] h g = tt
 all_both P Q (x ∷ xs) h g = ((h.0, g.0), all_both P Q xs h.1 g.1)
-
-pub map-append : {A B : Type 0} (f : A → B) (xs ys : List A) → map f (xs ++ ys) ≡ map f xs ++ map f ys
-map-append f [] ys = refl
-map-append {B} f (x ∷ xs) ys = ap {B = List B} (λ r. f x ∷ r) (map-append f xs ys)
 
 -- of every list, and so of all of them as one
 pub all-concat : {B : Type 0} (Q : B → Type 0) (rs : List (List B)) → All (All Q) rs → All Q (concat rs)
@@ -43,7 +39,7 @@ all-given Q (some x) h = h.0
 -- the position of an entry is below the length
 pub entry-below : {A : Type 0} (as' : List A) (i : ℕ) (a : A) → entry_after i as' ≡ some a → i < length as'
 unfolding entry_after
-entry-below [] i a e = absurd (let z : ◌≡◌ {A = ℕ} 0 1 = cc in omega arith)
+entry-below [] i a e = grind arith
 entry-below (x ∷ xs) zero a e = omega arith
 entry-below (x ∷ xs) (suc i) a e = omega (arith, entry-below xs i a e)
 
@@ -51,7 +47,7 @@ entry-below (x ∷ xs) (suc i) a e = omega (arith, entry-below xs i a e)
 pub all-entry : {A : Type 0} (Q : A → Type 0) (as' : List A) → All Q as' → (i : ℕ) (a : A) → entry_after i as' ≡ some a
     → Q a
 unfolding entry_after All
-all-entry Q [] h i a e = absurd (let z : ◌≡◌ {A = ℕ} 0 1 = cc in omega arith)
+all-entry Q [] h i a e = grind arith
 all-entry Q (x ∷ xs) h zero a e = let q : x ≡ a = cc in rw (← q) h.0
 all-entry Q (x ∷ xs) h (suc i) a e = all-entry Q xs h.1 i a e
 
@@ -74,7 +70,7 @@ concat-all Q (r ∷ rs) h = (all_left Q r (concat rs) h, concat-all Q rs (all_ri
 -- OPTIONS
 pub given-some : {A : Type 0} (Q : A → Type 0) (o : Option A) → Given Q o → (a : A) → o ≡ some a → Q a
 unfolding Given
-given-some Q none h a e = absurd (let z : ◌≡◌ {A = ℕ} 0 1 = cc in omega arith)
+given-some Q none h a e = grind arith
 given-some Q (some b) h a e = let q : b ≡ a = cc in rw (← q) h
 
 pub given-every : {A : Type 0} (Q : A → Type 0) → ((a : A) → Q a) → (o : Option A) → Given Q o

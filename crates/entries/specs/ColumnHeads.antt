@@ -15,12 +15,13 @@ use Rattle.rules.specs.Reader.{base_address, rest, name, word, optional_name}
 use Rattle.rules.specs.ReadColumn.{◌>>=◌, datatypes, flagged, nullness, ColumnHead, new_column_fields}
 use Rattle.text.specs.Lines.{field, fields_from}
 use Rattle.text.specs.Numbers.{is_name}
+use Rattle.text.specs.Fields.{field-named, field-unnamed}
 use Rattle.text.specs.Reading.{field_of, rest-whole}
 use Rattle.text.specs.declared.Line.{Line}
 use Rattle.text.specs.declared.places.Place as places
-use Rattle.read_expression.specs.Reading.{here}
+use Rattle.read_expression.specs.Reading.{here, LineAt}
 use Rattle.entries.specs.Entries.{EntryHead, column_head, fields_of}
-use Rattle.entries.specs.HeadFields.{LineAt, NameIs, HeadIs, HeadIsHere, no_name, name-is, field-named, field-unnamed, head-is-as}
+use Rattle.entries.specs.HeadFields.{NameIs, HeadIs, HeadIsHere, no_name, name-is, head-is-as}
 use Rattle.entries.specs.ColumnWords.{words_by, words_head, named, column_said}
 use Rattle.entries.specs.HeadRecords.{field_at, without}
 use Rattle.entries.specs.declared.Head.{Head}

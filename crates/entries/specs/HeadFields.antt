@@ -1,8 +1,7 @@
 -- What the fields of one record say: names by their places, and the contracts of the functions of each shape.
 use Rattle.std.specs.Prelude.{ℕ, zero, suc, ◌+◌, ◌-◌, ◌≤◌, ◌≡◌, refl, true, false, length, Result, Ok, Err, Some, None}
 use Rattle.std.specs.Prelude as std
-use Rattle.std.proofs.Common.{arith, ◌∙◌}
-use Rattle.std.proofs.Math.Path.{ap}
+use Rattle.std.proofs.Common.{arith}
 use mathlib.Core.List.{List, [], ◌∷◌}
 use Rattle.std.proofs.Math.Option.{Option, none, some}
 use Rattle.rules.specs.Limits.{most_bytes, most_cells}
@@ -12,10 +11,9 @@ use Rattle.rules.specs.Reader.{Place, at, rest, name, no_field}
 use Rattle.rules.specs.Area.{span, option_span}
 use Rattle.text.specs.Places.{option_numbers}
 use Rattle.text.specs.declared.places.Place as places
-use Rattle.text.specs.Lines.{field, Fields}
-use Rattle.text.specs.Numbers.{is_name, name_in, name_out}
-use Rattle.text.specs.declared.Line.{Line}
-use Rattle.text.specs.Fields.{Inside, field-length}
+use Rattle.text.specs.Lines.{field}
+use Rattle.text.specs.Numbers.{is_name}
+use Rattle.text.specs.Fields.{Inside, field-length, field-named, field-unnamed}
 use Rattle.read_expression.specs.Heads.{field_fits}
 use Rattle.ast.specs.Names.{NameFits}
 use Rattle.read_expression.specs.Reading.{here}
@@ -27,12 +25,6 @@ use Rattle.numbers.specs.declared.refusals.Reason.TheVariants.{WrongRecord}
 use Rattle.numbers.specs.declared.refusals.Refusal as code
 
 -- CONTRACTS
--- f is the line at position p of a statement that is not too long
-pub record LineAt (t : Bytes) (p : ℕ) (f : Line) : Type 0 where
-  pub short : length t ≤ most_bytes
-  pub within : p ≤ length t
-  pub fields : Fields t p f
-
 -- a name of the statement by its place, or none
 pub record NameIs (t : Bytes) (w : Option Word) (n : std.Option places.Place) : Type 0 where
   pub numbers : option_span w ≡ option_numbers n
@@ -71,7 +63,7 @@ no_name t = record { numbers = refl; fits = λ c. tt; last = refl }
 
 name-some : (n : ℕ) → is_name n ≡ true → 1 ≤ n
 unfolding is_name
-name-some zero h = let z : ◌≡◌ {A = ℕ} 0 1 = cc in absurd (omega arith)
+name-some zero h = grind arith
 name-some (suc n) h = omega arith
 
 module _ (t : Bytes) (a n : ℕ) (i : Inside t a n) where
@@ -82,14 +74,6 @@ module _ (t : Bytes) (a n : ℕ) (i : Inside t a n) where
     fits = λ c. (field_fits t a n i c, rw (field-length t a n i) (name-some n h));
     last = let e : most_bytes + a - most_bytes ≡ a = omega arith in rw e;
   }
-
-  pub field-named : is_name n ≡ true → name (field most_bytes t a n) ≡ some (field most_bytes t a n)
-  unfolding field
-  field-named h = name_in _ (ap is_name (field-length t a n i) ∙ h)
-
-  pub field-unnamed : is_name n ≡ false → name (field most_bytes t a n) ≡ none
-  unfolding field
-  field-unnamed h = name_out _ (ap is_name (field-length t a n i) ∙ h)
 
 -- RECORDS
 pub head-is-as : (t : Bytes) (g h : Option EntryHead) (r : std.Option Head) → g ≡ h → HeadIs t h r → HeadIs t g r
@@ -139,7 +123,7 @@ head-unnamed t a n e r i h s = head-none t _ r (rw (field-unnamed t a n i h)) s
 -- ENTRIES
 module _ (t : Bytes) (kind : ℕ) (b : Option Bytes) (line : ℕ) (p : Place) where
   pub no-head : at (keyword_of kind) p ≡ false → IsHead t kind b line p (Ok None)
-  no-head h = record { missing = λ e. h; wrong = λ w e. absurd (let y : ◌≡◌ {A = ℕ} 0 1 = cc in omega arith); entered = λ x e. absurd (let y : ◌≡◌ {A = ℕ} 0 1 = cc in omega arith) }
+  no-head h = record { missing = λ e. h; wrong = λ w e. grind arith; entered = λ x e. grind arith }
 
   entered-head : (r : Head) (h : EntryHead) → at (keyword_of kind) p ≡ true → fields_of kind b (rest p) ≡ some h → HeadSays t h r → Entered t kind b p r
   entered-head r h e f s = record {
@@ -161,20 +145,20 @@ module _ (t : Bytes) (kind : ℕ) (b : Option Bytes) (line : ℕ) (p : Place) wh
   head-wrong h s = go (fields_of kind b (rest p)) refl s
     where
       go : (o : Option EntryHead) → fields_of kind b (rest p) ≡ o → HeadIs t o None → IsHead t kind b line p (Err (record { reason = WrongRecord; line = line }))
-      go none e f = record { missing = λ z. absurd (let y : ◌≡◌ {A = ℕ} 0 1 = cc in omega arith); wrong = λ w z. (wrong-line _ _ z, h, e); entered = λ x z. absurd (let y : ◌≡◌ {A = ℕ} 0 1 = cc in omega arith) }
-      go (some x) e f = unfold HeadIs in absurd (let z : ◌≡◌ {A = std.Option Head} None (Some f.0) = f.1 in let y : ◌≡◌ {A = ℕ} 0 1 = cc in omega arith)
+      go none e f = record { missing = λ z. grind arith; wrong = λ w z. (wrong-line _ _ z, h, e); entered = λ x z. grind arith }
+      go (some x) e f = unfold HeadIs in absurd (let z : ◌≡◌ {A = std.Option Head} None (Some f.0) = f.1 in grind arith)
 
   pub head-fits : (r : Head) → at (keyword_of kind) p ≡ true → HeadIs t (fields_of kind b (rest p)) (Some r) → IsHead t kind b line p (Ok (Some r))
   head-fits r h s = go (fields_of kind b (rest p)) refl s
     where
       go : (o : Option EntryHead) → fields_of kind b (rest p) ≡ o → HeadIs t o (Some r) → IsHead t kind b line p (Ok (Some r))
-      go none e f = unfold HeadIs in absurd (let z : ◌≡◌ {A = std.Option Head} (Some r) None = f in let y : ◌≡◌ {A = ℕ} 0 1 = cc in omega arith)
+      go none e f = unfold HeadIs in absurd (let z : ◌≡◌ {A = std.Option Head} (Some r) None = f in grind arith)
       go (some x) e f = unfold HeadIs in
           let q : ◌≡◌ {A = std.Option Head} (Some r) (Some f.0) = f.1 in
           let z : f.0 ≡ r = cc in
           let g : HeadSays t x r = rw z at f.2 in
           record {
-            missing = λ y. absurd (let w : ◌≡◌ {A = ℕ} 0 1 = cc in omega arith);
-            wrong = λ v y. absurd (let w : ◌≡◌ {A = ℕ} 0 1 = cc in omega arith);
+            missing = λ y. grind arith;
+            wrong = λ v y. grind arith;
             entered = λ v y. let u : r ≡ v = cc in rw u at (entered-head r x h e g);
           }

@@ -20,7 +20,8 @@ use Rattle.text.specs.declared.Line.{Line}
 use Rattle.text.specs.Fields.{Inside, inside-field}
 use Rattle.entries.specs.Entries.{EntryHead, plain_head, named_head, order_head, fields_of}
 use Rattle.entries.specs.Heads.{words_numbers, saying}
-use Rattle.entries.specs.HeadFields.{LineAt, HeadIs, HeadIsHere, clause_fields, name_head, head-is-as, head-none, head_plain}
+use Rattle.read_expression.specs.Reading.{LineAt}
+use Rattle.entries.specs.HeadFields.{HeadIs, HeadIsHere, clause_fields, name_head, head-is-as, head-none, head_plain}
 use Rattle.entries.specs.declared.Head.{Head}
 use Rattle.entries.specs.declared.Words.TheVariants.{Descends}
 

@@ -19,7 +19,8 @@ use Rattle.text.specs.declared.Line.{Line}
 use Rattle.text.specs.declared.places.Place as places
 use Rattle.entries.specs.Entries.{set_head, fields_of}
 use Rattle.entries.specs.Heads.{last_name}
-use Rattle.entries.specs.HeadFields.{LineAt, HeadIs, HeadIsHere, name_head, head-is-as, head-none}
+use Rattle.read_expression.specs.Reading.{LineAt}
+use Rattle.entries.specs.HeadFields.{HeadIs, HeadIsHere, name_head, head-is-as, head-none}
 use Rattle.entries.specs.HeadRecords.{with-one, with_two, without}
 use Rattle.entries.specs.declared.Head.{Head}
 

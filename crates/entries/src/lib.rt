@@ -5,7 +5,7 @@ ghost use Rattle.std.specs.Prelude.{◌≡◌, ℕ, ◌-◌, ◌≤◌, Some, No
 ghost use Rattle.std.proofs.Math.Option.{Option, none, some};
 ghost use Rattle.rules.specs.Refusals.{statement};
 ghost use Rattle.rules.specs.Limits.{most_bytes};
-ghost use Rattle.rules.specs.Lists.{named, map_option};
+ghost use Rattle.rules.specs.Lists.{Bytes, named, map_option};
 ghost use Rattle.rules.specs.Lines.{Word};
 ghost use Rattle.rules.specs.ReadColumn.{nullness};
 ghost use Rattle.rules.specs.ReadStatement as rules;
@@ -14,11 +14,11 @@ ghost use Rattle.text.specs.Lines.{field};
 ghost use Rattle.text.specs.Reading.{field_of};
 ghost use Rattle.text.specs.Fields.{Inside};
 ghost use Rattle.text.specs.Packed.{number};
-ghost use Rattle.read_expression.specs.Reading.{here};
+ghost use Rattle.read_expression.specs.Reading.{here, LineAt, IsLine};
 ghost use Rattle.entries.specs.Entries.{fields_of, keyword_of};
 ghost use Rattle.entries.specs.Sections.{number_of};
 ghost use Rattle.entries.specs.Heads.{IsHead, last_name, saying};
-ghost use Rattle.entries.specs.HeadFields.{LineAt, NameIs, HeadIs, HeadIsHere, clause_fields, name_head};
+ghost use Rattle.entries.specs.HeadFields.{NameIs, HeadIs, HeadIsHere, clause_fields, name_head};
 ghost use Rattle.entries.specs.ColumnWords.{flags, column_said};
 
 use numbers::datatypes::DataType;
@@ -85,10 +85,9 @@ fn plain(expressions: u32) -> Head
 }
 
 // A record without fields, and so many expressions.
-fn clause(t: &[u8], p: usize, f: Line, expressions: u32) -> Option<Head>
-    requires fact_1 { LineAt t.now p f }
-    requires fact_2 { expressions ≤ 1 }
-    ensures { HeadIsHere t.now p (clause_fields expressions) result }
+fn clause(f: Line, expressions: u32) -> Option<Head>
+    requires { expressions ≤ 1 }
+    ensures { (t : Bytes) (p : ℕ) → LineAt t p f → HeadIsHere t p (clause_fields expressions) result }
 {
     if f.count != 1 {
         return None;
@@ -97,10 +96,10 @@ fn clause(t: &[u8], p: usize, f: Line, expressions: u32) -> Option<Head>
 }
 
 // A name, and so many expressions.
-fn name_head(t: &[u8], a: usize, n: usize, expressions: u32) -> Option<Head>
-    requires fact_1 { Inside t.now a n }
-    requires fact_2 { expressions ≤ 1 }
-    ensures { HeadIs t.now (name_head expressions (field most_bytes t.now a n)) result }
+fn name_head(a: usize, n: usize, expressions: u32) -> Option<Head>
+    requires place { (a ≤ 65536) × (n ≤ 65536) }
+    requires few { expressions ≤ 1 }
+    ensures { (t : Bytes) → Inside t a n → HeadIs t (name_head expressions (field most_bytes t a n)) result }
 {
     let name = name_at(a, n)?;
     Some(Head {
@@ -111,9 +110,9 @@ fn name_head(t: &[u8], a: usize, n: usize, expressions: u32) -> Option<Head>
 }
 
 // An item: its alias or none.
-fn item(t: &[u8], p: usize, f: Line) -> Option<Head>
-    requires { LineAt t.now p f }
-    ensures { HeadIsHere t.now p (fields_of 0 none) result }
+fn item(f: Line) -> Option<Head>
+    requires { IsLine f }
+    ensures { (t : Bytes) (p : ℕ) → LineAt t p f → HeadIsHere t p (fields_of 0 none) result }
 {
     if f.count == 1 {
         return Some(plain(1));
@@ -121,13 +120,12 @@ fn item(t: &[u8], p: usize, f: Line) -> Option<Head>
     if f.count != 2 {
         return None;
     }
-    name_head(t, f.starts[1], f.lens[1], 1)
+    name_head(f.starts[1], f.lens[1], 1)
 }
 
 // An order key: its direction.
-fn order(t: &[u8], p: usize, f: Line) -> Option<Head>
-    requires { LineAt t.now p f }
-    ensures { HeadIsHere t.now p (fields_of 4 none) result }
+fn order(t: &[u8], f: Line) -> Option<Head>
+    ensures { (p : ℕ) → LineAt t.now p f → HeadIsHere t.now p (fields_of 4 none) result }
 {
     if f.count != 2 {
         return None;
@@ -142,20 +140,19 @@ fn order(t: &[u8], p: usize, f: Line) -> Option<Head>
 }
 
 // An inserted name.
-fn name(t: &[u8], p: usize, f: Line) -> Option<Head>
-    requires { LineAt t.now p f }
-    ensures { HeadIsHere t.now p (fields_of 8 none) result }
+fn name(f: Line) -> Option<Head>
+    requires { IsLine f }
+    ensures { (t : Bytes) (p : ℕ) → LineAt t p f → HeadIsHere t p (fields_of 8 none) result }
 {
     if f.count != 2 {
         return None;
     }
-    name_head(t, f.starts[1], f.lens[1], 0)
+    name_head(f.starts[1], f.lens[1], 0)
 }
 
 // An inserted row: the number of its expressions.
-fn row(t: &[u8], p: usize, f: Line) -> Option<Head>
-    requires { LineAt t.now p f }
-    ensures { HeadIsHere t.now p (fields_of 9 none) result }
+fn row(t: &[u8], f: Line) -> Option<Head>
+    ensures { (p : ℕ) → LineAt t.now p f → HeadIsHere t.now p (fields_of 9 none) result }
 {
     if f.count != 2 {
         return None;
@@ -186,9 +183,9 @@ fn rises(t: &[u8], last: Option<Place>, name: &[u8]) -> bool
 }
 
 // A set: its name, and whether it is set to its default.
-fn set(t: &[u8], p: usize, f: Line, last: Option<Place>) -> Option<Head>
-    requires { LineAt t.now p f }
-    ensures { HeadIsHere t.now p (fields_of 10 (last_name t.now last)) result }
+fn set(t: &[u8], f: Line, last: Option<Place>) -> Option<Head>
+    requires { IsLine f }
+    ensures { (p : ℕ) → LineAt t.now p f → HeadIsHere t.now p (fields_of 10 (last_name t.now last)) result }
 {
     let n = f.count;
     if n < 2 {
@@ -203,12 +200,12 @@ fn set(t: &[u8], p: usize, f: Line, last: Option<Place>) -> Option<Head>
         return None;
     }
     if n == 2 {
-        return name_head(t, a, m, 1);
+        return name_head(a, m, 1);
     }
     if !text::equal(b"default", f.field(t, 2)) {
         return None;
     }
-    name_head(t, a, m, 0)
+    name_head(a, m, 0)
 }
 
 // What a word says of nulls: that they are allowed, that they are not, or neither.
@@ -257,9 +254,9 @@ fn column_words(t: &[u8], f: Line, name: Place, reference: Option<Place>) -> Opt
 }
 
 // A new column: its name, its words, its reference or none.
-fn column(t: &[u8], p: usize, f: Line) -> Option<Head>
-    requires { LineAt t.now p f }
-    ensures { HeadIsHere t.now p (fields_of 11 none) result }
+fn column(t: &[u8], f: Line) -> Option<Head>
+    requires { IsLine f }
+    ensures { (p : ℕ) → LineAt t.now p f → HeadIsHere t.now p (fields_of 11 none) result }
 {
     let n = f.count;
     if n < 8 {
@@ -278,20 +275,20 @@ fn column(t: &[u8], p: usize, f: Line) -> Option<Head>
 
 // What the fields of a section's record say, behind an entry of the last name.
 #[tactic(auto, unfolding(crate::specs::Entries::fields_of, crate::specs::HeadFields::clause_fields))]
-fn fields_head(t: &[u8], p: usize, f: Line, kind: Section, last: Option<Place>) -> Option<Head>
-    requires { LineAt t.now p f }
-    ensures { HeadIsHere t.now p (fields_of (number_of kind) (last_name t.now last)) result }
+fn fields_head(t: &[u8], f: Line, kind: Section, last: Option<Place>) -> Option<Head>
+    requires { IsLine f }
+    ensures { (p : ℕ) → LineAt t.now p f → HeadIsHere t.now p (fields_of (number_of kind) (last_name t.now last)) result }
 {
     match kind {
-        Section::Item => item(t, p, f),
-        Section::Order => order(t, p, f),
-        Section::Columns => clause(t, p, f, 0),
-        Section::Name => name(t, p, f),
-        Section::Row => row(t, p, f),
-        Section::Set => set(t, p, f, last),
-        Section::Column => column(t, p, f),
+        Section::Item => item(f),
+        Section::Order => order(t, f),
+        Section::Columns => clause(f, 0),
+        Section::Name => name(f),
+        Section::Row => row(t, f),
+        Section::Set => set(t, f, last),
+        Section::Column => column(t, f),
         Section::Where | Section::Group | Section::Having | Section::Offset | Section::Limit => {
-            clause(t, p, f, 1)
+            clause(f, 1)
         }
     }
 }
@@ -332,7 +329,7 @@ pub fn entry_head(
     if text::packed(f.field(t, 0)) != keyword(kind) {
         return Ok(None);
     }
-    match fields_head(t, at.position, f, kind, last) {
+    match fields_head(t, f, kind, last) {
         Some(h) => Ok(Some(h)),
         None => Err(Reason::WrongRecord.at(at.line)),
     }

@@ -15,12 +15,9 @@ use Rattle.value.specs.Values.{held}
 use Rattle.ast.specs.Operands.{operands_of, kind_of}
 use Rattle.expression.specs.Answers.{map_answer}
 
-never : {X : Type 0} → ◌≡◌ {A = ℕ} 0 1 → X
-never e = absurd (omega arith)
-
 -- ANSWERS
 differ : {X : Type 0} (u : Value) (r : Refusal) → ok u ≡ refused r → X
-differ u r e = let z : ◌≡◌ {A = ℕ} 0 1 = cc in never z
+differ u r e = grind arith
 
 bind-refused : {A B : Type 0} (f : A → Answer B) (m : Answer A) (r : Refusal) → m ≡ refused r → (m >>= f) ≡ refused r
 unfolding ◌>>=◌
@@ -88,7 +85,7 @@ module _ (l : ℕ) (a : Expr) (u : Value) (h : ok u ≡ map_answer held (evaluat
 
 -- THE FIRST OPERAND REFUSED
 none_first : {X : Type 0} {a : Expr} {as' : Exprs} → nil ≡ cons a as' → X
-none_first e = let z : ◌≡◌ {A = ℕ} 0 1 = cc in never z
+none_first e = grind arith
 
 pub first-refused : (x a : Expr) (as' : Exprs) (r : Refusal) → operands_of x ≡ cons a as' → evaluate a ≡ refused r → evaluate x ≡ refused r
 unfolding operands_of evaluate evaluate_root

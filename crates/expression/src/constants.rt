@@ -25,7 +25,7 @@ fn check_is(table: &[u32], r: usize) -> Result<(), Refusal>
     if row::literal(table, r).is_null_or_nan() {
         return Ok(());
     }
-    Err(Reason::InvalidIs.at(rows::at(table, r, 1)))
+    Err(Reason::InvalidIs.at(row::line(table, r)))
 }
 
 // The one function is `sqrt`, of one argument.
@@ -33,8 +33,8 @@ fn check_call(exprs: &Expressions, r: usize) -> Result<(), Refusal>
     ensures { checked_of result ≡ refuse_if (not (is_root_call exprs.now.texts.catalog.now exprs.now.texts.statement.now
         exprs.now.table.now r)) unknown_function (at exprs.now.table.now r 1) }
 {
-    let line = rows::at(exprs.table, r, 1);
-    if rows::at(exprs.table, r, 3) != 1 {
+    let line = row::line(exprs.table, r);
+    if row::arguments(exprs.table, r) != 1 {
         return Err(Reason::UnknownFunction.at(line));
     }
     if exprs.texts.holds_at(name(exprs.table, r), b"sqrt") {
@@ -49,7 +49,7 @@ fn check_record(exprs: &Expressions, r: usize, operands: Result<(), Refusal>) ->
         (operands_at exprs.now.table.now r) (suc r)) → checked_of result
         ≡ check (tree_by f exprs.now.texts.catalog.now exprs.now.texts.statement.now exprs.now.table.now r) }
 {
-    let line = rows::at(exprs.table, r, 1);
+    let line = row::line(exprs.table, r);
     match kind_of(exprs.table, r) {
         Kind::Column | Kind::Qualified => Err(Reason::ConstantOnly.at(line)),
         Kind::Call => check_call(exprs, r).and(operands),

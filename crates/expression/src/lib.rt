@@ -33,7 +33,7 @@ fn leaf(table: &[u32], r: usize) -> Result<Value, Refusal>
     requires { operands_at table.now r ≡ 0 }
     ensures { (f : ℕ → ast.Expr) (c q : Bytes) → Evaluates c q result (tree_by f c q table.now r) }
 {
-    let line = rows::at(table, r, 1);
+    let line = row::line(table, r);
     match kind_of(table, r) {
         Kind::Column | Kind::Qualified => Err(Reason::ConstantOnly.at(line)),
         Kind::Call => Err(Reason::UnknownFunction.at(line)),
@@ -44,12 +44,12 @@ fn leaf(table: &[u32], r: usize) -> Result<Value, Refusal>
 
 // A record whose first operand has the value a, and which is no binary operator: a call, a unary operator or `is`.
 fn first_operand(table: &[u32], r: usize, a: Value) -> Result<Value, Refusal>
-    requires fact { operands_at table.now r ≡ 0 → ⊥ }
-    requires fact_2 { kind_at table.now r ≡ 6 → ⊥ }
+    requires has_operands { operands_at table.now r ≡ 0 → ⊥ }
+    requires not_binary { kind_at table.now r ≡ 6 → ⊥ }
     ensures { (f : ℕ → ast.Expr) (c q : Bytes) → Evaluates c q (Ok a) (f (suc r))
         → Evaluates c q result (tree_by f c q table.now r) }
 {
-    let line = rows::at(table, r, 1);
+    let line = row::line(table, r);
     match kind_of(table, r) {
         Kind::Unary => {
             let operator = row::unary_operator(table, r);
@@ -70,7 +70,7 @@ fn both_operands(exprs: &Expressions, r: usize, a: Value, b: Value) -> Result<Va
 {
     let operator = row::binary_operator(exprs.table, r);
     let w = value::operators::binary(&exprs.texts, operator, a, b);
-    operators::worked_at(w, rows::at(exprs.table, r, 1))
+    operators::worked_at(w, row::line(exprs.table, r))
 }
 
 // The value of the tree at a row: both operands are worked out, the left one first.

@@ -11,7 +11,7 @@ use numbers::literals::{Literal, LiteralKind};
 use numbers::refusals::{Reason, Refusal};
 use value::{Value, comparison};
 
-// What an operator gave, for a record at a line.
+// What an operator gave, for a record at a line. (A name for five places: `map_err` in each would be no plainer.)
 #[tactic(auto, unfolding(crate::specs::Answers::answered, rules::specs::Evaluate::worked_at, value::specs::Values::worked_of))]
 pub fn worked_at(w: Result<Value, Reason>, line: u32) -> Result<Value, Refusal>
     ensures { (c q : Bytes) → answer_of c q result ≡ worked_at line (worked_of c q w) }

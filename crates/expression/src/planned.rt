@@ -13,7 +13,7 @@ ghost use Rattle.expression.specs.Numbers.{natural_of};
 use crate::Constant;
 use numbers::halves::{high, low};
 use numbers::literals::{Literal, LiteralKind};
-use text::places::{Place, Texts};
+use text::places::Texts;
 use value::Value;
 
 #[tactic(auto, unfolding(crate::specs::Numbers::natural_of, rules::specs::BuildSelect::natural, value::specs::Values::value_of))]
@@ -67,13 +67,10 @@ pub fn of_value(texts: &Texts, v: Value) -> Literal
         },
         Value::Int(n) => halves(LiteralKind::Int, ints::bits::to_bits(n)),
         Value::Float(x) => halves(LiteralKind::Float, value::bits::to_bits(x)),
-        Value::Text(a, n) => Literal {
+        Value::Text(place) => Literal {
             kind: LiteralKind::Text,
-            first: a,
-            second: texts.length_at(Place {
-                address: a,
-                length: n,
-            }),
+            first: place.address,
+            second: texts.length_at(place),
         },
     }
 }

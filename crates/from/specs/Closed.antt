@@ -5,6 +5,7 @@ use Rattle.std.proofs.Math.Path.{◌≡◌, sym}
 use Rattle.std.proofs.Math.Bool.{true, false}
 use mathlib.Core.List.{List, [], ◌∷◌, ◌++◌}
 use Rattle.std.proofs.Math.ListN.{length, get_or, length-set}
+use Rattle.std.proofs.lemmas.List.{nil_from_length}
 use Rattle.rules.specs.Refusals.{statement, Refusal, refused}
 use Rattle.rules.specs.Lists.{Bytes}
 use Rattle.rules.specs.Ast.{join}
@@ -26,16 +27,12 @@ use Rattle.numbers.specs.declared.refusals.Refusal as code
 use Rattle.numbers.specs.Reasons.{told}
 use Rattle.read_expression.specs.declared.reading.Cursor.{Cursor}
 
-nothing : (fs : List Frame) → length fs ≡ 0 → fs ≡ []
-nothing [] e = refl
-nothing (f ∷ fs) e = absurd (omega arith)
-
 module _ {t : Bytes} {p₀ l₀ c₀ k₀ n₀ : ℕ} {cells₀ rows₀ : List ℕ} {p l c k n d : ℕ} {stack : List Open} {cells rows : List ℕ} (h : TreeLoop t p₀ l₀ c₀ k₀ n₀ cells₀ rows₀ true p l c k n d stack cells rows) where
   -- no join is open: the tree is read
   pub loop-end : d ≡ 0 → TreeTook t p₀ l₀ c₀ k₀ n₀ cells₀ cells rows₀ rows p l c k n
   unfolding held lefts
   loop-end z =
-      let e : h.frames ≡ [] = nothing h.frames (sym h.opened ∙ z) in
+      let e : h.frames ≡ [] = nil_from_length h.frames (sym h.opened ∙ z) in
       let x : rest_of true h.fuel [] h.tree (here t p l c k) ≡ turns from_tree (here t p₀ l₀ c₀ k₀) = (rw e at h.is) in
       let y : n + 1 + 2 * k₀ ≡ n₀ + 2 * k = (rw e at h.count) in
       record {
@@ -52,7 +49,7 @@ module _ {t : Bytes} {p₀ l₀ c₀ k₀ n₀ : ℕ} {cells₀ rows₀ : List �
 
   module _ (inner : d ≡ 0 → ⊥) (v : Open) (ev : v ≡ get_or stack (d - 1) unused) where
     never : v.left_read ≡ true → v.left_read ≡ false → ⊥
-    never a b = let z : ◌≡◌ {A = ℕ} 0 1 = cc in omega arith
+    never a b = grind arith
 
     open-as : (f : Frame) (fs : List Frame) → d ≡ length (f ∷ fs) → Holds stack (f ∷ fs) → StandsFor v f
     open-as f fs opened holds = innermost stack f fs ev (omega (arith, opened)) holds
@@ -84,7 +81,7 @@ module _ {t : Bytes} {p₀ l₀ c₀ k₀ n₀ : ℕ} {cells₀ rows₀ : List �
               deep = h.deep;
               position = h.position;
               moved = h.moved;
-              past = λ e. absurd (let w : ◌≡◌ {A = ℕ} 0 1 = cc in omega arith);
+              past = λ e. grind arith;
               more = h.more;
               tables = h.tables;
               begun = h.begun;

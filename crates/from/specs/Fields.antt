@@ -9,7 +9,7 @@ use Rattle.rules.specs.Refusals.{statement}
 use Rattle.rules.specs.Lists.{Bytes, same, named, any, map_option}
 use Rattle.rules.specs.Lines.{Word, bytes}
 use Rattle.rules.specs.Ast.{Join}
-use Rattle.rules.specs.Reader.{base_address, key, rest, line_here, apply, one_of, name, word, both, two_fields, optional_name, name_alias}
+use Rattle.rules.specs.Reader.{key, rest, line_here, apply, one_of, word, both, two_fields, optional_name, name_alias}
 use Rattle.rules.specs.ReadStatement.{FromHead, joins, predicates, from_heads}
 use Rattle.rules.specs.Area.{span, option_span}
 use Rattle.text.specs.Lines.{field, kept_fields, Fields}
@@ -17,11 +17,11 @@ use Rattle.text.specs.Order.{same-swap}
 use Rattle.text.specs.Beside.{beside, beside-named}
 use Rattle.numbers.specs.Options.{option_of}
 use Rattle.std.specs.Option.{option_map}
-use Rattle.text.specs.Numbers.{is_name, name_in, name_out}
-use Rattle.text.specs.Reading.{field_of, key-is, rest-one, rest-two, rest-other}
+use Rattle.text.specs.Numbers.{is_name}
+use Rattle.text.specs.Reading.{key-is, rest-other, with-one, with-two}
 use Rattle.text.specs.Records.{two_fields_lem, name-alias}
 use Rattle.text.specs.declared.Line.{Line}
-use Rattle.text.specs.Fields.{Inside, field-length}
+use Rattle.text.specs.Fields.{Inside, field-length, field-named, field-unnamed}
 use Rattle.read_expression.specs.Heads.{field_fits}
 use Rattle.read_expression.specs.Reading.{here}
 use Rattle.ast.specs.Names.{NameFits}
@@ -44,14 +44,6 @@ row_next z s = rw (← z) s
 
 -- NAMES
 module _ (t : Bytes) (a n : ℕ) (i : Inside t a n) where
-  field-name : is_name n ≡ true → name (field most_bytes t a n) ≡ some (field most_bytes t a n)
-  unfolding field
-  field-name h = name_in _ (ap is_name (field-length t a n i) ∙ h)
-
-  field-none : is_name n ≡ false → name (field most_bytes t a n) ≡ none
-  unfolding field
-  field-none h = name_out _ (ap is_name (field-length t a n i) ∙ h)
-
   field_fit : (c : Bytes) → is_name n ≡ true → NameFits c t (some (field most_bytes t a n))
   unfolding NameFits is_name
   field_fit c h = (field_fits t a n i c, rw (size) (some_byte n h))
@@ -60,18 +52,18 @@ module _ (t : Bytes) (a n : ℕ) (i : Inside t a n) where
       size = unfold field in field-length t a n i
 
       some_byte : (n : ℕ) → is_name n ≡ true → 1 ≤ n
-      some_byte zero h = absurd (let z : ◌≡◌ {A = ℕ} 0 1 = cc in omega arith)
+      some_byte zero h = grind arith
       some_byte (suc n) h = omega arith
 
   pub table_none : is_name n ≡ false → table_fields (field most_bytes t a n ∷ []) ≡ none
   unfolding table_fields map_option name_alias both
-  table_none h = rw (field-none h)
+  table_none h = rw (field-unnamed t a n i h)
 
   pub table-some : (e : ℕ) (p : Place) → is_name n ≡ true → p ≡ record { address = most_bytes + a; length = n }
       → IsFromRow t e (table_fields (field most_bytes t a n ∷ [])) (Some (record { said = S.Table p None; next = e }))
   unfolding RowSays Says table_fields map_option name_alias both optional_name
   table-some e p h x = record {
-    says = rw (field-name h) (record {
+    says = rw (field-named t a n i h) (record {
       is = unfold option_span span field in rw (field-length t a n i, x) (refl, refl);
       fits = λ c. unfold FromFits NameFits in (field_fits t a n i c, tt);
       next = refl;
@@ -81,17 +73,17 @@ module _ (t : Bytes) (a n : ℕ) (i : Inside t a n) where
 module _ (t : Bytes) (a n b m : ℕ) (i : Inside t a n) (j : Inside t b m) where
   pub alias-first : is_name n ≡ false → table_fields (field most_bytes t a n ∷ field most_bytes t b m ∷ []) ≡ none
   unfolding table_fields map_option name_alias both
-  alias-first h = rw (field-none t a n i h)
+  alias-first h = rw (field-unnamed t a n i h)
 
   pub alias-second : is_name n ≡ true → is_name m ≡ false → table_fields (field most_bytes t a n ∷ field most_bytes t b m ∷ []) ≡ none
   unfolding table_fields map_option name_alias both optional_name
-  alias-second h g = rw (field-name t a n i h, field-none t b m j g)
+  alias-second h g = rw (field-named t a n i h, field-unnamed t b m j g)
 
   pub alias-some : (e : ℕ) (p o : Place) → is_name n ≡ true → is_name m ≡ true → p ≡ record { address = most_bytes + a; length = n } → o ≡ record { address = most_bytes + b; length = m }
       → IsFromRow t e (table_fields (field most_bytes t a n ∷ field most_bytes t b m ∷ [])) (Some (record { said = S.Table p (Some o); next = e }))
   unfolding RowSays Says table_fields map_option name_alias both optional_name
   alias-some e p o h g x y = record {
-    says = rw (field-name t a n i h, field-name t b m j g) (record {
+    says = rw (field-named t a n i h, field-named t b m j g) (record {
       is = unfold option_span span field in rw (field-length t a n i, field-length t b m j, x, y) (refl, refl);
       fits = λ c. unfold FromFits in (field_fits t a n i c, field_fit t b m j c g);
       next = refl;
@@ -205,23 +197,15 @@ second-of x a b e = go (same x b) refl
 
 -- r is the line at p
 module _ (t : Bytes) (p l c n : ℕ) (r : Line) (f : Fields t p r) where
-  with-one : r.count ≡ 2 → rest (here t p l c n) ≡ field most_bytes t (get_or r.starts 1 0) (get_or r.lens 1 0) ∷ []
-  unfolding field_of base_address
-  with-one = rest-one statement t p l c n r f
-
-  with_two : r.count ≡ 3 → rest (here t p l c n) ≡ field most_bytes t (get_or r.starts 1 0) (get_or r.lens 1 0) ∷ field most_bytes t (get_or r.starts 2 0) (get_or r.lens 2 0) ∷ []
-  unfolding field_of base_address
-  with_two = rest-two statement t p l c n r f
-
   without : (i : ℕ) → suc i < kept_fields → (r.count ≡ suc i → ⊥) → length (rest (here t p l c n)) ≡ i → ⊥
   without = rest-other statement t p l c n r f
 
   pub fields-one : r.count ≡ 2 → table_fields (rest (here t p l c n)) ≡ table_fields (field most_bytes t (get_or r.starts 1 0) (get_or r.lens 1 0) ∷ [])
-  fields-one m = ap table_fields (with-one m)
+  fields-one m = ap table_fields (with-one t p l c n r f m)
 
   pub fields-two : r.count ≡ 3
       → table_fields (rest (here t p l c n)) ≡ table_fields (field most_bytes t (get_or r.starts 1 0) (get_or r.lens 1 0) ∷ field most_bytes t (get_or r.starts 2 0) (get_or r.lens 2 0) ∷ [])
-  fields-two m = ap table_fields (with_two m)
+  fields-two m = ap table_fields (with-two t p l c n r f m)
 
   pub fields-other : (r.count ≡ 2 → ⊥) → (r.count ≡ 3 → ⊥) → table_fields (rest (here t p l c n)) ≡ none
   unfolding table_fields map_option
@@ -245,7 +229,7 @@ module _ (t : Bytes) (p l c n : ℕ) (r : Line) (f : Fields t p r) where
 
     pub join-two : same first_word (bytes "join") ≡ true → r.count ≡ 3
         → one_of from_heads (line_here (here t p l c n)) ≡ join_fields (field most_bytes t (get_or r.starts 1 0) (get_or r.lens 1 0) ∷ field most_bytes t (get_or r.starts 2 0) (get_or r.lens 2 0) ∷ [])
-    join-two o m = at_join o ∙ ap join_fields (with_two m)
+    join-two o m = at_join o ∙ ap join_fields (with-two t p l c n r f m)
 
     pub join-not : same first_word (bytes "join") ≡ true → (r.count ≡ 3 → ⊥) → one_of from_heads (line_here (here t p l c n)) ≡ none
     unfolding join_fields map_option

@@ -64,7 +64,7 @@ record Whole (o : ℕ) (xs : Bytes) : Type 0 where
 
 whole : (o : ℕ) (xs : Bytes) → closed xs ≡ true → Whole o xs
 unfolding closed fields line_size total empty
-whole o [] e = absurd (let z : ◌≡◌ {A = ℕ} 0 1 = cc in omega arith)
+whole o [] e = grind arith
 whole o (x ∷ xs) e = go (eqb x 10) (eqb x 9) refl refl (whole (suc o) xs)
   where
     go : (a b : Bool) → eqb x 10 ≡ a → eqb x 9 ≡ b → (closed xs ≡ true → Whole (suc o) xs) → Whole o (x ∷ xs)
@@ -90,7 +90,7 @@ broken o [] e = record { many = unfold fields in omega arith; last = unfold fiel
 broken o (x ∷ xs) e = go (eqb x 10) (eqb x 9) refl refl (broken (suc o) xs)
   where
     go : (a b : Bool) → eqb x 10 ≡ a → eqb x 9 ≡ b → (closed xs ≡ false → Broken (suc o) xs) → Broken o (x ∷ xs)
-    go true b h g rec = absurd (let y : true ≡ false = (rw (closed, h) at e) in let z : ◌≡◌ {A = ℕ} 0 1 = cc in omega arith)
+    go true b h g rec = absurd (let y : true ≡ false = (rw (closed, h) at e) in grind arith)
     go false true h g rec =
         let ih = rec (rw (closed, h) at e) in
         record {
@@ -123,7 +123,7 @@ Least n (e ∷ es) = (n ≤ length e.0) × Least n es
 
 named-least : {A : Type 0} (n : ℕ) (t : List (Bytes × A)) (k : Bytes) (a : A) → Least n t → named t k ≡ some a → n ≤ length k
 unfolding named Least
-named-least n [] k a l h = absurd (let z : ◌≡◌ {A = ℕ} 0 1 = cc in omega arith)
+named-least n [] k a l h = grind arith
 named-least n (e ∷ es) k a l h = go (same e.0 k) refl (named-least n es k a l.1)
   where
     go : (b : Bool) → same e.0 k ≡ b → (named es k ≡ some a → n ≤ length k) → n ≤ length k
@@ -144,20 +144,20 @@ unfolding table_fields map_option
 not-join j o r e = go (name_alias r) e
   where
     go : (q : Option (Word × Option Word)) → map_option (λ (q : Word × Option Word). table_head q.0 q.1) q ≡ some (join_head j o) → ⊥
-    go none e = let z : ◌≡◌ {A = ℕ} 0 1 = cc in omega arith
-    go (some q) e = let z : ◌≡◌ {A = ℕ} 0 1 = cc in omega arith
+    go none e = grind arith
+    go (some q) e = grind arith
 
 -- the two words of a join
 join-words : (j : Join) (o : Bool) (r : List Word) → join_fields r ≡ some (join_head j o) → (8 ≤ total r) × (1 ≤ last_size r) × (length r ≡ 2)
 unfolding join_fields map_option two_fields total last_size
-join-words j o [] e = absurd (let z : ◌≡◌ {A = ℕ} 0 1 = cc in omega arith)
-join-words j o (w ∷ []) e = absurd (let z : ◌≡◌ {A = ℕ} 0 1 = cc in omega arith)
-join-words j o (w ∷ (v ∷ (u ∷ r))) e = absurd (let z : ◌≡◌ {A = ℕ} 0 1 = cc in omega arith)
+join-words j o [] e = grind arith
+join-words j o (w ∷ []) e = grind arith
+join-words j o (w ∷ (v ∷ (u ∷ r))) e = grind arith
 join-words j o (w ∷ (v ∷ [])) e = go (word joins w) refl (word predicates v) refl
   where
     go : (a : Option Join) → word joins w ≡ a → (b : Option Bool) → word predicates v ≡ b → (8 ≤ total (w ∷ v ∷ [])) × (1 ≤ last_size (w ∷ v ∷ [])) × (length (w ∷ v ∷ []) ≡ 2)
-    go none h b g = absurd (let y : none ≡ some (join_head j o) = unfold both in (rw h at e) in let z : ◌≡◌ {A = ℕ} 0 1 = cc in omega arith)
-    go (some a) h none g = absurd (let y : none ≡ some (join_head j o) = unfold both in (rw (h, g) at e) in let z : ◌≡◌ {A = ℕ} 0 1 = cc in omega arith)
+    go none h b g = absurd (let y : none ≡ some (join_head j o) = unfold both in (rw h at e) in grind arith)
+    go (some a) h none g = absurd (let y : none ≡ some (join_head j o) = unfold both in (rw (h, g) at e) in grind arith)
     go (some a) h (some b) g =
         let m = named-least 4 joins w.bytes a joins-least (unfold word in h) in
         let n = named-least 2 predicates v.bytes b predicates-least (unfold word in g) in
@@ -172,7 +172,7 @@ module _ (line : rules.Line) (j : Join) (o : Bool) (e : one_of from_heads line �
       go : (a b : Bool) → same (bytes "from") (key_of line) ≡ a → same (bytes "join") (key_of line) ≡ b → (length (key_of line) ≡ 4) × (join_fields (rest_of line) ≡ some (join_head j o))
       go true b h g = absurd (not-join j o (rest_of line) (rw (named, h) at e))
       go false true h g = (sym (same_length (bytes "join") (key_of line) g) ∙ (unfold bytes in refl), rw (named, h, named, g) at e)
-      go false false h g = absurd (let y : none ≡ some (join_head j o) = (rw (named, h, named, g) at e) in let z : ◌≡◌ {A = ℕ} 0 1 = cc in omega arith)
+      go false false h g = absurd (let y : none ≡ some (join_head j o) = (rw (named, h, named, g) at e) in grind arith)
 
   join-size : (13 ≤ total line) × (1 ≤ last_size line)
   unfolding key_of rest_of total
@@ -185,7 +185,7 @@ module _ (line : rules.Line) (j : Join) (o : Bool) (e : one_of from_heads line �
 -- no record of FROM stands at the end of the text
 line-some : (o : ℕ) (xs : Bytes) (h : FromHead) → one_of from_heads (fields o xs) ≡ some h → 1 ≤ line_size xs
 unfolding line_size
-line-some o [] h e = absurd (let y : none ≡ some h = unfold one_of from_heads named apply key_of rest_of fields empty same bytes in e in let z : ◌≡◌ {A = ℕ} 0 1 = cc in omega arith)
+line-some o [] h e = absurd (let y : none ≡ some h = unfold one_of from_heads named apply key_of rest_of fields empty same bytes in e in grind arith)
 line-some o (x ∷ xs) h e = go (eqb x 10) refl
   where
     go : (b : Bool) → eqb x 10 ≡ b → 1 ≤ line_size (x ∷ xs)

@@ -79,7 +79,7 @@ loop-begin {t} {p} {l} {c} {k} {n} {cells} {rows} stack w h = record {
   deep = omega arith;
   position = w.position;
   moved = omega arith;
-  past = λ e. absurd (let z : ◌≡◌ {A = ℕ} 0 1 = cc in omega arith);
+  past = λ e. grind arith;
   more = omega arith;
   tables = w.tables;
   begun = w.count;
@@ -204,7 +204,7 @@ module _ {t : Bytes} {p₀ l₀ c₀ k₀ n₀ : ℕ} {cells₀ rows₀ : List �
             deep = omega (arith, h.deep, push-moves);
             position = next-position t p l c r.next h.position (row-end _ said) (omega (arith, push-moves));
             moved = omega (arith, h.moved, push-moves);
-            past = λ e. absurd (let x : ◌≡◌ {A = ℕ} 0 1 = cc in omega arith);
+            past = λ e. grind arith;
             more = h.more;
             tables = h.tables;
             begun = h.begun;

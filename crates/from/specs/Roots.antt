@@ -191,7 +191,7 @@ module _ (b q : Bytes) (cells froms : List ℕ) where
       → Last b q cells froms n a fs
   last_of zero a fs h =
       absurd (let y : ◌≡◌ {A = List From} [] (a ∷ fs) = sym (trees-none b q cells froms) ∙ h in
-      let z : ◌≡◌ {A = ℕ} 0 1 = cc in omega arith)
+      grind arith)
   last_of (suc r) a fs h =
       let y = sym (trees-next b q cells froms r) ∙ h in
       record { root = r; is = refl; tree = cc; rest = cc }

@@ -12,7 +12,7 @@ use Rattle.rules.specs.Ast.{Expr, Exprs, nil, cons, Join, From, table, join}
 use Rattle.rules.specs.Reader.{Place, Read, stop, give, ◌>>=◌, line_here, line_number, next, one_of, optional}
 use Rattle.rules.specs.ReadExpression.{times, expression}
 use Rattle.rules.specs.ReadStatement.{FromHead, table_head, join_head, from_heads, tabled, from_here, from_body, from_tree}
-use Rattle.text.specs.Answers.{bind_ok, bind-no}
+use Rattle.text.specs.Answers.{bind_ok, bind-no, bind-answer}
 
 -- an open join: its line, the join, whether a predicate follows, and its left side where that is read
 pub data Frame : Type 0 where
@@ -87,10 +87,6 @@ module _ (p : Place) where
 
 -- THE REST OF A TREE
 module _ (p : Place) (g : ℕ) (fs : List Frame) where
-  rest-as : {A B : Type 0} (m : Read A) (n : Read A) (f : A → Read B) (q : Place) → m p ≡ n q → (m >>= f) p ≡ (n >>= f) q
-  unfolding ◌>>=◌
-  rest-as m n f q e = rw (◌>>=◌, e)
-
   pub rest-no : (a : From) (r : Refusal) → from_here p ≡ refused r → rest_of false (suc g) fs a p ≡ refused r
   unfolding rest_of
   rest-no a r e = bind-no (from_tree (suc g)) (plug (suc g) fs) p r (tree-no p g r e)
@@ -101,7 +97,7 @@ module _ (p : Place) (g : ℕ) (fs : List Frame) where
 
   pub rest-join : (a : From) (j : Join) (o : Bool) (q : Place) → from_here p ≡ ok (join_head j o, q) → rest_of false (suc g) fs a p ≡ rest_of false g (first p.line j o ∷ fs) a q
   unfolding rest_of from_body plug
-  rest-join a j o q e = rest-as (from_tree (suc g)) _ (plug (suc g) fs) q (tree-ok p g _ q e) ∙ bind_assoc (from_tree g) _ _ q ∙ bind-same (from_tree g) _ _ q (λ x y.
+  rest-join a j o q e = bind-answer (from_tree (suc g)) _ (plug (suc g) fs) p q (tree-ok p g _ q e) ∙ bind_assoc (from_tree g) _ _ q ∙ bind-same (from_tree g) _ _ q (λ x y.
       bind_assoc (from_tree g) _ _ y ∙ bind-same (from_tree g) _ _ y (λ z u.
       bind_assoc (optional o expression) _ _ u ∙ bind-same (optional o expression) _ _ u (λ w v. bind-give _ (plug (suc g) fs) v)))
 
@@ -153,8 +149,7 @@ module _ (m : Read Expr) (p : Place) where
       go (refused r) e =
           let w : times 1 m p ≡ refused r = rw (◌>>=◌, e) in
           let y : ◌≡◌ {A = Answer (Exprs × Place)} (ok (es, q)) (refused r) = sym h ∙ w in
-          let z : ◌≡◌ {A = ℕ} 0 1 = cc in
-          absurd (omega arith)
+          grind arith
 
   pub single-no : (r : Refusal) → times 1 m p ≡ refused r → optional true m p ≡ refused r
   unfolding times optional give ◌>>=◌
@@ -164,8 +159,7 @@ module _ (m : Read Expr) (p : Place) where
       go (ok s) e =
           let w : times 1 m p ≡ ok (cons s.0 nil, s.1) = rw (◌>>=◌, e) in
           let y : ◌≡◌ {A = Answer (Exprs × Place)} (ok (cons s.0 nil, s.1)) (refused r) = sym w ∙ h in
-          let z : ◌≡◌ {A = ℕ} 0 1 = cc in
-          absurd (omega arith)
+          grind arith
       go (refused s) e =
           let w : times 1 m p ≡ refused s = rw (◌>>=◌, e) in
           let v : optional true m p ≡ refused s = rw (◌>>=◌, e) in

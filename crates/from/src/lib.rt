@@ -64,7 +64,7 @@ const UNUSED: Open = Open {
     left_read: false,
 };
 
-// The same inside a tree: how many joins are open, and whether a side was read.
+// The same inside a tree: how many joins are open, and whether a side was read, after which a join is closed or goes on.
 #[derive(Clone, Copy, Debug, PartialEq, Eq)]
 struct Stand {
     froms: Froms,
@@ -86,8 +86,8 @@ fn put_table(rows: &mut [u32], n: u32, line: u32, name: Place, alias: Option<Pla
 
 // A join in row n: its line and kind, its predicate's row if it has one, and how many rows its sides have.
 fn put_join(rows: &mut [u32], n: u32, join: Open, predicate: Option<u32>, sides: u32)
-    requires fact_1 { row_size * n + row_size ≤ length rows.old }
-    requires fact_2 { option_number (option_of predicate) < 2 ^ 32 }
+    requires row_room { row_size * n + row_size ≤ length rows.old }
+    requires predicate_fits { option_number (option_of predicate) < 2 ^ 32 }
     ensures { rows.new ≡ sets rows.old (row_size * n) (number_of join.kind ∷ join.line ∷ option_number (option_of predicate) ∷ 0 ∷ 0 ∷ 0 ∷ 0 ∷
         sides ∷ []) }
 {
@@ -113,8 +113,8 @@ fn close_join(
     cells: &mut [u32],
     rows: &mut [u32],
 ) -> Result<Cursor, Refusal>
-    requires fact_1 { Position t.now at.position at.line at.rows }
-    requires fact_2 { (n ≤ 30) × (length cells.old ≡ table_size) × (length rows.old ≡ 248) }
+    requires position { Position t.now at.position at.line at.rows }
+    requires room { (n ≤ 30) × (length cells.old ≡ table_size) × (length rows.old ≡ 248) }
     ensures { (k : ℕ) → Given (optional join.on expression)
         (Closed t.now at.rows n join cells.old cells.new rows.old rows.new) t.now at.position at.line at.rows k result }
 {
@@ -135,8 +135,8 @@ fn next_side(
     stack: &mut [Open],
     rows: &mut [u32],
 ) -> Result<Option<Stand>, Refusal>
-    requires fact_1 { RowsBegun t.now s stack.old rows.old }
-    requires fact_2 { s.done ≡ false }
+    requires begun { RowsBegun t.now s stack.old rows.old }
+    requires side_ahead { s.done ≡ false }
     ensures { (cells : List ℕ) → TurnFrom t.now s stack.old stack.new cells cells rows.old rows.new result }
 {
     let at = s.froms.at;
@@ -187,8 +187,8 @@ fn end_side(
     cells: &mut [u32],
     rows: &mut [u32],
 ) -> Result<Option<Stand>, Refusal>
-    requires fact_1 { TreeBegun t.now s stack.old cells.old rows.old }
-    requires fact_2 { s.done ≡ true }
+    requires begun { TreeBegun t.now s stack.old cells.old rows.old }
+    requires side_read { s.done ≡ true }
     ensures { TurnFrom t.now s stack.old stack.new cells.old cells.new rows.old rows.new result }
 {
     if s.open == 0 {
@@ -238,9 +238,9 @@ fn read_joins(
     cells: &mut [u32],
     rows: &mut [u32],
 ) -> Result<Froms, Refusal>
-    requires fact_1 { TreeReady t.now froms.at.position froms.at.line froms.at.rows froms.tables froms.rows cells.old
+    requires ready { TreeReady t.now froms.at.position froms.at.line froms.at.rows froms.tables froms.rows cells.old
         rows.old }
-    requires fact_2 { length t.now < froms.at.position + 13 * length stack.old + 13 }
+    requires stack_room { length t.now < froms.at.position + 13 * length stack.old + 13 }
     ensures { TreeRead t.now froms.at.position froms.at.line froms.at.rows froms.tables froms.rows cells.old cells.new
         rows.old rows.new result }
 {
@@ -305,8 +305,8 @@ pub fn read_froms(
     cells: &mut [u32],
     rows: &mut [u32],
 ) -> Result<Froms, Refusal>
-    requires fact_1 { Position t.now at.position at.line at.rows }
-    requires fact_2 { (length cells.old ≡ table_size) × (length rows.old ≡ 248) }
+    requires position { Position t.now at.position at.line at.rows }
+    requires room { (length cells.old ≡ table_size) × (length rows.old ≡ 248) }
     ensures { FromsRead t.now at.position at.line at.rows cells.old cells.new rows.new result }
 {
     let mut froms = Froms {

@@ -5,8 +5,7 @@ ghost use Rattle.rules.specs.Lines.{bytes};
 ghost use Rattle.rules.specs.Reader.{key, line_here, one_of, rest};
 ghost use Rattle.rules.specs.ReadStatement.{from_heads};
 ghost use Rattle.text.specs.Lines.{line_end};
-ghost use Rattle.text.specs.Lines.{Fields};
-ghost use Rattle.read_expression.specs.Reading.{here};
+ghost use Rattle.read_expression.specs.Reading.{here, LineAt, IsLine};
 ghost use Rattle.from.specs.declared.row.Kind.TheVariants.{Table};
 ghost use Rattle.from.specs.Records.{table_fields, join_fields, IsFromRow};
 
@@ -29,9 +28,10 @@ pub struct FromRecord {
 }
 
 // A table's name, and its alias where the line has one.
-fn table_record(t: &[u8], p: usize, f: Line) -> Option<FromRecord>
-    requires { (length t.now ≤ 65536) × (p ≤ length t.now) × Fields t.now p f }
-    ensures { (l c k : ℕ) → IsFromRow t.now f.next (table_fields (rest (here t.now p l c k))) result }
+fn table_record(f: Line) -> Option<FromRecord>
+    requires { IsLine f }
+    ensures { (t : List ℕ) (p l c k : ℕ) → LineAt t p f
+        → IsFromRow t f.next (table_fields (rest (here t p l c k))) result }
 {
     match f.count {
         2 => {
@@ -81,7 +81,7 @@ pub fn from_record(t: &[u8], p: usize) -> Option<FromRecord>
     let f = text::fields(t, p);
     let word = f.field(t, 0);
     if text::equal(word, b"from") {
-        return table_record(t, p, f);
+        return table_record(f);
     }
     if !text::equal(word, b"join") {
         return None;

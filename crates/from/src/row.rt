@@ -27,6 +27,7 @@ impl From<Kind> for u32 {
 }
 
 // The kind of a number; a right join where it is no other's, which From would not say.
+#[tactic(auto, unfolding(crate::specs::Access::kind_of, numbers::specs::Codes::coded))]
 fn kind_by(k: u32) -> Kind
     ensures { result ≡ access.kind_of k }
 {

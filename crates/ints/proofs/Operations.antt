@@ -3,6 +3,7 @@ use mathlib.Core.Path.{◌≡◌, sym, ◌∙◌, ap}
 use mathlib.Core.Logic.{◌⊎◌, inl, inr}
 use Prim.Native.Nat.{ℕ, zero, suc, ◌%◌, ◌<◌, ◌≤◌, ◌^◌}
 use native.Mathlib.Nat.{pow-le-pow_left}
+use Rattle.std.proofs.Math.Nat.{suc-ne-zero}
 use Rattle.std.proofs.Math.Pow.{pow_mono}
 use native.Mathlib.Omega.{arith}
 use lib.IntN.{ℤ, pos, negsuc, neg_ℤ, nat_abs}
@@ -31,10 +32,7 @@ none (negsuc n) f e = omega (arith, f.sfits)
 
 some-size : (y : ℤ) → (of_z w64 y ≡ 0 → ⊥) → nat_abs y ≡ 0 → ⊥
 some-size (pos n) h e = h e
-some-size (negsuc n) h e = no n e
-  where
-    no : (n : ℕ) → suc n ≡ 0 → ⊥
-    no n e = omega arith
+some-size (negsuc n) h e = suc-ne-zero n e
 
 module _ (x y : ℤ) (k : SFits w64 y) (z : of_z w64 y ≡ 0) where
   pub quotient-none : checked (Err Re.DivisionByZero) ≡ quotient x y

@@ -1,8 +1,8 @@
 -- What is left of a factorial's product.
 use mathlib.Core.Logic.{◌⊎◌, inl, inr}
-use mathlib.Core.Path.{◌≡◌, sym, ◌∙◌, ap, subst}
+use mathlib.Core.Path.{◌≡◌, sym, ◌∙◌, ap}
 use Prim.Native.Nat.{ℕ, zero, suc, ◌+◌, ◌-◌, ◌*◌, ◌<◌, ◌≤◌, ◌^◌}
-use native.Mathlib.Nat.{mul-one, mul-le-mul_left}
+use Rattle.std.proofs.Math.Nat.{le-mul_of_pos_right}
 use native.Mathlib.Numerals.{add-one}
 use native.Mathlib.Omega.{arith}
 use lib.IntN.{pos}
@@ -18,16 +18,13 @@ unfolding product
 product-over zero k a h = over (pos a) h
 product-over (suc n) k a h = over (pos a) h ∙ ap (λ (m : ℕ). fitted (pos m)) (sym (rw (product, le-ltb a (2 ^ 63) h)))
 
-larger : (a k : ℕ) → 0 < k → a ≤ a * k
-larger a k h = subst (λ (n : ℕ). n ≤ a * k) (mul-one a) (mul-le-mul_left a h)
-
 next : (n k a : ℕ) → 0 < k → fitted (pos (product n (suc k) (a * k))) ≡ fitted (pos (product (suc n) k a))
 unfolding product
 next n k a p = go (cases_lt a (2 ^ 63))
   where
     go : (a < 2 ^ 63) ⊎ (2 ^ 63 ≤ a) → fitted (pos (product n (suc k) (a * k))) ≡ fitted (pos (product (suc n) k a))
     go (inl h) = ap (λ (m : ℕ). fitted (pos m)) (sym (rw (product, lt-ltb a (2 ^ 63) h)))
-    go (inr h) = sym (product-over n (suc k) (a * k) (omega (arith, larger a k p))) ∙ product-over (suc n) k a h
+    go (inr h) = sym (product-over n (suc k) (a * k) (omega (arith, le-mul_of_pos_right a p))) ∙ product-over (suc n) k a h
 
 -- p times the factors from k to n is the factorial of n
 abbrev pub Left : ℕ → ℕ → ℕ → Type 0

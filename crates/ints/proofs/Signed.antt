@@ -1,8 +1,7 @@
 -- What the machine reads back of a signed number of 64 bits.
-use mathlib.Core.Bool.{true, false}
-use mathlib.Core.Path.{◌≡◌, refl, sym, ap, ◌∙◌, subst, subst⁻¹}
+use mathlib.Core.Bool.{true, false, false≢true}
+use mathlib.Core.Path.{◌≡◌, refl, sym, ap, ◌∙◌, subst⁻¹}
 use Prim.Native.Nat.{ℕ, ◌<◌, ◌^◌, zero-le}
-use lib.Dec.{T}
 use lib.IntN.{ℤ, pos, negsuc, nat_abs}
 use lib.Signed.{mag, lt_z}
 use borrow.Author.Tests.{le-ltb}
@@ -10,9 +9,6 @@ use mir.Syntax.{w64}
 use mir.Val.{SFits, to_z, of_z}
 use mir.ValLaws.{to_z-of_z}
 use Rattle.rules.specs.Area.{bits}
-
-pub never : {X : Type 0} → false ≡ true → X
-never e = absurd (subst T (sym e) tt)
 
 abbrev pub stored : ℤ → ℤ
 stored x = to_z w64 (of_z w64 x)
@@ -37,7 +33,7 @@ module _ (x : ℤ) (f : SFits w64 x) where
   below e P k = go x (sym (ap (λ (z : ℤ). lt_z z (pos 0)) (read x f)) ∙ e)
     where
       go : (x : ℤ) → lt_z x (pos 0) ≡ true → P x
-      go (pos n) e = never (sym (le-ltb n 0 zero-le) ∙ e)
+      go (pos n) e = absurd (false≢true (sym (le-ltb n 0 zero-le) ∙ e))
       go (negsuc n) e = k n
 
   pub from : lt_z (stored x) (pos 0) ≡ false → pos (nat_abs (stored x)) ≡ x
@@ -45,4 +41,4 @@ module _ (x : ℤ) (f : SFits w64 x) where
     where
       go : (x : ℤ) → lt_z x (pos 0) ≡ false → pos (nat_abs x) ≡ x
       go (pos n) e = refl
-      go (negsuc n) e = never (sym e)
+      go (negsuc n) e = absurd (false≢true (sym e))

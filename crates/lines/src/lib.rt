@@ -1,6 +1,6 @@
-// The line reader: a text that is lent, with the place where reading stands in it. Its methods are thin: each takes the reader
-// apart and calls a function on the slice and the numbers. Other code calls `first_fields` and `line_at`, whose parameters are
-// plain.
+// The line reader: document 01 asks for a struct that holds a lent text and the place where reading stands. Its
+// methods are thin: each takes the reader apart and calls a function on the slice and the numbers. Other code calls `first_fields`
+// and `line_at`, whose parameters are plain.
 #![tactic(auto)]
 
 ghost use Rattle.std.specs.Prelude.{◌≡◌, ◌+◌, ◌<◌, ◌^◌};

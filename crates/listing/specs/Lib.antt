@@ -8,6 +8,7 @@ pub mod Places
 pub mod Cells
 pub mod Nodes
 pub mod Rows
+pub mod Parts
 pub mod Behind
 pub mod Own
 pub mod Listed

@@ -1,10 +1,11 @@
 -- What the listing's answer says of a window: it has the rest of the bytes, or is full of them.
-use Rattle.std.specs.Prelude.{ℕ, zero, suc, ◌+◌, ◌-◌, ◌≤◌, ◌<◌, ◌≡◌, refl, List, [], ◌∷◌, take, Option, None, Some}
+use Rattle.std.specs.Prelude.{ℕ, ◌+◌, ◌-◌, ◌≤◌, ◌<◌, ◌≡◌, refl, List, [], ◌∷◌, take, Option, None, Some}
 use native.Mathlib.Omega.{arith}
-use Rattle.std.proofs.Common.{zero-add, suc-add, ◌∙◌, take_all, length-take-le}
+use Rattle.std.proofs.Common.{◌∙◌, take_all, length-take-le}
 use Rattle.std.proofs.Math.Path.{sym, ap}
 use Rattle.std.proofs.Math.ListN.{length, drop}
-use Rattle.std.proofs.Math.Seq.{take-length, take-nil}
+use Rattle.std.proofs.Math.Seq.{take-length}
+use Rattle.std.proofs.lemmas.List.{drop-take}
 use Rattle.io.specs.Counts.{IsPrefixLen}
 use Rattle.rules.specs.Refusals.{Text, catalog, statement, refusal_number, Refusal, refused}
 use Rattle.rules.specs.Lists.{Bytes}
@@ -15,11 +16,6 @@ use Rattle.text.specs.Words.{words_of, push}
 use Rattle.listing.specs.Words.{word_of}
 use Rattle.listing.specs.Put.{Put}
 
-drop-take : (n m : ℕ) (b : Bytes) → drop n (take (n + m) b) ≡ take m (drop n b)
-drop-take zero m b = ap (λ i. take i b) (zero-add m)
-drop-take (suc n) m [] = rw (take-nil {A = ℕ} (suc n + m), take-nil {A = ℕ} m)
-drop-take (suc n) m (x ∷ b) = rw (suc-add n m) (drop-take n m b)
-
 -- what is left of a window, as the answer tells it
 unfoldable pub Told : ℕ → Option ℕ → Type 0
 Told left (Some n) = (0 < left) × (n ≡ 65536 - left)
@@ -29,14 +25,6 @@ Told left None = left ≡ 0
 unfoldable pub Holds : Bytes → List ℕ → Option ℕ → Type 0
 Holds b s (Some n) = (n < length s) × (take n s ≡ b)
 Holds b s None = (length s ≡ 65536) × (s ≡ take 65536 b)
-
-pub told-full : (left : ℕ) → left ≡ 0 → Told left None
-unfolding Told
-told-full left e = e
-
-pub told-bytes : (left : ℕ) {n : ℕ} → (left ≡ 0 → ⊥) → n ≡ 65536 - left → Told left (Some n)
-unfolding Told
-told-bytes left h e = (omega (arith, h), e)
 
 -- a window that starts behind `from` bytes of b
 module _ {s s' : List ℕ} {b : Bytes} {at left : ℕ} (from : ℕ) (w : length s ≡ 65536) (a : at ≡ from + 65536)

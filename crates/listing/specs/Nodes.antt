@@ -14,7 +14,7 @@ use Rattle.rules.specs.Places.{bytes_at}
 use Rattle.rules.specs.Print.{decimal_of}
 use Rattle.rules.specs.Area.{header_size}
 use Rattle.listing.specs.Words.{word_of}
-use Rattle.listing.specs.Choices.{choose}
+use Rattle.listing.specs.Choices.{choose, choose-none, Misses}
 use Rattle.listing.specs.Lines.{listed, each}
 
 -- PARTS
@@ -149,10 +149,17 @@ node-none k n = elim (dec_lt k 11) [
   | no y ↦ sym (node-past k (omega (arith, y)))
 ]
 
--- the line of node i: its kind, how many numbers it has, and those
+-- what a node's line has behind its number: its kind, how many numbers it has, and those
+unfoldable pub node_fields : Bytes → Bytes → List ℕ → List Bytes
+node_fields c q s = node_word (get_or s 0 0) ∷ node_rest c q (get_or s 0 0) (take (get_or s 1 0) (drop 2 s))
+
+pub rest-none : (c q : Bytes) (k : ℕ) (b : List ℕ) → ((kind : Kind) → k ≡ node_number kind → ⊥) → [] ≡ node_rest c q k b
+unfolding node_rest Misses
+rest-none c q k b n = choose-none _ _ _ (n K.Scan, (n K.Values, (n K.Join, (n K.Filter, (n K.Aggregate, (n K.Project, (n K.Order, (n K.Offset, (n K.Limit, (n K.Remap, tt))))))))))
+
+-- the line of node i
 unfoldable pub node_line : Bytes → Bytes → ℕ → List ℕ → List (List Bytes)
-node_line c q i s =
-    (bytes "node" ∷ decimal_of i ∷ node_word (get_or s 0 0) ∷ node_rest c q (get_or s 0 0) (take (get_or s 1 0) (drop 2 s))) ∷ []
+node_line c q i s = (bytes "node" ∷ decimal_of i ∷ node_fields c q s) ∷ []
 
 -- the numbers from the node behind the first i on
 unfoldable pub behind : ℕ → List ℕ → List ℕ
@@ -167,10 +174,6 @@ unfoldable pub node_lines : Bytes → Bytes → List ℕ → List (List Bytes)
 node_lines c q a = nodes_from c q (get_or a 3 0) (drop (header_size + get_or a 2 0 * 4) a)
 
 -- BY CASES
-pub alias-none : (c q : Bytes) (a n : ℕ) → n ≡ 0 → [] ≡ alias_fields c q a n
-unfolding alias_fields
-alias-none c q a n h = rw (alias_fields, eq-eqb n 0 h)
-
 pub alias-some : (c q : Bytes) (a n : ℕ) → (n ≡ 0 → ⊥) → bytes "as" ∷ bytes_at c q a n ∷ [] ≡ alias_fields c q a n
 unfolding alias_fields
 alias-some c q a n h = rw (alias_fields, ne_eqb n 0 h)

@@ -1,7 +1,9 @@
 -- The statement's own lines and the whole listing, from the numbers of an area.
 use Rattle.std.specs.Prelude.{ℕ, ◌-◌, ◌≡◌, true, false, List, [], ◌∷◌, ◌++◌, eqb, get_or, drop}
-use Rattle.std.specs.Prelude.{◌≤◌, refl}
-use Rattle.std.proofs.Common.{arith, sym, ap, ◌∙◌, eq-eqb, ne_eqb}
+use Rattle.std.specs.Prelude.{◌≤◌, refl, Option, Some, None, Result, Ok, Err, MatchOption, MatchResult, IsSomeAnd}
+use Rattle.std.specs.Option.{unwrap_or}
+use Rattle.std.specs.Result.{result_ok}
+use Rattle.std.proofs.Common.{Bor, arith, sym, ap, ◌∙◌, eq-eqb, ne_eqb}
 use Rattle.std.proofs.Math.Decide.{dec_lt}
 use Rattle.std.proofs.lemmas.List.{get_or_past}
 use Rattle.text.specs.Words.{words_of, push}
@@ -13,7 +15,7 @@ use Rattle.rules.specs.Lines.{bytes}
 use Rattle.rules.specs.Places.{bytes_at}
 use Rattle.rules.specs.Print.{decimal_of, show_lines}
 use Rattle.listing.specs.Words.{word_of}
-use Rattle.listing.specs.Choices.{choose}
+use Rattle.listing.specs.Choices.{choose, choose-none, Misses}
 use Rattle.listing.specs.Lines.{each}
 use Rattle.listing.specs.Cells.{value_rest, cell_lines}
 use Rattle.listing.specs.Nodes.{node_lines}
@@ -148,10 +150,48 @@ pub map-some : (x : ℕ) (t : List ℕ) → (x ≡ 0 → ⊥)
 unfolding map_lines
 map-some x t h = rw (map_lines, ne_eqb x 0 h)
 
-pub reference-none : (c q : Bytes) (a n : ℕ) → n ≡ 0 → [] ≡ reference_fields c q a n
-unfolding reference_fields
-reference-none c q a n h = rw (reference_fields, eq-eqb n 0 h)
-
 pub reference-some : (c q : Bytes) (a n : ℕ) → (n ≡ 0 → ⊥) → bytes_at c q a n ∷ [] ≡ reference_fields c q a n
 unfolding reference_fields
 reference-some c q a n h = rw (reference_fields, ne_eqb n 0 h)
+
+-- BY THE KIND of the statement
+-- the word of a kind, and the empty word of none
+unfoldable pub word_of_kind : Option Kind → Bytes
+word_of_kind None = []
+word_of_kind (Some kind) = statement_named kind
+
+pub kind-mapped : (kind : Option Kind) (r : Option (Bor (List ℕ))) (d : Bor (List ℕ))
+    → MatchOption kind (r ≡ None) (λ x. IsSomeAnd r (λ w. w.now ≡ statement_named x)) → {w : Bor (List ℕ)} → w ≡ unwrap_or r d → d.now ≡ []
+    → w.now ≡ word_of_kind kind
+unfolding word_of_kind
+kind-mapped None r d h e z = rw (e, h) z
+kind-mapped (Some kind) (Some x) d h e z = rw e h
+kind-mapped (Some kind) None d h e z = absurd h
+
+-- the first line by the kind
+unfoldable pub header_of : Option Kind → List ℕ → List (List Bytes)
+header_of kind a = (bytes "plan" ∷ word_of_kind kind ∷ decimal_of (get_or a 3 0) ∷ decimal_of (get_or a 2 0) ∷ []) ∷ []
+
+-- the kind that has the number n, if one has
+unfoldable pub KindOf : ℕ → Option Kind → Type 0
+KindOf n None = (kind : Kind) → n ≡ statement_number kind → ⊥
+KindOf n (Some kind) = n ≡ statement_number kind
+
+pub kind-of : {E : Type 0} (n : ℕ) (r : Result Kind E) {o : Option Kind}
+    → MatchResult r (λ kind. n ≡ statement_number kind) (λ e. (kind : Kind) → n ≡ statement_number kind → ⊥) → o ≡ result_ok r → KindOf n o
+unfolding KindOf
+kind-of n (Ok kind) h e = rw e h
+kind-of n (Err x) h e = rw e h
+
+word-of : (n : ℕ) (kind : Option Kind) → KindOf n kind → word_of_kind kind ≡ statement_word n
+unfolding KindOf word_of_kind
+word-of n None h = statement-none n h
+word-of n (Some kind) h = statement-is n kind h
+
+pub header-is : (a : List ℕ) (kind : Option Kind) → KindOf (get_or a 1 0) kind → header_of kind a ≡ header_line a
+unfolding header_of header_line
+header-is a kind h = rw (word-of (get_or a 1 0) kind h)
+
+pub own-none : (c q : Bytes) (k n : ℕ) (o : List ℕ) → ((kind : Kind) → k ≡ statement_number kind → ⊥) → [] ≡ own_lines c q k n o
+unfolding own_lines Misses
+own-none c q k n o h = choose-none _ _ _ (h K.Create, (h K.Drop, (h K.Delete, (h K.Insert, (h K.Update, tt)))))

@@ -21,6 +21,7 @@ use Rattle.rules.specs.Print.{show_nodes, show_plan}
 use Rattle.claims.specs.Answers.{ensured}
 use Rattle.claims.specs.Area.Accepted.{catalog-read}
 use Rattle.claims.specs.Area.PlanReadable.{plan-readable}
+use Rattle.claims.specs.Area.PlanReadsBack.{code-kept}
 use Rattle.claims.specs.Area.Readable.{Readable}
 use Rattle.appends.specs.Area.{cells-four, cells_numbers}
 use Rattle.text.specs.Words.{words_of, push}
@@ -52,15 +53,6 @@ nodes-zero : (c q : Bytes) (n : ℕ) (t : List ℕ)
     → listed n (λ i. node_line c q i (behind i t)) ≡ listed n (λ i. node_line c q (0 + i) (behind i t))
 nodes-zero c q n t = listed_same n (λ i. node_line c q i (behind i t)) (λ i. node_line c q (0 + i) (behind i t))
     λ i. ap (λ j. node_line c q j (behind i t)) (sym (zero-add i))
-
-number-code : (p : Plan Built) → plan_code p ≡ plan_code (number_plan p)
-unfolding plan_code number_plan
-number-code (P.select n) = refl
-number-code (P.create n k cs) = refl
-number-code (P.drop n y) = refl
-number-code (P.delete t n) = refl
-number-code (P.insert t m n) = refl
-number-code (P.update t n xs) = refl
 
 -- THE PARTS behind a header of six numbers
 module _ (h1 h2 h3 h4 h5 h6 : ℕ) (cs ns o z : List ℕ) where
@@ -114,7 +106,7 @@ module _ (c q : Bytes) (ts : Catalog) (p : Plan Built) (z : List ℕ) (h : Reada
       let os = own_numbers (number_plan p) in
       ap (own_lines c q (plan_code p) (length (plan_records (number_plan p)) - 1))
       (drop-nodes _ _ _ _ _ _ (cell_part p) (node_part p) os z)
-      ∙ (ap (λ k. own_lines c q k (length (plan_records (number_plan p)) - 1) (os ++ z)) (number-code p)
+      ∙ (ap (λ k. own_lines c q k (length (plan_records (number_plan p)) - 1) (os ++ z)) (sym (code-kept p))
       ∙ own-shown c q ts (number_plan p) z h.own)
 
   lines-shown : area_lines c q (plan_numbers p ++ z)

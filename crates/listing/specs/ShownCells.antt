@@ -22,7 +22,7 @@ use Rattle.numbers.specs.Bits.{signed}
 use Rattle.claims.specs.Area.ReadArea.{long_here, value_forms}
 use Rattle.claims.specs.Area.Readable.{ReadableValue, ReadableCell}
 use Rattle.claims.specs.Area.AreaReadsBack.{value-reads}
-use Rattle.appends.specs.Area.{cell-four}
+use Rattle.claims.specs.Room.Nodes.{cell-size}
 use Rattle.text.specs.Words.{words_of, push}
 use Rattle.listing.specs.Choices.{choose}
 use Rattle.listing.specs.Lines.{listed, each, each_first, listed_same}
@@ -123,6 +123,6 @@ cells-shown c q (x ∷ xs) k t h =
     let u = concat (map cell_numbers xs) ++ t in
     let z : k + 0 ≡ k = omega arith in
     rw (append_assoc (cell_numbers x) (concat (map cell_numbers xs)) t)
-    (each_first (length xs) 4 (λ i. cell_line c q (k + i)) (cell_numbers x) u (cell-four x)
+    (each_first (length xs) 4 (λ i. cell_line c q (k + i)) (cell_numbers x) u (cell-size x)
     ∙ rw (z, cell-shown c q x u h.0) (ap (λ r. (bytes "cell" ∷ decimal_of k ∷ show_cell x) ∷ r)
     (each-shift (length xs) 4 k (cell_line c q) u ∙ cells-shown c q xs (suc k) t h.1)))

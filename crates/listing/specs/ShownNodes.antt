@@ -1,6 +1,6 @@
 -- The lines of nodes are those that the rules print.
-use Rattle.std.specs.Prelude.{ℕ, zero, suc, ◌+◌, ◌*◌, ◌-◌, ◌/◌, ◌≡◌, refl, Bool, true, false, List, [], ◌∷◌, ◌++◌, map, length, get_or, drop, take}
-use Rattle.std.proofs.Common.{arith, sym, ap, ◌∙◌, append_assoc, length-append}
+use Rattle.std.specs.Prelude.{ℕ, zero, suc, ◌+◌, ◌-◌, ◌/◌, ◌≡◌, refl, Bool, true, false, List, [], ◌∷◌, ◌++◌, map, length, get_or, drop}
+use Rattle.std.proofs.Common.{arith, sym, ap, ◌∙◌, append_assoc}
 use Rattle.std.proofs.Math.Option.{Option, none, some}
 use Rattle.std.proofs.Math.Seq.{take-append_seam, drop-append_seam}
 use Rattle.rules.specs.Lists.{Bytes, concat}
@@ -16,6 +16,7 @@ use Rattle.rules.specs.Print.{show_items, show_keys, show_functions, show_record
 use Rattle.claims.specs.Answers.{All, Given}
 use Rattle.claims.specs.Words.Places.{Placed}
 use Rattle.claims.specs.Area.Readable.{ReadableAlias, ReadableTable, ReadableRecord}
+use Rattle.claims.specs.Room.Nodes.{alias-size, functions-size, items-size, keys-size}
 use Rattle.text.specs.Words.{words_of, push}
 use Rattle.listing.specs.Words.{word_of}
 use Rattle.listing.specs.Choices.{choose}
@@ -23,7 +24,7 @@ use Rattle.listing.specs.Lines.{listed, listed_same, listed-first, each, each_fi
 use Rattle.listing.specs.Nodes.{alias_fields, given_fields, number_fields, function_fields, functions_fields, item_fields}
 use Rattle.listing.specs.Nodes.{items_fields, key_fields, keys_fields, target_fields, targets_fields, row_fields, scan_fields}
 use Rattle.listing.specs.Nodes.{join_fields, filter_fields, aggregate_fields, project_fields, order_fields, limit_fields}
-use Rattle.listing.specs.Nodes.{remap_fields, node_rest, node_word, node_line, behind, alias-some, given-some, target-some}
+use Rattle.listing.specs.Nodes.{remap_fields, node_rest, node_word, node_fields, node_line, behind, alias-some, given-some, target-some}
 use Rattle.listing.specs.ShownCells.{joined}
 
 -- PARTS
@@ -71,11 +72,6 @@ aggregate-word max = refl
 aggregate-word min = refl
 aggregate-word sum = refl
 
-functions-size : (fs : List (Aggregate × ℕ)) → length (function_numbers fs) ≡ length fs * 2
-unfolding function_numbers
-functions-size [] = refl
-functions-size (f ∷ fs) = omega (arith, functions-size fs)
-
 functions-each : (fs : List (Aggregate × ℕ)) → each (length fs) 2 function_fields (function_numbers fs) ≡ show_functions fs
 unfolding each listed function_fields function_numbers show_functions
 functions-each [] = refl
@@ -89,22 +85,12 @@ functions-shown fs =
     let e : length (function_numbers fs) / 2 ≡ length fs = omega (arith, functions-size fs) in
     rw e (functions-each fs)
 
-span-two : (a : Option Word) → length (option_span a) ≡ 2
-unfolding option_span span
-span-two none = refl
-span-two (some w) = refl
-
-items-size : (xs : List (ℕ × Option Word)) → length (item_numbers xs) ≡ length xs * 3
-unfolding item_numbers
-items-size [] = refl
-items-size (x ∷ xs) = omega (arith, length-append (option_span x.1) (item_numbers xs), span-two x.1, items-size xs)
-
 items-each : (c q : Bytes) (xs : List (ℕ × Option Word)) → All (λ x. Given (ReadableAlias c q) x.1) xs
     → each (length xs) 3 (item_fields c q) (item_numbers xs) ≡ show_items xs
 unfolding each listed item_fields item_numbers show_items All
 items-each c q [] h = refl
 items-each c q (x ∷ xs) h =
-    each_first (length xs) 3 (item_fields c q) (x.0 ∷ option_span x.1) (item_numbers xs) (ap suc (span-two x.1))
+    each_first (length xs) 3 (item_fields c q) (x.0 ∷ option_span x.1) (item_numbers xs) (ap suc (alias-size x.1))
     ∙ rw (alias-shown c q x.1 (item_numbers xs) h.0)
     (ap (λ r. decimal_of x.0 ∷ (show_alias x.1 ++ r)) (items-each c q xs h.1))
 
@@ -119,11 +105,6 @@ direction-word : (b : Bool) → word_of (bytes "asc desc ") (flag b) ≡ directi
 unfolding flag direction bytes words_of push
 direction-word true = refl
 direction-word false = refl
-
-keys-size : (xs : List (ℕ × Bool)) → length (key_numbers xs) ≡ length xs * 2
-unfolding key_numbers
-keys-size [] = refl
-keys-size (x ∷ xs) = omega (arith, keys-size xs)
 
 keys-each : (xs : List (ℕ × Bool)) → each (length xs) 2 key_fields (key_numbers xs) ≡ show_keys xs
 unfolding each listed key_fields key_numbers show_keys
@@ -183,10 +164,6 @@ unfolding aggregate_fields
 aggregate-shown n gs fs =
     let e : 2 + length gs ≡ suc (suc (length gs)) = omega arith in
     rw (e, numbers-shown gs (function_numbers fs), drop-append_seam gs (function_numbers fs), functions-shown fs)
-
--- what a node's line has behind its number
-unfoldable pub node_fields : Bytes → Bytes → List ℕ → List Bytes
-node_fields c q s = node_word (get_or s 0 0) ∷ node_rest c q (get_or s 0 0) (take (get_or s 1 0) (drop 2 s))
 
 node-body : (c q : Bytes) (k : ℕ) (b t : List ℕ) → node_fields c q (sized k b ++ t) ≡ node_word k ∷ node_rest c q k b
 unfolding node_fields sized

@@ -1,6 +1,7 @@
 -- The statement's own lines are those that the rules print.
-use Rattle.std.specs.Prelude.{ℕ, zero, suc, ◌+◌, ◌-◌, pred, ◌≡◌, refl, Bool, true, false, List, [], ◌∷◌, ◌++◌, map, length, get_or, drop}
+use Rattle.std.specs.Prelude.{ℕ, suc, ◌+◌, ◌-◌, ◌≡◌, refl, Bool, true, false, List, [], ◌∷◌, ◌++◌, map, length, get_or, drop}
 use Rattle.std.proofs.Common.{arith, zero-add, sym, ap, ◌∙◌, append_assoc}
+use Rattle.std.proofs.Math.Numerals.{sub-one}
 use Rattle.std.proofs.Math.Option.{Option, none, some}
 use Rattle.rules.specs.Lists.{Bytes, concat}
 use Rattle.rules.specs.Lines.{Word, bytes}
@@ -17,7 +18,7 @@ use Rattle.claims.specs.Answers.{All, Given}
 use Rattle.claims.specs.Words.Places.{Placed}
 use Rattle.claims.specs.Area.NodeTree.{records-length}
 use Rattle.claims.specs.Area.Readable.{ReadableValue, ReadableAlias, ReadableTable, ReadableMade, ReadableOwn}
-use Rattle.appends.specs.Area.{made-twelve}
+use Rattle.claims.specs.Room.Nodes.{mapping-size, made-size}
 use Rattle.text.specs.Words.{words_of, push}
 use Rattle.listing.specs.Words.{word_of}
 use Rattle.listing.specs.Choices.{choose}
@@ -29,13 +30,9 @@ use Rattle.listing.specs.Own.{own_lines, map-some, reference-some}
 use Rattle.listing.specs.ShownCells.{value-shown}
 
 -- the last of a node's records is the node
-minus_one : (m : ℕ) → m - 1 ≡ pred m
-minus_one zero = refl
-minus_one (suc m) = omega arith
-
 source-shown : (n : Node ℕ) → length (records 0 n) - 1 ≡ last 0 n
 unfolding last
-source-shown n = rw (records-length n 0, zero-add (nodes n)) (minus_one (nodes n))
+source-shown n = rw (records-length n 0, zero-add (nodes n)) (sub-one (nodes n))
 
 yes-word : (b : Bool) → word_of (bytes "no yes ") (flag b) ≡ yes_no b
 unfolding flag yes_no bytes words_of push
@@ -49,13 +46,6 @@ sets-shown [] u = refl
 sets-shown (x ∷ xs) u =
     each_first (length xs) 2 (pair_line (bytes "set")) (x.0 ∷ x.1 ∷ []) (set_numbers xs ++ u) refl
     ∙ ap (λ l. (bytes "set" ∷ decimal_of x.0 ∷ decimal_of x.1 ∷ []) ∷ l) (sets-shown xs u)
-
-mapping-two : (m : Mapping) → length (mapping_numbers m) ≡ 2
-unfolding mapping_numbers
-mapping-two m = go m.column m.value
-  where
-    go : (a : TablePosition) (b : ValuePosition) → length (mapping_numbers (record { column = a; value = b })) ≡ 2
-    go (cindex i) (vindex j) = refl
 
 mapping-shown : (m : Mapping) (t : List ℕ) → pair_line (bytes "map") 0 (mapping_numbers m ++ t) ≡ show_mapping m ∷ []
 unfolding mapping_numbers show_mapping pair_line
@@ -76,7 +66,7 @@ maps-shown [] u = refl
 maps-shown (m ∷ ms) u =
     let v = concat (map mapping_numbers ms) ++ u in
     rw (append_assoc (mapping_numbers m) (concat (map mapping_numbers ms)) u)
-    (each_first (length ms) 2 (pair_line (bytes "map")) (mapping_numbers m) v (mapping-two m)
+    (each_first (length ms) 2 (pair_line (bytes "map")) (mapping_numbers m) v (mapping-size m)
     ∙ rw (mapping-shown m v) (ap (λ l. show_mapping m ∷ l) (pairs-later (bytes "map") (length ms) v ∙ maps-shown ms u)))
 
 map-shown : (m : Option (List Mapping)) (u : List ℕ)
@@ -175,7 +165,7 @@ columns-shown c q [] u h = refl
 columns-shown c q (m ∷ cs) u h =
     let v = concat (map made_numbers cs) ++ u in
     rw (append_assoc (made_numbers m) (concat (map made_numbers cs)) u)
-    (each_first (length cs) 12 (column_lines c q) (made_numbers m) v (made-twelve m)
+    (each_first (length cs) 12 (column_lines c q) (made_numbers m) v (made-size m)
     ∙ rw (made-shown c q m v h.0) (ap (λ l. show_column m ∷ (show_default m.default ∷ l)) (columns-shown c q cs u h.1)))
 
 -- BY STATEMENT

@@ -1,8 +1,10 @@
 // The lines of an area's cells: four numbers each, the first of them the kind.
-ghost use Rattle.std.specs.Prelude.{◌≡◌, drop};
+ghost use Rattle.std.specs.Prelude.{◌≡◌, get_or, drop};
+ghost use Rattle.rules.specs.Area.{option_number};
+ghost use Rattle.numbers.specs.Options.{option_of};
 ghost use Rattle.listing.specs.Fields.{FieldsIn};
 ghost use Rattle.listing.specs.Lines.{LinesIn};
-ghost use Rattle.listing.specs.Places.{place_at};
+ghost use Rattle.listing.specs.Places.{place_at, optional_place_at};
 ghost use Rattle.listing.specs.Cells.{value_rest, cell_fields, cell_line, cell_lines};
 
 use crate::put::Writer;
@@ -34,16 +36,31 @@ pub fn place_at(s: &[u32], p: usize) -> Place
     }
 }
 
+// The place that two numbers have as `place_at` says; none where its length is 0.
+pub fn optional_place_at(s: &[u32], p: usize) -> Option<Place>
+    ensures { result ≡ optional_place_at s.now p }
+{
+    let place = place_at(s, p);
+    Place::of_numbers(place.address, place.length)
+}
+
+// A number that stands as one more than it is; none where 0 stands for it.
+pub fn optional(x: u32) -> Option<u32>
+    ensures { option_number (option_of result) ≡ x }
+{
+    x.checked_sub(1)
+}
+
 impl<'a> Writer<'a> {
-    // What stands behind a constant's kind k.
-    pub fn constant(&mut self, k: u32, s: &[u32])
-        ensures { FieldsIn self.old self.new (λ c q. value_rest c q k s.now) }
+    // What stands behind the kind of a constant, from its numbers.
+    pub fn constant(&mut self, s: &[u32])
+        ensures { FieldsIn self.old self.new (λ c q. value_rest c q (get_or s.now 0 0) s.now) }
     {
         let a = number(s, 1);
         let b = number(s, 2);
-        match LiteralKind::of_number(k) {
+        match LiteralKind::of_number(number(s, 0)) {
             LiteralKind::Null => {}
-            LiteralKind::Bool => self.word(b"f t ", a),
+            LiteralKind::Bool => self.word(&[b"f", b"t"], a),
             LiteralKind::Int => self.integer(joined(a, b)),
             LiteralKind::Float => self.bits(joined(a, b)),
             LiteralKind::Text => self.place(Place {
@@ -59,11 +76,15 @@ impl<'a> Writer<'a> {
     {
         let k = number(s, 0);
         self.word(
-            b" null bool int float text col  not fact ident neg sqrt  is is and or eq gt lt add div pow mul rem sub like ",
+            &[
+                b"", b"null", b"bool", b"int", b"float", b"text", b"col", b"", b"not", b"fact",
+                b"ident", b"neg", b"sqrt", b"", b"is", b"is", b"and", b"or", b"eq", b"gt", b"lt",
+                b"add", b"div", b"pow", b"mul", b"rem", b"sub", b"like",
+            ],
             k,
         );
         if k < COLUMN {
-            return self.constant(k, s);
+            return self.constant(s);
         }
         self.number(number(s, 1));
         if k == IS_NULL {
@@ -89,7 +110,7 @@ impl<'a> Writer<'a> {
         self.byte(b'\n');
     }
 
-    // The lines of the cells of an area.
+    // The lines of the cells of an area: by index, which is a cell's number, and numbers past the area's end are 0.
     pub fn cells(&mut self, area: &[u32])
         ensures { LinesIn self.old self.new (λ c q. cell_lines c q area.now) }
     {

@@ -8,13 +8,18 @@ mod parts; // parts.rt: the repeated parts of a node's line
 pub mod put; // put.rt: bytes and fields
 
 ghost use Rattle.std.specs.Prelude.{◌≡◌, drop};
+ghost use Rattle.rules.specs.Refusals.{refusal_number};
+ghost use Rattle.rules.specs.Entry.{text_number};
 ghost use Rattle.rules.specs.Print.{show_lines};
+ghost use Rattle.numbers.specs.Reasons.{reason_of};
+ghost use Rattle.numbers.specs.Texts.{text_of};
 ghost use Rattle.listing.specs.Lines.{Lines, LinesIn};
-ghost use Rattle.listing.specs.Own.{statement_word, header_line, area_lines, show_area};
+ghost use Rattle.listing.specs.Own.{statement_named, header_of, area_lines, show_area};
 ghost use Rattle.listing.specs.Listed.{Told, Holds, refusal_line};
 
 use cells::tail;
 use numbers::number;
+use numbers::refusals::TextRefusal;
 use plan::finish::Kind;
 use put::Writer;
 use text::places::Texts;
@@ -25,6 +30,7 @@ pub const WINDOW: usize = 65536;
 pub type Window = [u8; WINDOW];
 
 // How many bytes of the window are listed, from how many of it are left; none where it is full, as there may be more.
+#[tactic(auto, unfolding(crate::specs::Listed::Told))]
 fn told(left: usize) -> Option<usize>
     ensures { Told left result }
 {
@@ -34,13 +40,11 @@ fn told(left: usize) -> Option<usize>
     Some(WINDOW.saturating_sub(left))
 }
 
-// The word of the number of a statement's kind, and none where no kind has it.
-fn kind_word(k: u32) -> &'static [u8]
-    ensures { result.now ≡ statement_word k }
+// The word of a statement's kind.
+#[tactic(auto, unfolding(crate::specs::Own::statement_named, rules::specs::Lines::bytes))]
+fn kind_word(kind: Kind) -> &'static [u8]
+    ensures { result.now ≡ statement_named kind }
 {
-    let Ok(kind) = Kind::try_from(k) else {
-        return b"";
-    };
     match kind {
         Kind::Select => b"select",
         Kind::Create => b"create",
@@ -52,11 +56,12 @@ fn kind_word(k: u32) -> &'static [u8]
 }
 
 impl<'a> Writer<'a> {
-    fn header(&mut self, area: &[u32])
-        ensures { Lines self.old self.new (header_line area.now) }
+    // The first line; an empty word where the statement's number is no kind's.
+    fn header(&mut self, kind: Option<Kind>, area: &[u32])
+        ensures { Lines self.old self.new (header_of kind area.now) }
     {
         self.bytes(b"plan");
-        self.field(kind_word(number(area, 1)));
+        self.field(kind.map(kind_word).unwrap_or(b""));
         self.number(number(area, 3));
         self.number(number(area, 2));
         self.byte(b'\n');
@@ -66,20 +71,25 @@ impl<'a> Writer<'a> {
     fn area(&mut self, area: &[u32])
         ensures { LinesIn self.old self.new (λ c q. area_lines c q area.now) }
     {
-        self.header(area);
+        let kind = Kind::try_from(number(area, 1)).ok();
+        self.header(kind, area);
         self.cells(area);
         self.nodes(area);
-        let last = number(area, 3).saturating_sub(1);
-        self.own(number(area, 1), last, tail(area, number(area, 4) as usize));
+        if let Some(kind) = kind {
+            let last = number(area, 3).saturating_sub(1);
+            self.own(kind, last, tail(area, number(area, 4) as usize));
+        }
     }
 
-    fn refusal(&mut self, number: u32, text: u32, line: u32)
-        ensures { Lines self.old self.new (refusal_line number text line) }
+    // The line of a refusal.
+    pub fn refusal(&mut self, refusal: TextRefusal)
+        ensures { Lines self.old self.new (refusal_line (refusal_number (reason_of refusal.reason))
+            (text_number (text_of refusal.text)) refusal.line) }
     {
         self.bytes(b"refused");
-        self.number(number);
-        self.word(b" catalog statement ", text);
-        self.number(line);
+        self.number(u32::from(refusal.reason));
+        self.word(&[b"", b"catalog", b"statement"], u32::from(refusal.text));
+        self.number(refusal.line);
         self.byte(b'\n');
     }
 }
@@ -98,9 +108,10 @@ pub fn list(texts: &Texts, area: &[u32], from: u32, out: &mut Window) -> Option<
     told(to.left)
 }
 
-// The line of a refusal by its number, its text's number and its line, from its byte `from` on, answered as `list` does.
-pub fn list_refusal(number: u32, text: u32, line: u32, from: u32, out: &mut Window) -> Option<usize>
-    ensures { Holds (drop from (show_lines (refusal_line number text line))) out.new result }
+// The line of a refusal from its byte `from` on, answered as `list` does.
+pub fn list_refusal(refusal: TextRefusal, from: u32, out: &mut Window) -> Option<usize>
+    ensures { Holds (drop from (show_lines (refusal_line (refusal_number (reason_of refusal.reason))
+        (text_number (text_of refusal.text)) refusal.line))) out.new result }
 {
     let mut to = Writer {
         window: out,
@@ -110,6 +121,6 @@ pub fn list_refusal(number: u32, text: u32, line: u32, from: u32, out: &mut Wind
             statement: b"",
         },
     };
-    to.refusal(number, text, line);
+    to.refusal(refusal);
     told(to.left)
 }

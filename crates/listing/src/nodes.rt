@@ -1,23 +1,18 @@
 // The lines of an area's nodes: the kind, how many numbers follow, and those.
-ghost use Rattle.std.specs.Prelude.{◌≡◌, ◌+◌, get_or, drop, take};
+ghost use Rattle.std.specs.Prelude.{◌≡◌, ◌+◌, get_or, drop};
 ghost use Rattle.listing.specs.Fields.{Fields, FieldsIn};
 ghost use Rattle.listing.specs.Lines.{LinesIn};
 ghost use Rattle.listing.specs.Nodes.{scan_fields, join_fields, filter_fields, aggregate_fields, project_fields};
-ghost use Rattle.listing.specs.Nodes.{order_fields, limit_fields, remap_fields, node_rest, node_word, node_line, node_lines};
+ghost use Rattle.listing.specs.Nodes.{order_fields, limit_fields, remap_fields, node_rest, node_named, node_fields, node_line};
+ghost use Rattle.listing.specs.Nodes.{node_lines};
+ghost use Rattle.plan.specs.Kinds.{node_number};
 
-use crate::cells::{place_at, tail};
+use crate::cells::{optional, optional_place_at, place_at, tail};
 use crate::put::Writer;
 use numbers::halves::joined;
-use numbers::number;
+use numbers::{first, number};
 use plan::nodes::Kind;
 use plan::{CELL_SIZE, HEADER_SIZE};
-
-// The first n numbers, or as many as there are.
-fn front(s: &[u32], n: usize) -> &[u32]
-    ensures { result.now ≡ take n s.now }
-{
-    &s[..n.min(s.len())]
-}
 
 // The numbers behind a node's own.
 fn behind(s: &[u32]) -> &[u32]
@@ -26,13 +21,11 @@ fn behind(s: &[u32]) -> &[u32]
     tail(s, 2 + number(s, 1) as usize)
 }
 
-// The word of the number of a node's kind, and none where no kind has it.
-fn kind_word(k: u32) -> &'static [u8]
-    ensures { result.now ≡ node_word k }
+// The word of a node's kind.
+#[tactic(auto, unfolding(crate::specs::Nodes::node_named, rules::specs::Lines::bytes))]
+fn kind_word(kind: Kind) -> &'static [u8]
+    ensures { result.now ≡ node_named kind }
 {
-    let Ok(kind) = Kind::try_from(k) else {
-        return b"";
-    };
     match kind {
         Kind::Scan => b"scan",
         Kind::Values => b"values",
@@ -52,8 +45,8 @@ impl<'a> Writer<'a> {
         ensures { FieldsIn self.old self.new (λ c q. scan_fields c q s.now) }
     {
         self.place(place_at(s, 0));
-        self.alias(number(s, 3), number(s, 4));
-        self.given(number(s, 2));
+        self.alias(optional_place_at(s, 3));
+        self.given(optional(number(s, 2)));
     }
 
     fn join(&mut self, s: &[u32])
@@ -61,8 +54,8 @@ impl<'a> Writer<'a> {
     {
         self.number(number(s, 0));
         self.number(number(s, 1));
-        self.word(b"inner outer ", number(s, 2));
-        self.given(number(s, 3));
+        self.word(&[b"inner", b"outer"], number(s, 2));
+        self.given(optional(number(s, 3)));
     }
 
     fn filter(&mut self, s: &[u32])
@@ -110,13 +103,11 @@ impl<'a> Writer<'a> {
         self.targets(tail(s, 1));
     }
 
-    // What stands behind the number k of a node's kind.
-    fn node_rest(&mut self, k: u32, s: &[u32])
-        ensures { FieldsIn self.old self.new (λ c q. node_rest c q k s.now) }
+    // What stands behind a node's kind, from the node's numbers.
+    #[tactic(auto, unfolding(crate::specs::Nodes::node_rest, crate::specs::Choices::choose))]
+    fn node_rest(&mut self, kind: Kind, s: &[u32])
+        ensures { FieldsIn self.old self.new (λ c q. node_rest c q (node_number kind) s.now) }
     {
-        let Ok(kind) = Kind::try_from(k) else {
-            return;
-        };
         match kind {
             Kind::Scan => self.scan(s),
             Kind::Values => self.rows(s),
@@ -125,21 +116,29 @@ impl<'a> Writer<'a> {
             Kind::Aggregate => self.aggregate(s),
             Kind::Project => self.project(s),
             Kind::Order => self.order(s),
-            Kind::Offset => self.limit(s),
-            Kind::Limit => self.limit(s),
+            Kind::Offset | Kind::Limit => self.limit(s),
             Kind::Remap => self.remap(s),
         }
+    }
+
+    // The fields of a node, from its kind on; an empty word where its number is no kind's.
+    fn node_fields(&mut self, s: &[u32])
+        ensures { FieldsIn self.old self.new (λ c q. node_fields c q s.now) }
+    {
+        let Ok(kind) = Kind::try_from(number(s, 0)) else {
+            return self.field(b"");
+        };
+        self.field(kind_word(kind));
+        self.node_rest(kind, first(tail(s, 2), number(s, 1) as usize));
     }
 
     // The line of node i.
     fn node(&mut self, i: u32, s: &[u32])
         ensures { LinesIn self.old self.new (λ c q. node_line c q i s.now) }
     {
-        let k = number(s, 0);
         self.bytes(b"node");
         self.number(i);
-        self.field(kind_word(k));
-        self.node_rest(k, front(tail(s, 2), number(s, 1) as usize));
+        self.node_fields(s);
         self.byte(b'\n');
     }
 

@@ -1,11 +1,15 @@
 // The statement's own lines.
+ghost use Rattle.rules.specs.Area.{option_number};
+ghost use Rattle.numbers.specs.Options.{option_of};
 ghost use Rattle.listing.specs.Fields.{FieldsIn};
 ghost use Rattle.listing.specs.Lines.{Lines, LinesIn};
-ghost use Rattle.listing.specs.Own.{name_line, table_line, pair_line, pair_lines, map_lines, reference_fields, column_line};
+ghost use Rattle.listing.specs.Own.{name_line, table_line, pair_line, pair_lines, map_lines, column_line};
 ghost use Rattle.listing.specs.Own.{default_line, column_lines, columns_lines, drop_line, create_lines, insert_lines};
 ghost use Rattle.listing.specs.Own.{update_lines, own_lines};
+ghost use Rattle.listing.specs.Places.{reference_of};
+ghost use Rattle.plan.specs.Kinds.{statement_number};
 
-use crate::cells::{place_at, tail};
+use crate::cells::{optional, optional_place_at, place_at, tail};
 use crate::put::{Writer, nth_word};
 use numbers::number;
 use plan::finish::Kind;
@@ -48,6 +52,7 @@ impl<'a> Writer<'a> {
         self.byte(b'\n');
     }
 
+    // The lines of n pairs: by index, as numbers past the slice's end are 0.
     fn pairs(&mut self, first: &[u8], n: u32, s: &[u32])
         ensures { Lines self.old self.new (pair_lines first.now n s.now) }
     {
@@ -56,11 +61,11 @@ impl<'a> Writer<'a> {
         }
     }
 
-    // An insert's column map, where there is one: x is one more than its length.
-    fn map(&mut self, x: u32, s: &[u32])
-        ensures { Lines self.old self.new (map_lines x s.now) }
+    // An insert's column map by its length, where there is one.
+    fn map(&mut self, n: Option<u32>, s: &[u32])
+        ensures { Lines self.old self.new (map_lines (option_number (option_of n)) s.now) }
     {
-        if let Some(n) = x.checked_sub(1) {
+        if let Some(n) = n {
             self.bytes(b"columns");
             self.number(n);
             self.byte(b'\n');
@@ -69,10 +74,11 @@ impl<'a> Writer<'a> {
     }
 
     // A reference, where there is one.
-    fn reference(&mut self, address: u32, length: u32)
-        ensures { FieldsIn self.old self.new (λ c q. reference_fields c q address length) }
+    #[tactic(auto, unfolding(crate::specs::Places::reference_of))]
+    fn reference(&mut self, reference: Option<Place>)
+        ensures { FieldsIn self.old self.new (λ c q. reference_of c q reference) }
     {
-        if let Some(reference) = Place::of_numbers(address, length) {
+        if let Some(reference) = reference {
             self.place(reference);
         }
     }
@@ -83,11 +89,11 @@ impl<'a> Writer<'a> {
     {
         self.bytes(b"column");
         self.place(place_at(s, 0));
-        self.word(b" bool int float text ", number(s, 2));
-        self.word(b"notnull null ", number(s, 3));
-        self.word(b"- unique ", number(s, 4));
-        self.word(b"- index ", number(s, 5));
-        self.reference(number(s, 6), number(s, 7));
+        self.word(&[b"", b"bool", b"int", b"float", b"text"], number(s, 2));
+        self.word(&[b"notnull", b"null"], number(s, 3));
+        self.word(&[b"-", b"unique"], number(s, 4));
+        self.word(&[b"-", b"index"], number(s, 5));
+        self.reference(optional_place_at(s, 6));
         self.byte(b'\n');
     }
 
@@ -95,9 +101,11 @@ impl<'a> Writer<'a> {
     fn default(&mut self, s: &[u32])
         ensures { LinesIn self.old self.new (λ c q. default_line c q s.now) }
     {
-        let k = number(s, 0);
-        self.bytes(nth_word(b"nodefault null bool int float text ", k));
-        self.constant(k, s);
+        self.bytes(nth_word(
+            &[b"nodefault", b"null", b"bool", b"int", b"float", b"text"],
+            number(s, 0),
+        ));
+        self.constant(s);
         self.byte(b'\n');
     }
 
@@ -109,6 +117,7 @@ impl<'a> Writer<'a> {
         self.default(tail(s, DEFAULT));
     }
 
+    // The lines of n created columns, by index as pairs are.
     fn columns(&mut self, n: u32, s: &[u32])
         ensures { LinesIn self.old self.new (λ c q. columns_lines c q n s.now) }
     {
@@ -122,7 +131,7 @@ impl<'a> Writer<'a> {
     {
         self.bytes(b"drop");
         self.place(place_at(s, 0));
-        self.word(b"no yes ", number(s, 2));
+        self.word(&[b"no", b"yes"], number(s, 2));
         self.byte(b'\n');
     }
 
@@ -137,7 +146,7 @@ impl<'a> Writer<'a> {
         ensures { LinesIn self.old self.new (λ c q. insert_lines c q n s.now) }
     {
         self.name_line(b"insert", n, s);
-        self.map(number(s, 2), tail(s, 3));
+        self.map(optional(number(s, 2)), tail(s, 3));
     }
 
     fn update(&mut self, n: u32, s: &[u32])
@@ -147,13 +156,11 @@ impl<'a> Writer<'a> {
         self.pairs(b"set", number(s, 3), tail(s, 4));
     }
 
-    // By the number k of the statement's kind, its source n and its own numbers.
-    pub fn own(&mut self, k: u32, n: u32, s: &[u32])
-        ensures { LinesIn self.old self.new (λ c q. own_lines c q k n s.now) }
+    // By the statement's kind, its source n and its own numbers.
+    #[tactic(auto, using(crate::specs::Lines::lines_none), unfolding(crate::specs::Own::own_lines, crate::specs::Choices::choose, rules::specs::Lines::bytes))]
+    pub fn own(&mut self, kind: Kind, n: u32, s: &[u32])
+        ensures { LinesIn self.old self.new (λ c q. own_lines c q (statement_number kind) n s.now) }
     {
-        let Ok(kind) = Kind::try_from(k) else {
-            return;
-        };
         match kind {
             Kind::Select => {}
             Kind::Create => self.create(s),

@@ -1,11 +1,11 @@
 // Bytes and fields that are put into a window, one behind the other.
-ghost use Rattle.std.specs.Prelude.{◌≡◌, [], ◌∷◌, get_or};
+ghost use Rattle.std.specs.Prelude.{◌≡◌, [], ◌∷◌};
 ghost use Rattle.rules.specs.Places.{bytes_at};
 ghost use Rattle.rules.specs.Print.{decimal_of, integer_of, hex_of};
-ghost use Rattle.text.specs.Words.{words_of};
 ghost use Rattle.numbers.specs.Bits.{signed};
 ghost use Rattle.listing.specs.Put.{Puts};
 ghost use Rattle.listing.specs.Fields.{Fields, FieldsIn};
+ghost use Rattle.listing.specs.Words.{word_at};
 
 use text::places::{Place, Texts};
 
@@ -80,7 +80,7 @@ impl<'a> Writer<'a> {
         }
         self.byte(b'\t');
         self.byte(b'-');
-        self.decimal(u64::MAX - n + 1);
+        self.decimal(n.wrapping_neg());
     }
 
     // The field of a float's bits: 16 hexadecimal digits.
@@ -93,8 +93,8 @@ impl<'a> Writer<'a> {
     }
 
     // The field that is the k-th of some words: a word's place in the list is the number as the plan has it.
-    pub fn word(&mut self, words: &[u8], k: u32)
-        ensures { Fields self.old self.new (get_or (words_of words.now) k [] ∷ []) }
+    pub fn word(&mut self, words: &[&[u8]], k: u32)
+        ensures { Fields self.old self.new (word_at words.now k ∷ []) }
     {
         self.field(nth_word(words, k));
     }
@@ -108,21 +108,9 @@ impl<'a> Writer<'a> {
     }
 }
 
-// The k-th of some words, each closed by a blank, and no byte past them.
-pub fn nth_word(words: &[u8], k: u32) -> &[u8]
-    ensures { result.now ≡ get_or (words_of words.now) k [] }
+// The k-th of some words, and no byte past them.
+pub fn nth_word<'a>(words: &[&'a [u8]], k: u32) -> &'a [u8]
+    ensures { result.now ≡ word_at words.now k }
 {
-    // From word to word, so no `for` counts the bytes.
-    let mut left = k;
-    let mut i: usize = 0;
-    while i < words.len() {
-        let e = text::stop_at(words, i, b' ', b' ');
-        if left == 0 {
-            return &words[i..e];
-        }
-        i = e + 1;
-        left -= 1;
-    }
-    let n = words.len();
-    &words[n..]
+    words.get(k as usize).copied().unwrap_or(b"")
 }

@@ -8,5 +8,7 @@ pub mod Literals
 pub mod Operators
 pub mod Reasons
 pub mod Options
+pub mod Same
 pub mod Stores
+pub mod Texts
 pub mod Values

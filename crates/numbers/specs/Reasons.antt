@@ -1,5 +1,6 @@
 -- The code's reasons for a refusal are the rules'.
-use Rattle.std.specs.Prelude.{◌≡◌, refl}
+use Rattle.std.specs.Prelude.{◌≡◌, ◌<◌, ◌≤◌, refl}
+use native.Mathlib.Omega.{arith}
 use Rattle.rules.specs.Refusals as rules
 use Rattle.numbers.specs.declared.refusals.Reason.{Reason}
 use Rattle.numbers.specs.declared.refusals.Reason.TheVariants as Re
@@ -67,6 +68,39 @@ named rules.division_by_zero = Re.DivisionByZero
 named rules.wrong_operand = Re.WrongOperand
 named rules.not_worked_out = Re.NotWorkedOut
 named rules.invalid_is = Re.InvalidIs
+
+-- a reason's number is from 1 to 29
+pub reason-numbers : (r : rules.Reason) → (0 < rules.refusal_number r) × (rules.refusal_number r ≤ 29)
+unfolding rules.refusal_number
+reason-numbers rules.short_area = (omega arith, omega arith)
+reason-numbers rules.wrong_record = (omega arith, omega arith)
+reason-numbers rules.limit_passed = (omega arith, omega arith)
+reason-numbers rules.other_statement = (omega arith, omega arith)
+reason-numbers rules.unknown_table = (omega arith, omega arith)
+reason-numbers rules.duplicate_table = (omega arith, omega arith)
+reason-numbers rules.unknown_qualifier = (omega arith, omega arith)
+reason-numbers rules.unknown_column = (omega arith, omega arith)
+reason-numbers rules.ambiguous_column = (omega arith, omega arith)
+reason-numbers rules.constant_only = (omega arith, omega arith)
+reason-numbers rules.not_aggregated = (omega arith, omega arith)
+reason-numbers rules.unsupported_star = (omega arith, omega arith)
+reason-numbers rules.unknown_function = (omega arith, omega arith)
+reason-numbers rules.argument_count = (omega arith, omega arith)
+reason-numbers rules.nested_aggregate = (omega arith, omega arith)
+reason-numbers rules.star_without_from = (omega arith, omega arith)
+reason-numbers rules.having_without_aggregate = (omega arith, omega arith)
+reason-numbers rules.invalid_offset = (omega arith, omega arith)
+reason-numbers rules.invalid_limit = (omega arith, omega arith)
+reason-numbers rules.no_primary_key = (omega arith, omega arith)
+reason-numbers rules.multiple_primary_keys = (omega arith, omega arith)
+reason-numbers rules.unknown_insert_column = (omega arith, omega arith)
+reason-numbers rules.repeated_insert_column = (omega arith, omega arith)
+reason-numbers rules.no_default = (omega arith, omega arith)
+reason-numbers rules.integer_overflow = (omega arith, omega arith)
+reason-numbers rules.division_by_zero = (omega arith, omega arith)
+reason-numbers rules.wrong_operand = (omega arith, omega arith)
+reason-numbers rules.not_worked_out = (omega arith, omega arith)
+reason-numbers rules.invalid_is = (omega arith, omega arith)
 
 -- a refusal of the code as the rules have it: in this text
 abbrev pub told : rules.Text → Refusal → rules.Refusal

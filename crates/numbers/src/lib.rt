@@ -1,4 +1,4 @@
-// Numbers of 32 bits in a lent slice.
+// Numbers of 32 bits in a lent slice, and the first elements of any slice.
 #![tactic(auto)]
 
 pub mod aggregates; // aggregates.rt: the aggregate functions
@@ -9,7 +9,7 @@ pub mod operators; // operators.rt: the operators of expressions
 pub mod options; // options.rt: numbers that may be missing
 pub mod refusals; // refusals.rt: why a statement is refused, and where
 
-ghost use Rattle.std.specs.Prelude.{◌≡◌, [], ◌∷◌, ◌+◌, ◌≤◌, length, get_or};
+ghost use Rattle.std.specs.Prelude.{◌≡◌, [], ◌∷◌, ◌+◌, ◌≤◌, length, get_or, take};
 ghost use Rattle.std.proofs.lemmas.List.Edits.{sets};
 
 // The number at i, and 0 past the end.
@@ -17,6 +17,13 @@ pub fn number(s: &[u32], i: usize) -> u32
     ensures { result ≡ get_or s.now i 0 }
 {
     s.get(i).copied().unwrap_or(0)
+}
+
+// The first n, or as many of them as there are.
+pub fn first<T>(s: &[T], n: usize) -> &[T]
+    ensures { result.now ≡ take n s.now }
+{
+    &s[..n.min(s.len())]
 }
 
 // Four numbers from i on.

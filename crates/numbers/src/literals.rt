@@ -44,6 +44,7 @@ impl LiteralKind {
 }
 
 // Its numbers are a flag; the 64 bits of an integer or a float, the low half first; or a text's address and length.
+// They stand so in a row and in a cell: an enum would be made of the one and taken apart for the other.
 #[derive(Clone, Copy, Debug, PartialEq, Eq)]
 pub struct Literal {
     pub kind: LiteralKind,

@@ -8,7 +8,8 @@ use Rattle.rules.specs.Ast.{Unary, Plain, Binary}
 use Rattle.rules.specs.Codes.{unary_code, plain_code}
 use Rattle.rules.specs.Cells.{Cell, unary, binary, added, operator}
 use Rattle.rules.specs.Area.{cell_numbers}
-use Rattle.appends.specs.Area.{cells_numbers, cells-numbers-append, cell-four}
+use Rattle.claims.specs.Room.Nodes.{cell-size}
+use Rattle.appends.specs.Area.{cells_numbers, cells-numbers-append}
 use Rattle.plan.specs.Layout.{cell_size, cells_end}
 
 -- the area has room for k cells from the n-th on, and a number of 32 bits counts them
@@ -18,6 +19,11 @@ pub record Room (n k : ℕ) (area : List ℕ) : Type 0 where
 
 pub room-less : {n k : ℕ} {area : List ℕ} (j : ℕ) → j ≤ k → Room n k area → Room n j area
 room-less j l h = record { counted = omega arith; held = omega arith }
+
+-- no cells are no numbers
+pub cells-none : cells_numbers [] ≡ []
+unfolding cells_numbers concat
+cells-none = refl
 
 -- cells appended from the n-th on: what stands behind them is not determined
 pub record Puts (n : ℕ) (cs : List Cell) (area area' : List ℕ) : Type 0 where
@@ -40,7 +46,7 @@ unfolding cells_numbers concat
 put_one x n area area' vs room e h = record {
   kept = ap length h ∙ length-sets area (cells_end n) vs;
   cells = rw (h, append-nil, e)
-      (stored-take area vs n (sym (ap length e) ∙ cell-four x) room.held);
+      (stored-take area vs n (sym (ap length e) ∙ cell-size x) room.held);
 }
 
 -- an operator's cell by its code

@@ -101,7 +101,7 @@ accepted {a} {n} {area} {area'} {r} m h e = go a (sym e ∙ h.answer)
     go (ok p) g =
         let k : p.1 ≡ m = cc in
         record { cells = p.0; is = ap (λ (j : ℕ). ok (p.0, j)) k }
-    go (refused w) g = absurd (let z : ◌≡◌ {A = ℕ} 0 1 = cc in omega arith)
+    go (refused w) g = grind arith
 
 -- a refusal ends the whole
 pub stop : {a : Emitting} {n : ℕ} {area area' : List ℕ} {r : Written} (f : ℕ → Emitting) (w : Refusal)
@@ -112,7 +112,7 @@ stop {a} {n} {area} {area'} {r} f w h e = go a (rw e at h)
     go : (a : Emitting) → Emits a n area area' (Err w) → Emits (joined a f) n area area' (Err w)
     go (ok p) g =
         let y : ◌≡◌ {A = Written} (Err w) (Ok p.1) = g.answer in
-        absurd (let z : ◌≡◌ {A = ℕ} 0 1 = cc in omega arith)
+        grind arith
     go (refused v) g = g
 
 -- and an accepted step goes on

@@ -11,7 +11,7 @@ use Rattle.rules.specs.Plan.{Aggregate}
 use Rattle.rules.specs.Nodes.{values, aggregate, project, order, remap}
 use Rattle.rules.specs.Area.{option_number, row_numbers, function_numbers, item_numbers, key_numbers}
 use Rattle.rules.specs.Area.{sized, record_numbers}
-use Rattle.claims.specs.Lists.{map-append}
+use Rattle.std.proofs.lemmas.List.{map-append}
 use Rattle.plan.specs.Layout.{aggregate_head, groups_place}
 use Rattle.plan.specs.Pushed.{Pushed, Stored, pushed-on, pushed-as, pushed-count}
 use Rattle.plan.specs.declared.nodes.Nodes.{Nodes}

@@ -19,7 +19,7 @@ use Rattle.plan.specs.Records.{records-append, records-first}
 use Rattle.numbers.specs.Reasons.{named, noted}
 use Rattle.numbers.specs.declared.refusals.Reason as reasons
 use Rattle.numbers.specs.declared.refusals.Refusal as code
-use Rattle.plan.specs.Emits.{Emitting, Written, written_of, Emits}
+use Rattle.plan.specs.Emits.{result_by, Emitting, Written, written_of, Emits}
 use Rattle.plan.specs.declared.steps.Step.{Step}
 
 -- REFUSALS
@@ -39,15 +39,17 @@ pub refused-on : {A B : Type 0} {a : Answer A} {b : Answer B} {w : code.Refusal}
     → ((v : Refusal) → a ≡ refused v → b ≡ refused v) → RefusedWith b w
 refused-on h f = record { why = h.why; is = f h.why h.is; refusal = h.refusal }
 
+-- that of an answer as the code has it
+pub result-refused : {A B : Type 0} (a : Answer A) (f : A → B) {w : code.Refusal}
+    → ◌≡◌ {A = Result B code.Refusal} (Err w) (result_by f a) → RefusedWith a w
+result-refused (ok p) f g = grind arith
+result-refused (refused v) f g = record { why = v; is = refl; refusal = cc }
+
 -- that of an expression
 pub emits-refused : {a : Emitting} {n : ℕ} {area area' : List ℕ} {r : Written} (w : code.Refusal) → Emits a n area area' r
     → r ≡ Err w → RefusedWith a w
 unfolding written_of
-emits-refused {a} {r = r} w h e = go a (sym e ∙ h.answer)
-  where
-    go : (b : Emitting) → ◌≡◌ {A = Written} (Err w) (written_of b) → RefusedWith b w
-    go (ok p) g = absurd (let z : ◌≡◌ {A = ℕ} 0 1 = cc in omega arith)
-    go (refused v) g = record { why = v; is = refl; refusal = cc }
+emits-refused {a} w h e = result-refused a (λ p. p.1) (sym e ∙ h.answer)
 
 -- WHAT STANDS in the area and among the nodes: cells from the i-th on, records behind those of s
 pub record Stands (i : ℕ) (area : List ℕ) (s : Nodes) (cs : List Cell) (rs : List NodeRecord) (j : ℕ) (area' : List ℕ)

@@ -25,7 +25,7 @@ pub const IS_NULL: u32 = 14;
 
 pub const IS_NAN: u32 = 15;
 
-// A cell of a kind and three numbers.
+// A cell of a kind and three numbers, whose meaning goes by ranges of kinds: an enum would be taken apart here.
 fn put_cell(area: &mut [u32], n: u32, kind: u32, a: u32, b: u32, c: u32)
     requires { Room n 1 area.old }
     ensures { (x : rules.Cell) → cell_numbers x ≡ kind ∷ a ∷ b ∷ c ∷ []

@@ -13,7 +13,8 @@ use crate::steps::Step;
 use crate::{CELL_SIZE, HEADER_SIZE};
 use numbers::put_four;
 
-// The kinds of statement, by their numbers in the plan.
+// The kinds of statement, by their numbers in the plan. (Their conversions stand beside those of `nodes::Kind`: each names its own
+// kinds, and std derives none.)
 #[derive(Clone, Copy, Debug, PartialEq, Eq)]
 pub enum Kind {
     Select = 1,

@@ -23,6 +23,8 @@ use numbers::put_four;
 use text::places::Place;
 
 // A lent slice, and how many of its numbers are in use: those of the nodes, and behind them the statement's own.
+// (Apart from `ast::buffer::Rows`, which lends what stands in it and may be full: all that one type for both could share is `push`.
+// Apart from the area, since many functions take one without the other.)
 #[derive(Drop)]
 pub struct Nodes<'n> {
     pub numbers: &'n mut [u32],

@@ -1,5 +1,5 @@
 -- What the planner answered, as text: for what it made of two texts, the rules' listing of them.
-use Rattle.std.specs.Prelude.{ℕ, ◌-◌, ◌≡◌, refl, true, false, List, eqb, length, replicate, Option}
+use Rattle.std.specs.Prelude.{ℕ, ◌-◌, ◌≡◌, refl, true, false, List, eqb, length, replicate, Option, Result, Ok, Err}
 use Rattle.std.proofs.Common.{sym, ap, ◌∙◌, eq-eqb, ne_eqb}
 use Rattle.std.proofs.lemmas.Bool.{eqb-false}
 use Rattle.rules.specs.Refusals.{refusal_number, Answer, ok, refused}
@@ -14,7 +14,10 @@ use Rattle.claims.specs.Area.Accepted.{accepted}
 use Rattle.listing.specs.Own.{show_area}
 use Rattle.listing.specs.Shown.{accepted-shown}
 use Rattle.listing.specs.Listed.{Holds, refusal_line, refusal-shown}
-use Rattle.planner.specs.Outcomes.{Answers}
+use Rattle.numbers.specs.Reasons.{reason_of}
+use Rattle.numbers.specs.Texts.{text_of}
+use Rattle.numbers.specs.declared.refusals.TextRefusal.{TextRefusal}
+use Rattle.planner.specs.Outcomes.{told, Answers}
 use Rattle.planner.specs.declared.Outcome.{Outcome}
 use Rattle.plan_listing.specs.Numbers.{not-zero}
 
@@ -33,6 +36,17 @@ pub shown-refusal : (c q : Bytes) (o : Outcome) (area : List ℕ) → (o.number 
     → show_lines (refusal_line o.number o.text o.line) ≡ shown c q o area
 unfolding shown
 shown-refusal c q o area h = sym (rw (shown, ne_eqb o.number 0 h))
+
+-- what came of planning, as C reads it, is shown so
+module _ (c q : Bytes) (area : List ℕ) {x : Result ℕ TextRefusal} where
+  pub shown-planned : {n : ℕ} → x ≡ Ok n → show_area c q area ≡ shown c q (told x) area
+  unfolding told
+  shown-planned {n} e = rw e (shown-plan c q (told (Ok n)) area refl)
+
+  pub shown-refused : {w : TextRefusal} → x ≡ Err w
+      → show_lines (refusal_line (refusal_number (reason_of w.reason)) (text_number (text_of w.text)) w.line) ≡ shown c q (told x) area
+  unfolding told
+  shown-refused {w} e = rw e (shown-refusal c q (told (Err w)) area (eqb-false (refusal_number (reason_of w.reason)) 0 (not-zero (reason_of w.reason))))
 
 -- what the planner answers is shown as the rules' answer is
 answer-shown : (c q : Bytes) (a : List ℕ) (x : Answer (Plan Built)) (o : Outcome) (area : List ℕ) → entry (length a) c q ≡ x

@@ -1,5 +1,5 @@
 -- What the entry answers, and the area at exit: those of the rules.
-use Rattle.std.specs.Prelude.{ℕ, ◌≤◌, ◌<◌, ◌≡◌, refl, List, length, replicate, Ok, Err}
+use Rattle.std.specs.Prelude.{ℕ, ◌≤◌, ◌<◌, ◌≡◌, refl, List, length, replicate, Result, Ok, Err}
 use Rattle.std.proofs.Common.{arith, sym, ap, ◌∙◌, lt-ltb}
 use Rattle.rules.specs.Refusals.{refusal_number, Refusal, Answer, ok, refused, ◌>>=◌}
 use Rattle.rules.specs.Limits.{least_area}
@@ -17,8 +17,8 @@ use Rattle.numbers.specs.Reasons.{reason_of, noted, reason-named}
 use Rattle.numbers.specs.declared.refusals.Refusal as code
 use Rattle.reader.specs.Texts.{read_texts}
 use Rattle.reader.specs.Entry.{planned, entry-reads}
-use Rattle.reader.specs.Reading.{text_of}
-use Rattle.reader.specs.declared.TextRefusal.{TextRefusal}
+use Rattle.numbers.specs.Texts.{text_of}
+use Rattle.numbers.specs.declared.refusals.TextRefusal.{TextRefusal}
 use Rattle.build_statement.specs.Plans.{planned_of, Plans}
 use Rattle.planner.specs.declared.Outcome.{Outcome}
 
@@ -30,12 +30,12 @@ pub record Answers (o : rules.Outcome) (r : Outcome) (area : List ℕ) : Type 0 
   pub count : r.count ≡ o.count
   pub area-is : area ≡ o.area
 
--- A REFUSAL
--- what is told of it
-unfoldable pub told : TextRefusal → Outcome
-told w = record { number = refusal_number (reason_of w.reason); text = text_number (text_of w.text); line = w.line; count = 0 }
+-- what came of planning as C reads it: a plan's count, or a refusal
+unfoldable pub told : Result ℕ TextRefusal → Outcome
+told (Ok n) = record { number = 0; text = 0; line = 0; count = n }
+told (Err w) = record { number = refusal_number (reason_of w.reason); text = text_number (text_of w.text); line = w.line; count = 0 }
 
--- the area is cleared
+-- A REFUSAL: the area is cleared
 pub record Refused (number text line : ℕ) (area area' : List ℕ) (r : Outcome) : Type 0 where
   pub number_is : r.number ≡ number
   pub text-is : r.text ≡ text
@@ -46,10 +46,10 @@ pub record Refused (number text line : ℕ) (area area' : List ℕ) (r : Outcome
 abbrev pub RefusedWith : TextRefusal → List ℕ → List ℕ → Outcome → Type 0
 RefusedWith w = Refused (refusal_number (reason_of w.reason)) (text_number (text_of w.text)) w.line
 
-pub refused-told : (w : TextRefusal) {area area' : List ℕ} {r : Outcome} → r ≡ told w → area' ≡ replicate (length area) 0
-    → RefusedWith w area area' r
+pub refused-told : (w : TextRefusal) {area area' : List ℕ} → area' ≡ replicate (length area) 0
+    → RefusedWith w area area' (told (Err w))
 unfolding told
-refused-told w e z = rw e (record { number_is = refl; text-is = refl; line-is = refl; none = refl; zero = z })
+refused-told w z = (record { number_is = refl; text-is = refl; line-is = refl; none = refl; zero = z })
 
 pub refused-answer : {a : Answer (Plan Built)} (area₀ : List ℕ) {x t l : ℕ} {area area' : List ℕ} {r : Outcome} (w : Refusal)
     → a ≡ refused w → least_area ≤ length area₀ → length area ≡ length area₀ → x ≡ refusal_number w.reason

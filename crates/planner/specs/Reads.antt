@@ -11,9 +11,9 @@ use Rattle.statement.specs.Layout.{statement_at}
 use Rattle.reader.specs.Reading.{TextsRead}
 use Rattle.reader.specs.Within.{texts-accepted, texts-refused, select-stays}
 use Rattle.numbers.specs.Reasons.{reason_of}
-use Rattle.reader.specs.Reading.{text_of}
+use Rattle.numbers.specs.Texts.{text_of}
 use Rattle.reader.specs.declared.Contents.{Contents}
-use Rattle.reader.specs.declared.TextRefusal.{TextRefusal}
+use Rattle.numbers.specs.declared.refusals.TextRefusal.{TextRefusal}
 use Rattle.planner.specs.Outcomes.{built_of, reading-refused, reading-built, Answers, Refused, refused-answer}
 use Rattle.planner.specs.Kinds.{StatementReady}
 use Rattle.planner.specs.declared.Outcome.{Outcome}

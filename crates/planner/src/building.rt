@@ -1,5 +1,5 @@
 // A statement that was read, planned by its kind (planner.rs, Planner::build).
-ghost use Rattle.std.specs.Prelude.{◌≡◌, ◌≤◌, length};
+ghost use Rattle.std.specs.Prelude.{◌≡◌, ◌≤◌, length, true};
 ghost use Rattle.rules.specs.Limits.{least_area};
 ghost use Rattle.rules.specs.BuildStatement.{build_statement};
 ghost use Rattle.ast.specs.Table.{table_size};
@@ -42,51 +42,20 @@ fn build_kind(
         area.old area.new result }
 {
     let kind = kind_of(parts);
+    let exprs = Expressions {
+        texts: *texts,
+        table: cells,
+    };
     match kind {
         Kind::Select => build_select(texts, tables, cells, froms, parts, area, nodes),
-        Kind::Create => build_create_table(
-            &Expressions {
-                texts: *texts,
-                table: cells,
-            },
-            parts,
-            area,
-            nodes,
-        ),
+        Kind::Create => build_create_table(&exprs, parts, area, nodes),
         Kind::Drop => {
             build_drop_table(texts, parts, area, nodes);
             Ok(0)
         }
-        Kind::Delete => build_delete(
-            &Expressions {
-                texts: *texts,
-                table: cells,
-            },
-            tables,
-            parts,
-            area,
-            nodes,
-        ),
-        Kind::Insert => build_insert(
-            &Expressions {
-                texts: *texts,
-                table: cells,
-            },
-            tables,
-            parts,
-            area,
-            nodes,
-        ),
-        Kind::Update => build_update(
-            &Expressions {
-                texts: *texts,
-                table: cells,
-            },
-            tables,
-            parts,
-            area,
-            nodes,
-        ),
+        Kind::Delete => build_delete(&exprs, tables, parts, area, nodes),
+        Kind::Insert => build_insert(&exprs, tables, parts, area, nodes),
+        Kind::Update => build_update(&exprs, tables, parts, area, nodes),
         Kind::Other => Err(Reason::OtherStatement.at(line(parts))),
     }
 }
@@ -101,7 +70,61 @@ fn has_one_table(parts: &[u32]) -> bool
     }
 }
 
-// In as many numbers for its nodes as it may need: those of a SELECT over at most one table are few.
+// A SELECT over at most one table, in few numbers for its nodes. Each of the two arrays has a function of its own, since a function
+// that holds both writes the zeros of both.
+fn build_one_table(
+    texts: &Texts,
+    tables: &[u32],
+    cells: &mut [u32],
+    froms: &[u32],
+    parts: &[u32],
+    area: &mut [u32],
+) -> Result<u32, Refusal>
+    requires statement_ready { StatementReady texts.now.catalog.now texts.now.statement.now tables.now cells.old froms.now
+        parts.now }
+    requires cells_len { length cells.old ≡ table_size }
+    requires area_room { least_area ≤ length area.old }
+    requires one_table { has_one_table parts.now ≡ true }
+    ensures { Plans (build_statement
+        (catalog_at texts.now.catalog.now texts.now.statement.now tables.now)
+        (statement_at texts.now.catalog.now texts.now.statement.now cells.old froms.now parts.now))
+        area.old area.new result }
+{
+    let mut numbers = [0u32; ONE_TABLE_SIZE];
+    let mut nodes = Nodes {
+        numbers: &mut numbers,
+        used: 0,
+    };
+    build_select(texts, tables, cells, froms, parts, area, &mut nodes)
+}
+
+// Any statement, in as many numbers for its nodes as any may need.
+fn build_any(
+    texts: &Texts,
+    tables: &[u32],
+    cells: &mut [u32],
+    froms: &[u32],
+    parts: &[u32],
+    area: &mut [u32],
+) -> Result<u32, Refusal>
+    requires statement_ready { StatementReady texts.now.catalog.now texts.now.statement.now tables.now cells.old froms.now
+        parts.now }
+    requires cells_len { length cells.old ≡ table_size }
+    requires area_room { least_area ≤ length area.old }
+    ensures { Plans (build_statement
+        (catalog_at texts.now.catalog.now texts.now.statement.now tables.now)
+        (statement_at texts.now.catalog.now texts.now.statement.now cells.old froms.now parts.now))
+        area.old area.new result }
+{
+    let mut numbers = [0u32; NODES_SIZE];
+    let mut nodes = Nodes {
+        numbers: &mut numbers,
+        used: 0,
+    };
+    build_kind(texts, tables, cells, froms, parts, area, &mut nodes)
+}
+
+// In as many numbers for its nodes as it may need.
 pub fn build(
     texts: &Texts,
     tables: &[u32],
@@ -112,24 +135,15 @@ pub fn build(
 ) -> Result<u32, Refusal>
     requires statement_ready { StatementReady texts.now.catalog.now texts.now.statement.now tables.now cells.old froms.now
         parts.now }
-    requires cells_len { (length cells.old ≡ table_size) × (least_area ≤ length area.old) }
+    requires cells_len { length cells.old ≡ table_size }
+    requires area_room { least_area ≤ length area.old }
     ensures { Plans (build_statement
         (catalog_at texts.now.catalog.now texts.now.statement.now tables.now)
         (statement_at texts.now.catalog.now texts.now.statement.now cells.old froms.now parts.now))
         area.old area.new result }
 {
     if has_one_table(parts) {
-        let mut few = [0u32; ONE_TABLE_SIZE];
-        let mut nodes = Nodes {
-            numbers: &mut few,
-            used: 0,
-        };
-        return build_select(texts, tables, cells, froms, parts, area, &mut nodes);
+        return build_one_table(texts, tables, cells, froms, parts, area);
     }
-    let mut numbers = [0u32; NODES_SIZE];
-    let mut nodes = Nodes {
-        numbers: &mut numbers,
-        used: 0,
-    };
-    build_kind(texts, tables, cells, froms, parts, area, &mut nodes)
+    build_any(texts, tables, cells, froms, parts, area)
 }

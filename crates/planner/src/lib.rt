@@ -15,9 +15,9 @@ ghost use Rattle.planner.specs.Outcomes.{built_of, told, Answers, RefusedWith};
 ghost use Rattle.planner.specs.Kinds.{StatementReady};
 
 use building::build;
-use numbers::refusals::Reason;
+use numbers::refusals::{Reason, Text, TextRefusal};
 use plan::finish::{LAYOUT, clear};
-use reader::{Text, TextRefusal, read_texts};
+use reader::read_texts;
 use schema::NUMBERS;
 use schema::read::{SMALL_NUMBERS, numbers_for};
 use statement::{CELL_NUMBERS, FROM_NUMBERS, PART_NUMBERS};
@@ -36,26 +36,35 @@ pub struct Outcome {
     pub count: u32,
 }
 
-impl From<TextRefusal> for Outcome {
-    ghost from_gives = { λ refusal result. result ≡ told refusal };
+// What came of planning: how many cells the plan has, or a refusal.
+impl From<Result<u32, TextRefusal>> for Outcome {
+    ghost from_gives = { λ planned outcome. outcome ≡ told planned };
 
     #[tactic(auto, unfolding(crate::specs::Outcomes::told))]
-    fn from(refusal: TextRefusal) -> Outcome {
-        Outcome {
-            number: u32::from(refusal.reason),
-            text: u32::from(refusal.text),
-            line: refusal.line,
-            count: 0,
+    fn from(planned: Result<u32, TextRefusal>) -> Outcome {
+        match planned {
+            Ok(n) => Outcome {
+                number: 0,
+                text: 0,
+                line: 0,
+                count: n,
+            },
+            Err(refusal) => Outcome {
+                number: u32::from(refusal.reason),
+                text: u32::from(refusal.text),
+                line: refusal.line,
+                count: 0,
+            },
         }
     }
 }
 
 // A refusal: the area is all zero.
-fn refuse(area: &mut [u32], refusal: TextRefusal) -> Outcome
-    ensures { RefusedWith refusal area.old area.new result }
+fn refuse(area: &mut [u32], refusal: TextRefusal) -> Result<u32, TextRefusal>
+    ensures { RefusedWith refusal area.old area.new (told result) }
 {
     clear(area);
-    Outcome::from(refusal)
+    Err(refusal)
 }
 
 // The plan of a statement that was read.
@@ -66,31 +75,26 @@ fn plan_read(
     froms: &[u32; FROM_NUMBERS],
     parts: &[u32; PART_NUMBERS],
     area: &mut [u32],
-) -> Outcome
+) -> Result<u32, TextRefusal>
     requires statement_ready { StatementReady texts.now.catalog.now texts.now.statement.now tables.now cells.old froms.now
         parts.now }
     requires area_room { least_area ≤ length area.old }
     ensures { Answers (outcome area.old (build_statement
         (catalog_at texts.now.catalog.now texts.now.statement.now tables.now)
         (statement_at texts.now.catalog.now texts.now.statement.now cells.old froms.now parts.now)))
-        result area.new }
+        (told result) area.new }
 {
     match build(texts, tables, cells, froms, parts, area) {
-        Ok(n) => Outcome {
-            number: 0,
-            text: 0,
-            line: 0,
-            count: n,
-        },
+        Ok(n) => Ok(n),
         Err(w) => refuse(area, Text::Statement.refuses(w)),
     }
 }
 
 // Both texts read and planned; `tables` has enough numbers for the catalog.
-fn plan_with(texts: &Texts, tables: &mut [u32], area: &mut [u32]) -> Outcome
+fn plan_with(texts: &Texts, tables: &mut [u32], area: &mut [u32]) -> Result<u32, TextRefusal>
     requires tables_room { numbers_for (length texts.now.catalog.now) ≤ length tables.old }
     requires area_room { least_area ≤ length area.old }
-    ensures { Answers (outcome area.old (built_of texts.now.catalog.now texts.now.statement.now)) result
+    ensures { Answers (outcome area.old (built_of texts.now.catalog.now texts.now.statement.now)) (told result)
         area.new }
 {
     let mut cells = [0u32; CELL_NUMBERS];
@@ -102,23 +106,28 @@ fn plan_with(texts: &Texts, tables: &mut [u32], area: &mut [u32]) -> Outcome
     }
 }
 
-// The plan of the statement over the catalog, in the area: whatever the texts are, and whatever the area holds.
+// The plan of the statement over the catalog, in the area, and how many cells it has: whatever the texts are, and whatever
+// the area holds.
+pub fn plan(texts: &Texts, area: &mut [u32]) -> Result<u32, TextRefusal>
+    ensures { Answers (plan texts.now.catalog.now texts.now.statement.now area.old) (told result) area.new }
+{
+    if area.len() < LEAST_AREA {
+        return Err(Text::Statement.refuses(Reason::ShortArea.at(0)));
+    }
+    if numbers_for(texts.catalog.len()) <= SMALL_NUMBERS {
+        let mut small = [0u32; SMALL_NUMBERS];
+        return plan_with(texts, &mut small, area);
+    }
+    let mut tables = [0u32; NUMBERS];
+    plan_with(texts, &mut tables, area)
+}
+
+// As `plan`, with the texts and the answer as C has them.
 pub fn planner_plan(catalog: &[u8], statement: &[u8], area: &mut [u32]) -> Outcome
     ensures { Answers (plan catalog.now statement.now area.old) result area.new }
 {
-    if area.len() < LEAST_AREA {
-        return Outcome::from(Text::Statement.refuses(Reason::ShortArea.at(0)));
-    }
-    let texts = Texts {
-        catalog: catalog,
-        statement: statement,
-    };
-    if numbers_for(catalog.len()) <= SMALL_NUMBERS {
-        let mut small = [0u32; SMALL_NUMBERS];
-        return plan_with(&texts, &mut small, area);
-    }
-    let mut tables = [0u32; NUMBERS];
-    plan_with(&texts, &mut tables, area)
+    let texts = Texts { catalog, statement };
+    Outcome::from(plan(&texts, area))
 }
 
 // The number of the area's layout, which is the first of a plan's numbers.

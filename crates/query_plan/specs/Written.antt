@@ -1,5 +1,5 @@
 -- What the program writes.
-use Rattle.std.specs.Prelude.{ℕ, ◌≡◌, Bool, true, false, refl, [], ◌∷◌, ◌++◌, List, take, length, if◌then◌else◌, ◌==◌}
+use Rattle.std.specs.Prelude.{ℕ, ◌≡◌, Bool, true, false, refl, [], ◌∷◌, ◌++◌, List, Result, Ok, Err, take, length, if◌then◌else◌, ◌==◌}
 use Rattle.std.proofs.Common.{ap, ◌∙◌}
 use Rattle.rules.specs.Refusals.{Text, catalog, statement, Answer, ok, refused}
 use Rattle.rules.specs.Limits.{least_area}
@@ -7,7 +7,12 @@ use Rattle.rules.specs.Lists.{Bytes}
 use Rattle.rules.specs.Plan.{Built, Plan}
 use Rattle.rules.specs.Entry.{text_number, entry, outcome, plan}
 use Rattle.lines.specs.Spans.{nth_line}
-use Rattle.planner.specs.Outcomes.{Answers}
+use Rattle.numbers.specs.declared.refusals.Text as Tx
+use Rattle.numbers.specs.declared.refusals.Text.TheVariants as T
+use Rattle.numbers.specs.declared.refusals.TextRefusal.{TextRefusal}
+use Rattle.numbers.specs.Reasons.{reason_of}
+use Rattle.numbers.specs.Texts as code
+use Rattle.planner.specs.Outcomes.{told, Answers}
 use Rattle.planner.specs.declared.Outcome.{Outcome}
 use Rattle.plan_listing.specs.Numbers.{not-zero}
 
@@ -28,6 +33,25 @@ shown_record c q o = if o.number == 0 then [] else if o.text == 1 then shown_lin
 abbrev pub text_of : Bytes → Bytes → Text → Bytes
 text_of c q catalog = c
 text_of c q statement = q
+
+abbrev pub the_text : Tx.Text → Text
+the_text = code.text_of
+
+-- a plan has none, and of a refusal it is the line in its text
+module _ (c q : Bytes) {x : Result ℕ TextRefusal} where
+  pub planned-record : {n : ℕ} → x ≡ Ok n → shown_record c q (told x) ≡ []
+  unfolding told
+  planned-record e = rw e refl
+
+  pub refused-record : {w : TextRefusal} → x ≡ Err w
+      → shown_record c q (told x) ≡ shown_line (nth_line (text_of c q (the_text w.text)) w.line)
+  unfolding told code.text_of text_number
+  refused-record {w} e = rw (e, not-zero (reason_of w.reason)) (side w.text)
+    where
+      side : (y : Tx.Text) → (if text_number (the_text y) == 1 then shown_line (nth_line c w.line) else shown_line (nth_line q w.line))
+          ≡ shown_line (nth_line (text_of c q (the_text y)) w.line)
+      side T.Catalog = refl
+      side T.Statement = refl
 
 abbrev pub record_of : Bytes → Bytes → Answer (Plan Built) → Bytes
 record_of c q (ok p) = []

@@ -6,17 +6,18 @@ ghost use Rattle.std.specs.Prelude.{◌≡◌, drop, IfOk, OnOk};
 ghost use Rattle.std.specs.Io.KnownBytes.{Appends};
 ghost use Rattle.rules.specs.Listing.{listing};
 ghost use Rattle.listing.specs.Listed.{Holds};
+ghost use Rattle.planner.specs.Outcomes.{told};
 ghost use Rattle.plan_listing.specs.Shown.{shown};
 ghost use Rattle.lines.specs.Spans.{nth_line};
-ghost use Rattle.query_plan.specs.Written.{window_of, shown_line, shown_record, fault_record};
+ghost use Rattle.query_plan.specs.Written.{window_of, shown_line, shown_record, fault_record, text_of, the_text};
 
 use anyhow::{Context, Result};
 use input::SIZE;
 use lines::line_at;
 use listing::{WINDOW, Window};
+use numbers::refusals::{Text, TextRefusal};
 use plan_listing::list_outcome;
-use planner::{LEAST_AREA, Outcome, planner_plan};
-use reader::Text;
+use planner::LEAST_AREA;
 use std::fs::File;
 use std::io;
 use std::io::Write;
@@ -26,29 +27,35 @@ use text::places::Texts;
 const MOST_WINDOWS: u32 = 65536;
 
 // The rules' listing of both texts from its byte `from` on, as `list_outcome` answers it.
-fn list(texts: &Texts, outcome: Outcome, area: &[u32], from: u32, out: &mut Window) -> Option<usize>
-    requires { shown texts.now.catalog.now texts.now.statement.now outcome area.now
+fn list(
+    texts: &Texts,
+    planned: Result<u32, TextRefusal>,
+    area: &[u32],
+    from: u32,
+    out: &mut Window,
+) -> Option<usize>
+    requires { shown texts.now.catalog.now texts.now.statement.now (told planned) area.now
         ≡ listing texts.now.catalog.now texts.now.statement.now }
     ensures { Holds (drop from (listing texts.now.catalog.now texts.now.statement.now)) out.new result }
 {
-    list_outcome(texts, outcome, area, from, out)
+    list_outcome(texts, planned, area, from, out)
 }
 
 // Writes a window of the listing; whether another is to follow.
 fn print_window<W: Write>(
     to: &mut W,
     texts: &Texts,
-    outcome: Outcome,
+    planned: Result<u32, TextRefusal>,
     area: &[u32],
     from: u32,
 ) -> io::Result<bool>
-    requires { shown texts.now.catalog.now texts.now.statement.now outcome area.now
+    requires { shown texts.now.catalog.now texts.now.statement.now (told planned) area.now
         ≡ listing texts.now.catalog.now texts.now.statement.now }
     ensures { IfOk result (λ more. Appends (W.contents to.old) (W.contents to.new)
         (window_of more (drop from (listing texts.now.catalog.now texts.now.statement.now)))) }
 {
     let mut out = [0u8; WINDOW];
-    match list(texts, outcome, area, from, &mut out) {
+    match list(texts, planned, area, from, &mut out) {
         Some(n) => {
             to.write_all(&out[..n])?;
             Ok(false)
@@ -61,14 +68,19 @@ fn print_window<W: Write>(
 }
 
 // Writes the listing, window after window.
-fn print<W: Write>(to: &mut W, texts: &Texts, outcome: Outcome, area: &[u32]) -> io::Result<()>
-    requires { shown texts.now.catalog.now texts.now.statement.now outcome area.now
+fn print<W: Write>(
+    to: &mut W,
+    texts: &Texts,
+    planned: Result<u32, TextRefusal>,
+    area: &[u32],
+) -> io::Result<()>
+    requires { shown texts.now.catalog.now texts.now.statement.now (told planned) area.now
         ≡ listing texts.now.catalog.now texts.now.statement.now }
     ensures { OnOk result (Appends (W.contents to.old) (W.contents to.new)
         (listing texts.now.catalog.now texts.now.statement.now)) }
 {
     for k in 0..MOST_WINDOWS {
-        if !print_window(to, texts, outcome, area, k * 65536)? {
+        if !print_window(to, texts, planned, area, k * 65536)? {
             return Ok(());
         }
     }
@@ -87,19 +99,30 @@ fn show_line<W: Write>(to: &mut W, text: &[u8], n: u32) -> io::Result<()>
     to.write_all(b"\n")
 }
 
-// Writes the record that a refusal points at, for whoever has to mend it.
-#[tactic(auto, unfolding(rules::specs::Entry::text_number, reader::specs::Reading::text_of))]
-fn show_record<W: Write>(to: &mut W, texts: &Texts, outcome: Outcome) -> io::Result<()>
-    ensures { OnOk result (Appends (W.contents to.old) (W.contents to.new)
-        (shown_record texts.now.catalog.now texts.now.statement.now outcome)) }
+// The bytes of one of the texts.
+#[tactic(auto, unfolding(numbers::specs::Texts::text_of))]
+fn text_of<'t>(texts: &Texts<'t>, text: Text) -> &'t [u8]
+    ensures { result.now ≡ text_of texts.now.catalog.now texts.now.statement.now (the_text text) }
 {
-    if outcome.number == 0 {
-        return Ok(());
+    match text {
+        Text::Catalog => texts.catalog,
+        Text::Statement => texts.statement,
     }
-    if outcome.text == u32::from(Text::Catalog) {
-        return show_line(to, texts.catalog, outcome.line);
+}
+
+// Writes the record that a refusal points at, for whoever has to mend it.
+fn show_record<W: Write>(
+    to: &mut W,
+    texts: &Texts,
+    planned: Result<u32, TextRefusal>,
+) -> io::Result<()>
+    ensures { OnOk result (Appends (W.contents to.old) (W.contents to.new)
+        (shown_record texts.now.catalog.now texts.now.statement.now (told planned))) }
+{
+    match planned {
+        Ok(_) => Ok(()),
+        Err(refusal) => show_line(to, text_of(texts, refusal.text), refusal.line),
     }
-    show_line(to, texts.statement, outcome.line)
 }
 
 // Plans both texts and writes the listing; of a refusal also the record that it points at.
@@ -110,9 +133,9 @@ fn plan<O: Write, E: Write>(out: &mut O, errors: &mut E, texts: &Texts) -> Resul
         (fault_record texts.now.catalog.now texts.now.statement.now)) }
 {
     let mut area = [0u32; LEAST_AREA];
-    let outcome = planner_plan(texts.catalog, texts.statement, &mut area);
-    let printed = print(out, texts, outcome, &area);
-    let shown = show_record(errors, texts, outcome);
+    let planned = planner::plan(texts, &mut area);
+    let printed = print(out, texts, planned, &area);
+    let shown = show_record(errors, texts, planned);
     printed.context("standard output")?;
     shown.context("standard error")?;
     Ok(())

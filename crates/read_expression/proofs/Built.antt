@@ -132,12 +132,12 @@ module _ (e : Read Expr) (p : Place) where
 pub operands-no : (h : Head) (l : ℕ) (e : Read Expr) (p : Place) (x : Refusal) → times (arity h) e p ≡ refused x → operands h l e p ≡ refused x
 unfolding mapped arity
 operands-no is_head l e p x g = unfold operands in bind-no e _ p x (one-no e p x g)
-operands-no star_head l e p x g = operands-build star_head l e p (λ j. let u : ◌≡◌ {A = ℕ} 0 1 = cc in omega arith) ∙ rw g
-operands-no (column_head t n) l e p x g = operands-build (column_head t n) l e p (λ j. let u : ◌≡◌ {A = ℕ} 0 1 = cc in omega arith) ∙ rw g
-operands-no (value_head v) l e p x g = operands-build (value_head v) l e p (λ j. let u : ◌≡◌ {A = ℕ} 0 1 = cc in omega arith) ∙ rw g
-operands-no (call_head n k) l e p x g = operands-build (call_head n k) l e p (λ j. let u : ◌≡◌ {A = ℕ} 0 1 = cc in omega arith) ∙ rw g
-operands-no (unary_head o) l e p x g = operands-build (unary_head o) l e p (λ j. let u : ◌≡◌ {A = ℕ} 0 1 = cc in omega arith) ∙ rw g
-operands-no (binary_head o) l e p x g = operands-build (binary_head o) l e p (λ j. let u : ◌≡◌ {A = ℕ} 0 1 = cc in omega arith) ∙ rw g
+operands-no star_head l e p x g = operands-build star_head l e p (λ j. grind arith) ∙ rw g
+operands-no (column_head t n) l e p x g = operands-build (column_head t n) l e p (λ j. grind arith) ∙ rw g
+operands-no (value_head v) l e p x g = operands-build (value_head v) l e p (λ j. grind arith) ∙ rw g
+operands-no (call_head n k) l e p x g = operands-build (call_head n k) l e p (λ j. grind arith) ∙ rw g
+operands-no (unary_head o) l e p x g = operands-build (unary_head o) l e p (λ j. grind arith) ∙ rw g
+operands-no (binary_head o) l e p x g = operands-build (binary_head o) l e p (λ j. grind arith) ∙ rw g
 
 pub is-built : (l : ℕ) (a : Expr) (v : Value) → encode (is l a v) ≡ row_of l (suc (size a)) (is_numbers v) ++ encode a
 unfolding encode

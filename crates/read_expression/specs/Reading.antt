@@ -8,6 +8,8 @@ use Rattle.rules.specs.Schema.{Value}
 use Rattle.rules.specs.Ast.{Exprs, size_all}
 use Rattle.rules.specs.Reader.{Place, Read}
 use Rattle.text.specs.Reading.{place}
+use Rattle.text.specs.Lines.{Fields}
+use Rattle.text.specs.declared.Line.{Line}
 use Rattle.numbers.specs.Values.{ValueFits}
 use Rattle.ast.specs.Table.{row_size}
 use Rattle.numbers.specs.declared.refusals.Refusal.{Refusal}
@@ -26,6 +28,18 @@ pub record Position (t : Bytes) (p l c : ℕ) : Type 0 where
   pub within : p ≤ length t
   pub line : l ≤ p + 1
   pub rows : c ≤ most_cells
+
+-- f is the line at position p of a statement that is not too long
+pub record LineAt (t : Bytes) (p : ℕ) (f : Line) : Type 0 where
+  pub short : length t ≤ most_bytes
+  pub within : p ≤ length t
+  pub fields : Fields t p f
+
+-- f is a line of such a statement
+pub record IsLine (f : Line) : Type 0 where
+  pub text : Bytes
+  pub position : ℕ
+  pub is : LineAt text position f
 
 -- a reading that came to its end: what it read, which H holds of, and where the rest stands
 pub record Took {A : Type 0} (m : Read A) (H : A → Type 0) (t : Bytes) (p l c k p' l' c' : ℕ) : Type 0 where

@@ -87,13 +87,13 @@ module _ (t : Bytes) (p l c k : ℕ) where
   pub head-inside : (h : Head) → one_of heads (line_here (here t p l c k)) ≡ some h → p < length t
   head-inside h e = elim (dec_lt p (length t)) [
     | yes y ↦ y
-    | no y ↦ absurd (let x : some h ≡ none = sym e ∙ head-past t p l c k (omega (arith, y)) in let z : ◌≡◌ {A = ℕ} 0 1 = cc in omega arith)
+    | no y ↦ absurd (let x : some h ≡ none = sym e ∙ head-past t p l c k (omega (arith, y)) in grind arith)
   ]
 
   pub literal-inside : (v : Value) → one_of literals (line_here (here t p l c k)) ≡ some v → p < length t
   literal-inside v e = elim (dec_lt p (length t)) [
     | yes y ↦ y
-    | no y ↦ absurd (let x : some v ≡ none = sym e ∙ literal-past t p l c k (omega (arith, y)) in let z : ◌≡◌ {A = ℕ} 0 1 = cc in omega arith)
+    | no y ↦ absurd (let x : some v ≡ none = sym e ∙ literal-past t p l c k (omega (arith, y)) in grind arith)
   ]
 
 -- behind a line that stands there

@@ -8,11 +8,11 @@ use Rattle.rules.specs.Refusals.{statement}
 use Rattle.rules.specs.Lists.{Bytes, same, named, map_option}
 use Rattle.rules.specs.Lines.{Word, bytes}
 use Rattle.rules.specs.Schema.{Value}
-use Rattle.rules.specs.Reader.{Place, base_address, key, rest, key_of, rest_of, line_here, apply, one_of, no_field, one_field, name, count_field, word, literals}
+use Rattle.rules.specs.Reader.{Place, key, rest, key_of, rest_of, line_here, apply, one_of, no_field, one_field, name, count_field, word, literals}
 use Rattle.rules.specs.ReadExpression.{Head, star_head, value_head, operators, column_fields, call_fields, value_heads, heads}
 use Rattle.text.specs.Lines.{field, kept_fields, Fields}
 use Rattle.text.specs.Words.{find, words_of, push, keys, nth, named_by, nth-none}
-use Rattle.text.specs.Reading.{place, field_of, key-is, rest-none, rest-one, rest-two, rest-other}
+use Rattle.text.specs.Reading.{place, key-is, rest-none, rest-other, with-one, with-two}
 use Rattle.text.specs.Records.{no-field, one_field_lem, two_fields_lem}
 use Rattle.text.specs.declared.Line.{Line}
 
@@ -73,14 +73,6 @@ module _ (t : Bytes) (p l c n : ℕ) (r : Line) (f : Fields t p r) where
   alone : r.count ≡ 1 → rest (here t p l c n) ≡ []
   alone = rest-none statement t p l c n r f
 
-  with-one : r.count ≡ 2 → rest (here t p l c n) ≡ field most_bytes t (get_or r.starts 1 0) (get_or r.lens 1 0) ∷ []
-  unfolding field_of base_address
-  with-one = rest-one statement t p l c n r f
-
-  with_two : r.count ≡ 3 → rest (here t p l c n) ≡ field most_bytes t (get_or r.starts 1 0) (get_or r.lens 1 0) ∷ field most_bytes t (get_or r.starts 2 0) (get_or r.lens 2 0) ∷ []
-  unfolding field_of base_address
-  with_two = rest-two statement t p l c n r f
-
   without : (i : ℕ) → suc i < kept_fields → (r.count ≡ suc i → ⊥) → length (rest (here t p l c n)) ≡ i → ⊥
   without = rest-other statement t p l c n r f
 
@@ -109,7 +101,7 @@ module _ (t : Bytes) (p l c n : ℕ) (r : Line) (f : Fields t p r) where
 
     pub head-op : k ≡ 0 → r.count ≡ 2 → one_of heads (line_here (here t p l c n)) ≡ word operators (field most_bytes t (get_or r.starts 1 0) (get_or r.lens 1 0))
     unfolding one_field
-    head-op z m = at_op z ∙ rw (with-one m)
+    head-op z m = at_op z ∙ rw (with-one t p l c n r f m)
 
     pub head-op-not : k ≡ 0 → (r.count ≡ 2 → ⊥) → one_of heads (line_here (here t p l c n)) ≡ none
     head-op-not z m = at_op z ∙ one_field_lem (word operators) _ (without 1 (omega arith) m)
@@ -118,11 +110,11 @@ module _ (t : Bytes) (p l c n : ℕ) (r : Line) (f : Fields t p r) where
     at-column z = head-by column_fields (unfold others nth in rw z)
 
     pub head-column : k ≡ 1 → r.count ≡ 2 → one_of heads (line_here (here t p l c n)) ≡ column_fields (field most_bytes t (get_or r.starts 1 0) (get_or r.lens 1 0) ∷ [])
-    head-column z m = at-column z ∙ ap column_fields (with-one m)
+    head-column z m = at-column z ∙ ap column_fields (with-one t p l c n r f m)
 
     pub head-qualified : k ≡ 1 → r.count ≡ 3
         → one_of heads (line_here (here t p l c n)) ≡ column_fields (field most_bytes t (get_or r.starts 1 0) (get_or r.lens 1 0) ∷ field most_bytes t (get_or r.starts 2 0) (get_or r.lens 2 0) ∷ [])
-    head-qualified z m = at-column z ∙ ap column_fields (with_two m)
+    head-qualified z m = at-column z ∙ ap column_fields (with-two t p l c n r f m)
 
     pub head-column-not : k ≡ 1 → (r.count ≡ 2 → ⊥) → (r.count ≡ 3 → ⊥) → one_of heads (line_here (here t p l c n)) ≡ none
     head-column-not z m o = at-column z ∙ columns-not _ (without 1 (omega arith) m) (without 2 (omega arith) o)
@@ -132,7 +124,7 @@ module _ (t : Bytes) (p l c n : ℕ) (r : Line) (f : Fields t p r) where
 
     pub head-call : k ≡ 2 → r.count ≡ 3
         → one_of heads (line_here (here t p l c n)) ≡ call_fields (field most_bytes t (get_or r.starts 1 0) (get_or r.lens 1 0) ∷ field most_bytes t (get_or r.starts 2 0) (get_or r.lens 2 0) ∷ [])
-    head-call z m = at_call z ∙ ap call_fields (with_two m)
+    head-call z m = at_call z ∙ ap call_fields (with-two t p l c n r f m)
 
     pub head-call-not : k ≡ 2 → (r.count ≡ 3 → ⊥) → one_of heads (line_here (here t p l c n)) ≡ none
     unfolding call_fields map_option

@@ -95,7 +95,7 @@ unfolding first-of place_of
 ok_same {x = x} {p = p} e = (ap (first-of x) e, ap (place_of p) e)
 
 pub ok-not : {A : Type 0} {x : A × Place} {r : Refusal} → ◌≡◌ {A = Answer (A × Place)} (ok x) (refused r) → ⊥
-ok-not e = let u : ◌≡◌ {A = ℕ} 0 1 = cc in omega arith
+ok-not e = grind arith
 
 -- HOW MANY THERE ARE
 pub times-count : (n : ℕ) (e : Read Expr) (p q : Place) (es : Exprs) → times n e p ≡ ok (es, q) → count_of es ≡ n

@@ -1,5 +1,5 @@
 // What one record says of an expression, as the numbers of its row (specs/Table.antt).
-ghost use Rattle.std.specs.Prelude.{List, [], ◌∷◌, ℕ, ◌≤◌, length, Some};
+ghost use Rattle.std.specs.Prelude.{List, [], ◌∷◌, ℕ, ◌≤◌, Some};
 ghost use Rattle.std.proofs.Math.Option.{Option, some};
 ghost use Rattle.rules.specs.Refusals.{statement};
 ghost use Rattle.rules.specs.Limits.{most_bytes};
@@ -7,19 +7,20 @@ ghost use Rattle.rules.specs.Lists.{map_option, named};
 ghost use Rattle.rules.specs.Schema.{Value};
 ghost use Rattle.rules.specs.Reader.{line_here, one_of};
 ghost use Rattle.rules.specs.ReadExpression.{unary_head, binary_head, value_head, operators, column_fields, call_fields, heads};
-ghost use Rattle.text.specs.Lines.{field, Fields};
+ghost use Rattle.text.specs.Lines.{field};
 ghost use Rattle.text.specs.Reading.{place};
 ghost use Rattle.text.specs.Fields.{Inside};
 ghost use Rattle.numbers.specs.Operators.{unary_operator, binary_operator};
 ghost use Rattle.literal.specs.Records.{IsLiteral};
 ghost use Rattle.ast.specs.Row.{number_of};
+ghost use Rattle.read_expression.specs.Reading.{LineAt};
 ghost use Rattle.read_expression.specs.RowOf.{Plain, RowOf};
 
 use ast::row::Kind;
 use literal::record::literal_at;
 use numbers::literals::Literal;
 use numbers::operators::{Binary, Unary};
-use text::places::address;
+use text::places::name_at;
 use text::{Line, MOST_BYTES};
 
 // A row but its line and its size, and how many operands follow its record. The code is an operator's, a literal's kind by its number, or how
@@ -92,18 +93,16 @@ fn operator(word: &[u8]) -> Option<Row>
 }
 
 // A column's name.
-fn column(t: &[u8], a: usize, n: usize) -> Option<Row>
-    requires { Inside t.now a n }
-    ensures { RowOf t.now (column_fields (field most_bytes t.now a n ∷ [])) result }
+fn column(a: usize, n: usize) -> Option<Row>
+    requires { (a ≤ 65536) × (n ≤ 65536) }
+    ensures { (t : List ℕ) → Inside t a n → RowOf t (column_fields (field most_bytes t a n ∷ [])) result }
 {
-    if !text::is_name(n) {
-        return None;
-    }
+    let name = name_at(a, n)?;
     Some(Row {
         kind: Kind::Column,
         code: 0,
-        a: address(a),
-        b: n as u32,
+        a: name.address,
+        b: name.length,
         c: 0,
         d: 0,
         operands: 0,
@@ -111,44 +110,39 @@ fn column(t: &[u8], a: usize, n: usize) -> Option<Row>
 }
 
 // A column's table and name.
-fn qualified(t: &[u8], a: usize, n: usize, b: usize, m: usize) -> Option<Row>
-    requires fact_1 { Inside t.now a n }
-    requires fact_2 { Inside t.now b m }
-    ensures { RowOf t.now (column_fields (field most_bytes t.now a n ∷ field most_bytes t.now b m ∷ [])) result }
+fn qualified(a: usize, n: usize, b: usize, m: usize) -> Option<Row>
+    requires table { (a ≤ 65536) × (n ≤ 65536) }
+    requires name { (b ≤ 65536) × (m ≤ 65536) }
+    ensures { (t : List ℕ) → Inside t a n → Inside t b m
+        → RowOf t (column_fields (field most_bytes t a n ∷ field most_bytes t b m ∷ [])) result }
 {
-    if !text::is_name(n) {
-        return None;
-    }
-    if !text::is_name(m) {
-        return None;
-    }
+    let table = name_at(a, n)?;
+    let name = name_at(b, m)?;
     Some(Row {
         kind: Kind::Qualified,
         code: 0,
-        a: address(b),
-        b: m as u32,
-        c: address(a),
-        d: n as u32,
+        a: name.address,
+        b: name.length,
+        c: table.address,
+        d: table.length,
         operands: 0,
     })
 }
 
 // A function's name and the number of its arguments.
-fn call(t: &[u8], a: usize, n: usize, arguments: &[u8]) -> Option<Row>
-    requires { Inside t.now a n }
-    ensures { (o : ℕ) → RowOf t.now (call_fields (field most_bytes t.now a n ∷ record { bytes = arguments.now; start = o } ∷
-        [])) result }
+fn call(a: usize, n: usize, arguments: &[u8]) -> Option<Row>
+    requires { (a ≤ 65536) × (n ≤ 65536) }
+    ensures { (t : List ℕ) (o : ℕ) → Inside t a n
+        → RowOf t (call_fields (field most_bytes t a n ∷ record { bytes = arguments.now; start = o } ∷ [])) result }
 {
-    if !text::is_name(n) {
-        return None;
-    }
+    let name = name_at(a, n)?;
     let v = text::count(arguments)?;
     let k = v as u32;
     Some(Row {
         kind: Kind::Call,
         code: k,
-        a: address(a),
-        b: n as u32,
+        a: name.address,
+        b: name.length,
         c: 0,
         d: 0,
         operands: k,
@@ -173,8 +167,7 @@ fn literal_row(literal: Literal) -> Row
 
 // The expression record at a position, by its fields.
 pub fn head(t: &[u8], p: usize, f: Line) -> Option<Row>
-    requires fact_1 { (length t.now ≤ 65536) × (p ≤ length t.now) }
-    requires fact_2 { Fields t.now p f }
+    requires { LineAt t.now p f }
     ensures { (l c k : ℕ) → RowOf t.now (one_of heads (line_here (place statement t.now p l c k))) result }
 {
     match text::packed(f.field(t, 0)) {
@@ -183,12 +176,12 @@ pub fn head(t: &[u8], p: usize, f: Line) -> Option<Row>
             _ => None,
         },
         text::words::COL => match f.count {
-            2 => column(t, f.starts[1], f.lens[1]),
-            3 => qualified(t, f.starts[1], f.lens[1], f.starts[2], f.lens[2]),
+            2 => column(f.starts[1], f.lens[1]),
+            3 => qualified(f.starts[1], f.lens[1], f.starts[2], f.lens[2]),
             _ => None,
         },
         text::words::FN => match f.count {
-            3 => call(t, f.starts[1], f.lens[1], f.field(t, 2)),
+            3 => call(f.starts[1], f.lens[1], f.field(t, 2)),
             _ => None,
         },
         text::words::STAR => match f.count {

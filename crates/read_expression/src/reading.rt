@@ -56,8 +56,8 @@ pub fn put_row(cells: &mut [u32], c: u32, line: u32, rows: u32, h: Row)
 
 // The literal behind the operand of an `is` at row c; and that row, on its line.
 fn read_is(t: &[u8], at: Cursor, c: u32, line: u32, cells: &mut [u32]) -> Result<Cursor, Refusal>
-    requires fact_1 { Position t.now at.position at.line at.rows }
-    requires fact_2 { (c < at.rows) × (length cells.old ≡ table_size) }
+    requires position { Position t.now at.position at.line at.rows }
+    requires room { (c < at.rows) × (length cells.old ≡ table_size) }
     ensures { (k : ℕ) → Given literal_here (IsRow t.now c at.rows line cells.old cells.new) t.now at.position at.line
         at.rows k result }
 {
@@ -137,8 +137,8 @@ fn read_deep(t: &[u8], at: Cursor, depth: u32, cells: &mut [u32]) -> Result<Curs
 
 // n expressions in a row. Where they are refused the rows from this one on mean nothing.
 pub fn read_expressions(t: &[u8], at: Cursor, n: u32, cells: &mut [u32]) -> Result<Cursor, Refusal>
-    requires fact_1 { Position t.now at.position at.line at.rows }
-    requires fact_2 { (n ≤ most_cells + 1) × (length cells.old ≡ table_size) }
+    requires position { Position t.now at.position at.line at.rows }
+    requires room { (n ≤ most_cells + 1) × (length cells.old ≡ table_size) }
     ensures { (k : ℕ) → Given (times n expression) (Rows t.now at.rows cells.old cells.new) t.now at.position at.line
         at.rows k result }
 {

@@ -8,14 +8,19 @@ use Rattle.rules.specs.Ast.{Statement}
 use Rattle.rules.specs.Ast as Ast
 use Rattle.rules.specs.Sizes.{statement_size}
 use Rattle.rules.specs.Print.{decimal_of, tabbed, show_lines, text_name, show_refusal, show_answer}
-use Rattle.reader.specs.Reading.{text_named, texts_of, statement_kind}
+use Rattle.reader.specs.Reading.{texts_of, statement_kind}
+use Rattle.numbers.specs.Texts.{text_of, text_named}
+use Rattle.rules.specs.Entry.{text_number}
+use Rattle.text.specs.Words.{words_of, push}
+use Rattle.listing.specs.Words.{word_of}
+use Rattle.listing.specs.Listed.{refusal_line}
 use Rattle.numbers.specs.Reasons.{reason_of, reason-named}
 use Rattle.statement.specs.declared.access.Kind.{Kind}
 use Rattle.statement.specs.declared.access.Kind.TheVariants as K
-use Rattle.reader.specs.declared.Text as Tx
-use Rattle.reader.specs.declared.Text.TheVariants as T
+use Rattle.numbers.specs.declared.refusals.Text as Tx
+use Rattle.numbers.specs.declared.refusals.Text.TheVariants as T
 use Rattle.reader.specs.declared.Contents.{Contents}
-use Rattle.reader.specs.declared.TextRefusal.{TextRefusal}
+use Rattle.numbers.specs.declared.refusals.TextRefusal.{TextRefusal}
 
 unfoldable pub kind_name : Statement → Bytes
 kind_name (Ast.select s) = bytes "select"
@@ -66,6 +71,17 @@ text-word : (t : Text) → text_word (text_named t) ≡ text_name t
 unfolding text_word text_named text_name
 text-word catalog = refl
 text-word statement = refl
+
+-- a refusal is printed as the planning program prints it
+text-words : (t : Tx.Text) → word_of (bytes " catalog statement ") (text_number (text_of t)) ≡ text_word t
+unfolding text_of text_number text_word bytes words_of push
+text-words T.Catalog = refl
+text-words T.Statement = refl
+
+pub refused-fields : (w : TextRefusal)
+    → refusal_line (refusal_number (reason_of w.reason)) (text_number (text_of w.text)) w.line ≡ fields_of (Err w) ∷ []
+unfolding refusal_line fields_of
+refused-fields w = rw (text-words w.text) refl
 
 refused-line : (r : Refusal) → line_of (texts_of (refused r)) ≡ printed (refused r)
 unfolding line_of fields_of texts_of printed show_answer show_lines show_refusal

@@ -8,8 +8,8 @@ use Rattle.rules.specs.Print.{digits_of, decimal_of, tabbed}
 use Rattle.listing.specs.Put.{Put}
 use Rattle.statement.specs.declared.access.Kind.{Kind}
 use Rattle.statement.specs.declared.access.Kind.TheVariants as K
-use Rattle.reader.specs.declared.Text as Tx
-use Rattle.reader.specs.declared.Text.TheVariants as T
+use Rattle.numbers.specs.declared.refusals.Text as Tx
+use Rattle.numbers.specs.declared.refusals.Text.TheVariants as T
 use Rattle.read_texts.specs.Line.{kind_word, text_word}
 
 digits_few : (k f n : ℕ) (r : Bytes) → n < 10 ^ suc k → length (digits_of f n r) ≤ suc k + length r

@@ -2,10 +2,11 @@
 ghost use Rattle.std.specs.Prelude.{◌≤◌, ◌≡◌, [], ◌∷◌, length, take, Ok, Err};
 ghost use Rattle.io.specs.Counts.{IsPrefixLen};
 ghost use Rattle.listing.specs.Lines.{Lines};
-ghost use Rattle.read_texts.specs.Line.{kind_word, text_word, fields_of, line_of};
+ghost use Rattle.read_texts.specs.Line.{kind_word, fields_of, line_of};
 
 use listing::put::Writer;
-use reader::{Contents, Text, TextRefusal};
+use numbers::refusals::TextRefusal;
+use reader::Contents;
 use statement::access::Kind;
 use text::places::Texts;
 
@@ -25,17 +26,6 @@ fn kind_word(kind: Kind) -> &'static [u8]
     }
 }
 
-// The word of a text.
-#[tactic(auto, unfolding(crate::specs::Line::text_word, rules::specs::Lines::bytes))]
-fn text_word(text: Text) -> &'static [u8]
-    ensures { result.now ≡ text_word text }
-{
-    match text {
-        Text::Catalog => b"catalog",
-        Text::Statement => b"statement",
-    }
-}
-
 // The line of texts that were read.
 fn put_read(to: &mut Writer, t: Contents)
     ensures line { Lines to.old to.new (fields_of (Ok t) ∷ []) }
@@ -48,25 +38,13 @@ fn put_read(to: &mut Writer, t: Contents)
     to.byte(b'\n');
 }
 
-// The line of a refusal.
-fn put_refusal(to: &mut Writer, w: TextRefusal)
-    ensures line { Lines to.old to.new (fields_of (Err w) ∷ []) }
-    ensures short { length (line_of (Err w)) ≤ 64 }
-{
-    to.bytes(b"refused");
-    to.number(u32::from(w.reason));
-    to.field(text_word(w.text));
-    to.number(w.line);
-    to.byte(b'\n');
-}
-
 fn put_line(to: &mut Writer, t: Result<Contents, TextRefusal>)
     ensures line { Lines to.old to.new (fields_of t ∷ []) }
     ensures short { length (line_of t) ≤ 64 }
 {
     match t {
         Ok(t) => put_read(to, t),
-        Err(w) => put_refusal(to, w),
+        Err(w) => to.refusal(w),
     }
 }
 

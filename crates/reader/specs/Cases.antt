@@ -25,8 +25,9 @@ use Rattle.numbers.specs.declared.refusals.Refusal as code
 use Rattle.numbers.specs.declared.refusals.Reason.TheVariants.{LimitPassed}
 use Rattle.numbers.specs.Reasons.{told, named, named-reason}
 use Rattle.reader.specs.Texts.{not_other, both_of, read_texts}
-use Rattle.reader.specs.Reading.{text_named, texts_of, texts_by, statement_kind, TextsRead}
-use Rattle.reader.specs.declared.Text.TheVariants as T
+use Rattle.reader.specs.Reading.{texts_of, texts_by, statement_kind, TextsRead}
+use Rattle.numbers.specs.Texts.{text_named}
+use Rattle.numbers.specs.declared.refusals.Text.TheVariants as T
 
 -- REFUSED
 never : {A : Type 0} {ρ : Refusal} {x : A} → refused ρ ≡ ok x → ⊥

@@ -1,6 +1,5 @@
 -- What reading both texts answers, and what the slices then stand for.
 use Rattle.std.specs.Prelude.{ℕ, ◌≡◌, refl, List, length, Result, Ok, Err}
-use Rattle.rules.specs.Refusals as rules
 use Rattle.rules.specs.Refusals.{Answer, ok, refused}
 use Rattle.rules.specs.Lists.{Bytes}
 use Rattle.rules.specs.Schema.{Catalog}
@@ -17,25 +16,10 @@ use Rattle.statement.specs.declared.access.Kind.TheVariants as K
 use Rattle.reader.specs.Texts.{kind_of, read_texts}
 use Rattle.numbers.specs.declared.refusals.Reason.TheVariants.{OtherStatement}
 use Rattle.numbers.specs.Reasons.{named}
-use Rattle.reader.specs.declared.Text as Tx
-use Rattle.reader.specs.declared.Text.TheVariants as T
+use Rattle.numbers.specs.Texts.{text_named}
+use Rattle.numbers.specs.declared.refusals.Text.TheVariants as T
 use Rattle.reader.specs.declared.Contents.{Contents}
-use Rattle.reader.specs.declared.TextRefusal.{TextRefusal}
-
--- the code's texts are the rules'
-unfoldable pub text_of : Tx.Text → rules.Text
-text_of T.Catalog = rules.catalog
-text_of T.Statement = rules.statement
-
--- and back
-unfoldable pub text_named : rules.Text → Tx.Text
-text_named rules.catalog = T.Catalog
-text_named rules.statement = T.Statement
-
-pub text-named : (t : rules.Text) → text_of (text_named t) ≡ t
-unfolding text_of text_named
-text-named rules.catalog = refl
-text-named rules.statement = refl
+use Rattle.numbers.specs.declared.refusals.TextRefusal.{TextRefusal}
 
 -- the kind of a statement
 unfoldable pub statement_kind : Statement → Kind

@@ -24,10 +24,11 @@ use Rattle.statement.specs.declared.access.Kind.TheVariants as K
 use Rattle.statement.specs.Kinds.{number_of}
 use Rattle.statement.specs.declared.access.Kind.{Kind}
 use Rattle.reader.specs.Texts.{kind_of, not_other, both_of, read_texts}
-use Rattle.reader.specs.Reading.{text_of, text_named, text-named, texts_of, statement_kind, kind-numbers, TextsRead}
+use Rattle.reader.specs.Reading.{texts_of, statement_kind, kind-numbers, TextsRead}
+use Rattle.numbers.specs.Texts.{text_of, text_named, text-named}
 use Rattle.numbers.specs.Reasons.{named, reason_of, reason-named}
 use Rattle.reader.specs.declared.Contents.{Contents}
-use Rattle.reader.specs.declared.TextRefusal.{TextRefusal}
+use Rattle.numbers.specs.declared.refusals.TextRefusal.{TextRefusal}
 
 -- BOTH READ
 -- each text is short and read by its own rule

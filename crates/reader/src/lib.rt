@@ -2,44 +2,14 @@
 #![tactic(auto)]
 
 ghost use Rattle.std.specs.Prelude.{◌≡◌, ◌≤◌, length};
-ghost use Rattle.rules.specs.Entry.{text_number};
 ghost use Rattle.schema.specs.Room.{numbers_for};
-ghost use Rattle.reader.specs.Reading.{text_of, texts_by, TextsRead};
+ghost use Rattle.reader.specs.Reading.{texts_by, TextsRead};
 
-use numbers::refusals::{Reason, Refusal};
+use numbers::refusals::{Reason, Text, TextRefusal};
 use schema::read::read_catalog;
 use statement::access::{Kind, kind_of, line};
 use statement::{CELL_NUMBERS, FROM_NUMBERS, PART_NUMBERS, read_statement};
 use text::places::Texts;
-
-// The two texts, by document 01's numbers.
-#[derive(Clone, Copy, Debug, PartialEq, Eq)]
-pub enum Text {
-    Catalog = 1,
-    Statement = 2,
-}
-
-// Document 01's number.
-impl From<Text> for u32 {
-    ghost from_gives = { λ text number. number ≡ text_number (text_of text) };
-
-    fn from(text: Text) -> u32 {
-        text as u32
-    }
-}
-
-impl Text {
-    // A refusal of this text.
-    pub fn refuses(self, refusal: Refusal) -> TextRefusal
-        ensures { result ≡ record { reason = refusal.reason; text = self; line = refusal.line } }
-    {
-        TextRefusal {
-            reason: refusal.reason,
-            text: self,
-            line: refusal.line,
-        }
-    }
-}
 
 // Two texts that were read: the statement's kind, how many expression cells it has and how many tables the catalog has.
 #[derive(Clone, Copy, Debug, PartialEq, Eq)]
@@ -47,14 +17,6 @@ pub struct Contents {
     pub kind: Kind,
     pub cells: u32,
     pub tables: u32,
-}
-
-// Why a text is refused, which of the two, and the line of the record where it arose.
-#[derive(Clone, Copy, Debug, PartialEq, Eq)]
-pub struct TextRefusal {
-    pub reason: Reason,
-    pub text: Text,
-    pub line: u32,
 }
 
 // A statement that was read, by its kind and line: refused where it is none of the six that can be planned.

@@ -6,11 +6,12 @@ use Rattle.rules.specs.Ast.{Statement}
 use Rattle.rules.specs.Sizes.{statement_size}
 use Rattle.rules.specs.Entry.{text_number}
 use Rattle.reader.specs.Texts.{kind_of}
-use Rattle.reader.specs.Reading.{text_of, text-named, texts_of, kind-numbers}
+use Rattle.reader.specs.Reading.{texts_of, kind-numbers}
+use Rattle.numbers.specs.Texts.{text_of, text-named}
 use Rattle.numbers.specs.Reasons.{reason_of, reason-named}
 use Rattle.statement.specs.Kinds.{number_of}
 use Rattle.reader.specs.declared.Contents.{Contents}
-use Rattle.reader.specs.declared.TextRefusal.{TextRefusal}
+use Rattle.numbers.specs.declared.refusals.TextRefusal.{TextRefusal}
 use Rattle.reader_host.specs.declared.Answer as Numbers
 
 unfoldable pub answered : Result Contents TextRefusal → Numbers.Answer

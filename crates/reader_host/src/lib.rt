@@ -10,7 +10,8 @@ ghost use Rattle.statement.specs.Layout.{statement_at};
 ghost use Rattle.reader.specs.Texts.{read_texts};
 ghost use Rattle.reader_host.specs.Numbers.{answered as answeredBy, answer_of};
 
-use reader::{Contents, TextRefusal};
+use numbers::refusals::TextRefusal;
+use reader::Contents;
 use schema::NUMBERS;
 use statement::{CELL_NUMBERS, FROM_NUMBERS, PART_NUMBERS};
 use text::places::Texts;

@@ -1,6 +1,6 @@
 -- The remainder of what is not a number or not finite, and its sign.
 use mathlib.Core.Path.{◌≡◌, refl, sym, ap, ◌∙◌, subst}
-use mathlib.Core.Bool.{Bool, true, false, ◌&&◌, cond, true≢false}
+use mathlib.Core.Bool.{Bool, true, false, cond, true≢false}
 use Prim.Native.Nat.{ℕ, zero, suc, ◌*◌, ◌%◌, ◌^◌, ◌<◌}
 use native.Mathlib.Nat.{eq-zero-or-pos, mul-pos, lt_irrefl, zero-lt-suc}
 use native.Mathlib.Omega.{arith}
@@ -9,6 +9,7 @@ use lib.Dec.{eqb}
 use lib.IntN.{ℤ, pos}
 use lib.Pow.{pow_pos}
 use borrow.Author.Tests.{eqb-true, eq-eqb}
+use Rattle.std.specs.Cmp.{first_so}
 use lib.Ieee.{Float, nan, inf, fin, binary64, up, down, round, rem, eq, is_nan, fits, of_bits}
 use lib.Ieee.Fits.{up_pos}
 use Rattle.std.specs.Float.{float_is_finite, float_with_sign, is_sign_negative}
@@ -46,10 +47,6 @@ by_infinite (fin s m e) nan f n h = absurd (true≢false n)
 by_infinite (fin s m e) (inf t) f n h = refl
 by_infinite (fin s m e) (fin t n d) f i h = absurd (true≢false h)
 
-first : (a b : Bool) → (a && b) ≡ true → a ≡ true
-first true b h = refl
-first false b h = absurd (true≢false (sym h))
-
 is_none : (n : ℕ) (d : ℤ) → n * up d * 1 ≡ 0 * 1 * down d → n ≡ 0
 is_none n d h =
     elim (eq-zero-or-pos n) [
@@ -71,7 +68,7 @@ by_zero x y h = nan_is ∙ go x y (sym (ap (eq y) zero_is) ∙ h)
     go (fin s m e) (inf t) h = absurd (true≢false (sym h))
     go (fin s m e) (fin t n d) h =
         ap (λ (k : Bool). cond k nan (round binary64 s (m * up e * down d % (n * up d * down e)) (down e * down d)))
-        (sym (eq-eqb n 0 (is_none n d (eqb-true (n * up d * 1) (0 * 1 * down d) (first _ _ h)))))
+        (sym (eq-eqb n 0 (is_none n d (eqb-true (n * up d * 1) (0 * 1 * down d) (first_so _ _ h)))))
 
 pub size_of : (x r : Float) → float_is_finite x ≡ true → r ≡ float_with_sign false x → IsSize r
 unfolding float_is_finite float_with_sign is_size

@@ -103,6 +103,7 @@ fn replay<W: Write>(to: &mut W, list: &[u8]) -> (Result<Progress, Damaged>, io::
         cases: 0,
         agree: 0,
     };
+    // Where a case ends is known once it is read, so no `for` counts them.
     while p.at < list.len() {
         let Some(next) = step(list, p) else {
             return (Err(Damaged { cases: p.cases }), written);
@@ -136,6 +137,7 @@ fn report<W: Write>(to: &mut W, list: &[u8]) -> io::Result<()> {
     told
 }
 
+// Apart from `main`, whose proof does not close with all that `fill` ensures of so large a buffer.
 fn read_list<R: Read>(from: &mut R, list: &mut List) -> io::Result<usize>
     ensures { Within list.new result }
 {

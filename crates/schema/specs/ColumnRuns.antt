@@ -20,11 +20,11 @@ use Rattle.schema.specs.declared.read.Run.{Run}
 
 -- the columns that were read, the first of them the f-th of all
 unfoldable pub columns_of : Bytes → Bytes → List ℕ → ℕ → Result Run code.Refusal → Answer (List Column × Place)
-columns_of t q s f (Ok r) = ok (columns_at t q s f r.count, here t r.position r.line)
+columns_of t q s f (Ok r) = ok (columns_at t q s f r.count, here t r.at.position r.at.line)
 columns_of t q s f (Err w) = refused (told catalog w)
 
 unfoldable pub ColumnsMove : Bytes → ℕ → Result Run code.Refusal → Type 0
-ColumnsMove t p (Ok r) = (p + least_column * r.count ≤ r.position) × (r.position ≤ length t) × (r.line ≤ r.position + 1) × (r.count ≤ most_table_columns)
+ColumnsMove t p (Ok r) = (p + least_column * r.count ≤ r.at.position) × (r.at.position ≤ length t) × (r.at.line ≤ r.at.position + 1) × (r.count ≤ most_table_columns)
 ColumnsMove t p (Err w) = Unit
 
 -- every column takes a line, so as many turns as there are bytes left are enough
@@ -67,7 +67,7 @@ module _ {t : Bytes} {p₀ l₀ f : ℕ} {s₀ : List ℕ} {p l n : ℕ} {s s' :
   rest-as : (x : Result (Option ℕ) code.Refusal) → r ≡ x → (q : Bytes) → prefixed (columns_at t q s' f n) (columns_from t q s' p l f n (turns_at t p₀ - (n + 1)) x) ≡ columns (turns_at t p₀) 0 (here t p₀ l₀)
   rest-as x e q = rw e at (rest q)
 
-  pub columns-end : r ≡ Ok None → ColumnsRead t p₀ l₀ f s₀ s' (Ok (record { position = p; line = l; count = n }))
+  pub columns-end : r ≡ Ok None → ColumnsRead t p₀ l₀ f s₀ s' (Ok (record { at = record { position = p; line = l }; count = n }))
   unfolding columns_of ColumnsMove columns_from prefixed
   columns-end e = record {
     says = λ q. ap (λ x. ok (x, here t p l)) (sym (append-nil _)) ∙ rest-as _ e q;

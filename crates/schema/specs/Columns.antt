@@ -36,14 +36,14 @@ here-none p e = go (at (bytes "column") p) refl
   where
     go : (b : Bool) → at (bytes "column") p ≡ b → at (bytes "column") p ≡ false
     go false h = h
-    go true h = absurd (let x : some (column_fields (rest p)) ≡ none = (rw (column_here, h) at e) in let y : ◌≡◌ {A = ℕ} 0 1 = cc in omega arith)
+    go true h = absurd (let x : some (column_fields (rest p)) ≡ none = (rw (column_here, h) at e) in grind arith)
 
 here-some : (p : Place) (o : Option (Word × Datatype × Bool)) → column_here p ≡ some o → (at (bytes "column") p ≡ true) × (column_fields (rest p) ≡ o)
 unfolding column_here
 here-some p o e = go (at (bytes "column") p) refl
   where
     go : (b : Bool) → at (bytes "column") p ≡ b → (at (bytes "column") p ≡ true) × (column_fields (rest p) ≡ o)
-    go false h = absurd (let x : none ≡ some o = (rw (column_here, h) at e) in let y : ◌≡◌ {A = ℕ} 0 1 = cc in omega arith)
+    go false h = absurd (let x : none ≡ some o = (rw (column_here, h) at e) in grind arith)
     go true h = let x : some (column_fields (rest p)) ≡ some o = (rw (column_here, h) at e) in (h, cc)
 
 module _ (p : Place) (fuel n : ℕ) where

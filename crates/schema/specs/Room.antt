@@ -39,7 +39,7 @@ column_fits j h g k = omega arith
 
 -- A LINE'S BYTES
 never : {A : Type 0} {a : A} → none ≡ some a → ⊥
-never e = let z : ◌≡◌ {A = ℕ} 0 1 = cc in omega arith
+never e = grind arith
 
 -- the bytes of some fields, each with the tab or LF behind it
 unfoldable pub field_bytes : List Word → ℕ

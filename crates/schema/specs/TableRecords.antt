@@ -1,5 +1,7 @@
 -- The table's record, field by field, and the names that the tables before it have.
-use Rattle.std.specs.Prelude.{ℕ, suc, ◌+◌, ◌-◌, ◌≤◌, ◌<◌, ◌≡◌, Bool, true, false, List, [], ◌∷◌, get_or, take, drop, Some, None}
+use Rattle.std.specs.Prelude.{ℕ, zero, suc, ◌+◌, ◌≤◌, ◌<◌, ◌≡◌, refl, Bool, true, false, List, [], ◌∷◌, get_or, take, drop, Some, None}
+use Rattle.std.specs.Prelude as std
+use Rattle.std.proofs.Math.Decide.{dec_lt}
 use native.Mathlib.Omega.{arith}
 use Rattle.std.proofs.Math.Path.{sym, ap}
 use Rattle.std.proofs.Common.{◌∙◌}
@@ -14,31 +16,35 @@ use Rattle.text.specs.declared.Line.{Line}
 use Rattle.text.specs.Lines.{Fields, field}
 use Rattle.text.specs.Numbers.{is_name}
 use Rattle.text.specs.Reading.{field_of, at-is, rest-two, rest-other, name-yes, name-no}
+use Rattle.text.specs.Order.{same-swap}
 use Rattle.text.specs.Records.{two_fields_lem}
 use Rattle.schema.specs.Layout.{table_start}
+use Rattle.schema.specs.Search.{table_named, FirstTable}
 use Rattle.schema.specs.Records.{Position, here, names, table_here, table_said, TableEnds, TableLine, field-here, field-most}
 
 -- TABLE NAMES
--- of the first n tables those before the i-th are still to be looked at
-pub record Taken (t : Bytes) (s : List ℕ) (x : Bytes) (n i : ℕ) : Type 0 where
-  pub rest : any (same x) (names t s i) ≡ any (same x) (names t s n)
+-- whether one of the first n tables has the name x
+module _ (t : Bytes) (s : List ℕ) (x : Bytes) where
+  names-hit : (n i : ℕ) → i < n → table_named t t s x i ≡ true → any (same x) (names t s n) ≡ true
+  unfolding names any table_named
+  names-hit zero i l e = absurd (omega arith)
+  names-hit (suc n) i l e = elim (dec_lt i n) [
+    | yes p ↦ go (same x (bytes_at t t (get_or s (table_start n) 0) (get_or s (table_start n + 1) 0))) (names-hit n i p e)
+    | no p ↦ let z : i ≡ n = omega (arith, l, p) in rw (← z, any, same-swap x _, e)
+  ]
+    where
+      go : (b : Bool) → any (same x) (names t s n) ≡ true → elim b [ true ↦ true | false ↦ any (same x) (names t s n) ] ≡ true
+      go true h = refl
+      go false h = h
 
-module _ {t : Bytes} {s : List ℕ} {x : Bytes} {n i : ℕ} (h : Taken t s x n i) where
-  module _ {a m : ℕ} {b : Bool} (l : 0 < i) (ea : a ≡ get_or s (table_start (i - 1)) 0) (em : m ≡ get_or s (table_start (i - 1) + 1) 0) (eb : b ≡ same x (bytes_at t t a m)) where
-    one-before : i ≡ suc (i - 1)
-    one-before = omega arith
+  names-miss : (n : ℕ) → ((k : ℕ) → 0 ≤ k → k < n → table_named t t s x k ≡ false) → any (same x) (names t s n) ≡ false
+  unfolding names any table_named
+  names-miss zero h = refl
+  names-miss (suc n) h = rw (any, same-swap x _, h n (omega arith) (omega arith)) (names-miss n (λ k a b. h k a (omega arith)))
 
-    pub taken-hit : b ≡ true → true ≡ any (same x) (names t s n)
-    unfolding names any
-    taken-hit e = rw (one-before, any, ← ea, ← em, ← eb, e) at h.rest
-
-    pub taken-miss : b ≡ false → Taken t s x n (i - 1)
-    unfolding names any
-    taken-miss e = record { rest = rw (one-before, any, ← ea, ← em, ← eb, e) at h.rest }
-
-  pub taken-end : i ≤ 0 → false ≡ any (same x) (names t s n)
-  unfolding names any
-  taken-end l = let e : i ≡ 0 = omega arith in rw e at h.rest
+  pub taken-is : (n : ℕ) (r : std.Option ℕ) → FirstTable t t s x n r → std.is_some r ≡ any (same x) (names t s n)
+  taken-is n None h = sym (names-miss n h)
+  taken-is n (Some i) h = sym (names-hit n i h.1 h.2)
 
 -- THE TABLE'S LINE
 module _ (ns : List Bytes) (r : List Word) where

@@ -102,7 +102,7 @@ module _ {t : Bytes} {p l n f : ℕ} {s : List ℕ} (h : TableLoop t p l n f s) 
         let x : refused (told catalog w) ≡ tables (suc (length t)) 0 [] (here t 0 1) = (rw (turn, ← g.says q (suc (length t) - (n + 1)), z) at (h.is q)) in
         ap value_of x ∙ sym (whole t)
 
-    module _ {e l' m : ℕ} (z : r ≡ Ok (record { position = e; line = l'; count = m })) where
+    module _ {e l' m : ℕ} (z : r ≡ Ok (record { at = record { position = e; line = l' }; count = m })) where
       pub table_done : TableDone t p n f s s' e l' m
       unfolding TableMoves
       table_done = rw z at g.moves

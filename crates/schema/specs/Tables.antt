@@ -40,7 +40,7 @@ unfolding table_here
 here-some ns p h e = go (at (bytes "table") p) refl
   where
     go : (b : Bool) → at (bytes "table") p ≡ b → (at (bytes "table") p ≡ true) × (table_fields ns (rest p) ≡ some h)
-    go false z = absurd (let x : none ≡ some h = (rw (table_here, z) at e) in let y : ◌≡◌ {A = ℕ} 0 1 = cc in omega arith)
+    go false z = absurd (let x : none ≡ some h = (rw (table_here, z) at e) in grind arith)
     go true z = (z, rw (table_here, z) at e)
 
 module _ (k l : ℕ) (cs : List Column) (p : Place) where
@@ -98,7 +98,7 @@ pub record TableReady (t : Bytes) (s : List ℕ) (p l n f : ℕ) : Type 0 where
 
 -- what reading has come to: the tables behind this one
 unfoldable pub tables_from : Bytes → Bytes → List ℕ → ℕ → ℕ → Result Run code.Refusal → Answer (List Table × Place)
-tables_from t q s n fuel (Ok r) = prefixed (table_at t q s n ∷ []) (tables fuel (suc n) (names t s (suc n)) (here t r.position r.line))
+tables_from t q s n fuel (Ok r) = prefixed (table_at t q s n ∷ []) (tables fuel (suc n) (names t s (suc n)) (here t r.at.position r.at.line))
 tables_from t q s n fuel (Err w) = refused (told catalog w)
 
 pub record TableDone (t : Bytes) (p n f : ℕ) (s s' : List ℕ) (e l m : ℕ) : Type 0 where
@@ -111,7 +111,7 @@ pub record TableDone (t : Bytes) (p n f : ℕ) (s s' : List ℕ) (e l m : ℕ) :
   pub same : (q : Bytes) → tables_at t q s' 0 n ≡ tables_at t q s 0 n
 
 unfoldable pub TableMoves : Bytes → ℕ → ℕ → ℕ → List ℕ → List ℕ → Result Run code.Refusal → Type 0
-TableMoves t p n f s s' (Ok r) = TableDone t p n f s s' r.position r.line r.count
+TableMoves t p n f s s' (Ok r) = TableDone t p n f s s' r.at.position r.at.line r.count
 TableMoves t p n f s s' (Err w) = Unit
 
 pub record TableRead (t : Bytes) (p l n f : ℕ) (s s' : List ℕ) (r : Result Run code.Refusal) : Type 0 where
@@ -170,7 +170,7 @@ module _ {t : Bytes} {s : List ℕ} {p l n f : ℕ} (w : TableReady t s p l n f)
         unfolding tables_from TableMoves columns_of
         table-columns-refused y = record { says = λ q fuel. sym (tables-no _ fuel n _ _ _ left _ _ (said q) g _ (columns-said q _ y)); moves = tt }
 
-        module _ {p' l' m : ℕ} (y : r ≡ Ok (record { position = p'; line = l'; count = m })) where
+        module _ {p' l' m : ℕ} (y : r ≡ Ok (record { at = record { position = p'; line = l' }; count = m })) where
           columns-done : (q : Bytes) → columns (suc (length (next (here t p l)).left)) 0 (next (here t p l)) ≡ ok (columns_at t q s₁ f m, here t p' l')
           unfolding columns_of
           columns-done q = columns-said q _ y
@@ -224,7 +224,7 @@ module _ {t : Bytes} {s : List ℕ} {p l n f : ℕ} (w : TableReady t s p l n f)
                     let d₃ = stands.at 3 (omega arith) in
                     rw (o, ← ei, d₃, stands.at 4 (omega arith)) (omega arith)
 
-            pub table-read : TableRead t p l n f s s₃ (Ok (record { position = p'; line = l'; count = m }))
+            pub table-read : TableRead t p l n f s s₃ (Ok (record { at = record { position = p'; line = l' }; count = m }))
             unfolding tables_from TableMoves
             table-read = record {
               says = λ q fuel. sym (tables-on _ fuel n _ _ _ left _ _ (said q) g _ _ (columns-done q) (rw (columns-length t q s₁ f m) v) ∙ (rw (stored q, ← all-names q)));

@@ -9,7 +9,7 @@ ghost use Rattle.schema.specs.ColumnRuns.{ColumnsRead};
 ghost use Rattle.schema.specs.Tables.{TableReady, TableRead};
 ghost use Rattle.schema.specs.TableRuns.{catalog_of, catalog_answer};
 
-use crate::record::{column_record, default_record, table_record};
+use crate::record::{Cursor, column_record, default_record, table_record};
 use crate::{COLUMN_SIZE, COLUMNS, NUMBERS, TABLE_SIZE, TABLES};
 use numbers::literals::put_given;
 use numbers::put_four;
@@ -24,11 +24,10 @@ const MOST_TABLE_COLUMNS: u32 = 64;
 // The fewest bytes of a column with its default: `column x int null`, `null` and their LFs.
 const LEAST_COLUMN: usize = 23;
 
-// Behind the columns of a table: the position, its line, and how many columns there are.
+// Behind the columns of a table: where that is, and how many columns there are.
 #[derive(Clone, Copy, Debug, PartialEq, Eq)]
 struct Run {
-    position: usize,
-    line: u32,
+    at: Cursor,
     count: u32,
 }
 
@@ -36,23 +35,22 @@ struct Run {
 fn read_column(
     catalog: &[u8],
     tables: &mut [u32],
-    at: usize,
-    line: u32,
+    at: Cursor,
     first: usize,
     index: u32,
 ) -> Result<Option<usize>, Refusal>
-    requires { ColumnReady catalog.now tables.old at line first index }
-    ensures { ColumnRead catalog.now at line first index tables.old tables.new result }
+    requires { ColumnReady catalog.now tables.old at.position at.line first index }
+    ensures { ColumnRead catalog.now at.position at.line first index tables.old tables.new result }
 {
-    let Some(c) = column_record(catalog, at, line)? else {
+    let Some(c) = column_record(catalog, at)? else {
         return Ok(None);
     };
     if MOST_TABLE_COLUMNS <= index {
-        return Err(Reason::LimitPassed.at(line));
+        return Err(Reason::LimitPassed.at(at.line));
     }
     let f = text::fields(catalog, c.next);
     let Some(d) = default_record(catalog, c.next, f) else {
-        return Err(Reason::WrongRecord.at(line + 1));
+        return Err(Reason::WrongRecord.at(at.line + 1));
     };
     let i = COLUMNS + COLUMN_SIZE * (first + index as usize);
     let datatype = u32::from(c.datatype);
@@ -66,22 +64,19 @@ fn read_column(
 fn read_columns(
     catalog: &[u8],
     tables: &mut [u32],
-    at: usize,
-    line: u32,
+    at: Cursor,
     first: usize,
 ) -> Result<Run, Refusal>
-    requires { ColumnReady catalog.now tables.old at line first 0 }
-    ensures { ColumnsRead catalog.now at line first tables.old tables.new result }
+    requires { ColumnReady catalog.now tables.old at.position at.line first 0 }
+    ensures { ColumnsRead catalog.now at.position at.line first tables.old tables.new result }
 {
-    let mut run = Run {
-        position: at,
-        line,
-        count: 0,
-    };
-    while let Some(next) = read_column(catalog, tables, run.position, run.line, first, run.count)? {
+    let mut run = Run { at, count: 0 };
+    while let Some(next) = read_column(catalog, tables, run.at, first, run.count)? {
         run = Run {
-            position: next,
-            line: run.line + 2,
+            at: Cursor {
+                position: next,
+                line: run.at.line + 2,
+            },
             count: run.count + 1,
         };
     }
@@ -92,23 +87,26 @@ fn read_columns(
 fn read_table(
     catalog: &[u8],
     tables: &mut [u32],
-    at: usize,
-    line: u32,
+    at: Cursor,
     index: u32,
     first: usize,
 ) -> Result<Run, Refusal>
-    requires { TableReady catalog.now tables.old at line index first }
-    ensures { TableRead catalog.now at line index first tables.old tables.new result }
+    requires { TableReady catalog.now tables.old at.position at.line index first }
+    ensures { TableRead catalog.now at.position at.line index first tables.old tables.new result }
 {
-    let Some(h) = table_record(catalog, tables, index, at) else {
-        return Err(Reason::WrongRecord.at(line));
+    let Some(h) = table_record(catalog, tables, index, at.position) else {
+        return Err(Reason::WrongRecord.at(at.line));
     };
     if MOST_TABLES <= index {
-        return Err(Reason::LimitPassed.at(line));
+        return Err(Reason::LimitPassed.at(at.line));
     }
-    let run = read_columns(catalog, tables, h.next, line + 1, first)?;
+    let columns = Cursor {
+        position: h.next,
+        line: at.line + 1,
+    };
+    let run = read_columns(catalog, tables, columns, first)?;
     if run.count <= h.key {
-        return Err(Reason::WrongRecord.at(line));
+        return Err(Reason::WrongRecord.at(at.line));
     }
     let i = TABLES + TABLE_SIZE * (index as usize);
     put_four(
@@ -129,14 +127,15 @@ fn read_tables(catalog: &[u8], tables: &mut [u32]) -> Result<(), Refusal>
     ensures { (q : Bytes) → catalog_of catalog.now q tables.new result ≡ read_catalog catalog.now }
 {
     // counted by hand: where the next table stands is known only once this one is read
-    let mut p: usize = 0;
-    let mut line: u32 = 1;
+    let mut at = Cursor {
+        position: 0,
+        line: 1,
+    };
     let mut n: u32 = 0;
     let mut first: usize = 0;
-    while p < catalog.len() {
-        let run = read_table(catalog, tables, p, line, n, first)?;
-        p = run.position;
-        line = run.line;
+    while at.position < catalog.len() {
+        let run = read_table(catalog, tables, at, n, first)?;
+        at = run.at;
         n += 1;
         first += run.count as usize;
     }

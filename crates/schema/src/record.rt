@@ -1,22 +1,27 @@
 // One line of the catalog each: a table's record, a column's, a default's.
-ghost use Rattle.std.specs.Prelude.{◌≡◌, ℕ, ◌+◌};
-ghost use Rattle.rules.specs.Lists.{Bytes, same, any, named};
-ghost use Rattle.rules.specs.Places.{bytes_at};
+ghost use Rattle.std.specs.Prelude.{◌≡◌, ℕ};
+ghost use Rattle.rules.specs.Lists.{Bytes, named};
 ghost use Rattle.rules.specs.Reader.{line_here, one_of, literals};
 ghost use Rattle.rules.specs.ReadColumn.{nullables};
 ghost use Rattle.rules.specs.ReadCatalog.{default_records};
 ghost use Rattle.numbers.specs.Options.{option_of};
 ghost use Rattle.text.specs.Lines.{Fields};
-ghost use Rattle.schema.specs.Records.{Position, here, names, default_said, ColumnLine, TableLine};
+ghost use Rattle.schema.specs.Records.{Position, here, default_said, ColumnLine, TableLine};
 
-use crate::{TABLE_SIZE, TABLES};
+use crate::table_among;
 use literal::record::literal_at;
 use numbers::datatypes::DataType;
 use numbers::literals::Literal;
-use numbers::number;
 use numbers::refusals::{Reason, Refusal};
 use text::places::{Place, Texts};
 use text::{Line, words};
+
+// A position in the catalog, and its line.
+#[derive(Clone, Copy, Debug, PartialEq, Eq)]
+pub struct Cursor {
+    pub position: usize,
+    pub line: u32,
+}
 
 // A column's record: its name, its type, whether it may be null, and the position behind the line.
 #[derive(Clone, Copy, Debug, PartialEq, Eq)]
@@ -46,26 +51,26 @@ fn may_be_null(word: &[u8]) -> Option<bool>
     }
 }
 
-// The column's record at a position, which is on this line, where one stands there.
-pub fn column_record(catalog: &[u8], at: usize, line: u32) -> Result<Option<ColumnRecord>, Refusal>
-    requires { Position catalog.now at }
-    ensures { ColumnLine catalog.now at line result }
+// The column's record at a position, where one stands there.
+pub fn column_record(catalog: &[u8], at: Cursor) -> Result<Option<ColumnRecord>, Refusal>
+    requires { Position catalog.now at.position }
+    ensures { ColumnLine catalog.now at.position at.line result }
 {
-    let f = text::fields(catalog, at);
+    let f = text::fields(catalog, at.position);
     if !text::equal(f.field(catalog, 0), b"column") {
         return Ok(None);
     }
     if f.count != 4 {
-        return Err(Reason::WrongRecord.at(line));
+        return Err(Reason::WrongRecord.at(at.line));
     }
     if !text::is_name(f.lens[1]) {
-        return Err(Reason::WrongRecord.at(line));
+        return Err(Reason::WrongRecord.at(at.line));
     }
     let Some(datatype) = words::datatype(f.field(catalog, 2)) else {
-        return Err(Reason::WrongRecord.at(line));
+        return Err(Reason::WrongRecord.at(at.line));
     };
     let Some(nullable) = may_be_null(f.field(catalog, 3)) else {
-        return Err(Reason::WrongRecord.at(line));
+        return Err(Reason::WrongRecord.at(at.line));
     };
     Ok(Some(ColumnRecord {
         name: Place {
@@ -76,28 +81,6 @@ pub fn column_record(catalog: &[u8], at: usize, line: u32) -> Result<Option<Colu
         nullable,
         next: f.next,
     }))
-}
-
-// Whether one of the first n tables has the name at a place.
-fn is_taken(catalog: &[u8], tables: &[u32], n: u32, name: Place) -> bool
-    ensures { result ≡ any (same (bytes_at catalog.now catalog.now name.address name.length))
-        (names catalog.now tables.now n) }
-{
-    let texts = Texts {
-        catalog: catalog,
-        statement: catalog,
-    };
-    for i in (0..n as usize).rev() {
-        let t = TABLES + TABLE_SIZE * i;
-        let own = Place {
-            address: number(tables, t),
-            length: number(tables, t + 1),
-        };
-        if texts.same_bytes(name, own) {
-            return true;
-        }
-    }
-    false
 }
 
 // The table's record at a position, behind n tables, whose names no other may have.
@@ -120,7 +103,11 @@ pub fn table_record(catalog: &[u8], tables: &[u32], n: u32, at: usize) -> Option
         address: f.starts[1] as u32,
         length: f.lens[1] as u32,
     };
-    if is_taken(catalog, tables, n, name) {
+    let texts = Texts {
+        catalog,
+        statement: catalog,
+    };
+    if table_among(&texts, tables, n, name).is_some() {
         return None;
     }
     Some(TableRecord {
@@ -132,8 +119,8 @@ pub fn table_record(catalog: &[u8], tables: &[u32], n: u32, at: usize) -> Option
 
 // The default's record at a position, by its fields: a literal or `nodefault`.
 pub fn default_record(catalog: &[u8], at: usize, f: Line) -> Option<Option<Literal>>
-    requires fact_1 { Position catalog.now at }
-    requires fact_2 { Fields catalog.now at f }
+    requires position { Position catalog.now at }
+    requires fields { Fields catalog.now at f }
     ensures { (q : Bytes) (l : ℕ) → default_said catalog.now q result
         ≡ one_of (default_records literals) (line_here (here catalog.now at l)) }
 {

@@ -14,7 +14,7 @@ use Rattle.rules.specs.Scope as rules
 use Rattle.rules.specs.Scope.{label_of, match_at, matched, add_match, add_column, add_aggregate}
 use Rattle.rules.specs.BuildAggregate.{Retained, keep}
 use Rattle.rules.specs.BuildAggregate as build
-use Rattle.scope.specs.Labels.{map-append}
+use Rattle.std.proofs.lemmas.List.{map-append}
 use Rattle.scope.specs.Scopes.{matches_of}
 use Rattle.scope.specs.NewMatch.{match-more}
 use Rattle.scope.specs.Retain.{has_equal, retained}

@@ -1,7 +1,7 @@
 -- Labels stored one after another, and all at once.
-use Rattle.std.specs.Prelude.{ℕ, zero, suc, ◌+◌, ◌≤◌, ◌<◌, ◌≡◌, refl, List, [], ◌∷◌, ◌++◌, map, length, get_or, take, drop, set}
+use Rattle.std.specs.Prelude.{ℕ, suc, ◌+◌, ◌≤◌, ◌<◌, ◌≡◌, refl, List, [], ◌∷◌, ◌++◌, map, length, get_or, take, drop, set}
 use Rattle.std.proofs.Common.{arith, add-one, add-zero, ap, sym, ◌∙◌, append_assoc, append-nil, length-set, take-suc-set, take-suc, take_all, take_at, length-append, length-drop}
-use Rattle.std.proofs.lemmas.List.{length-map}
+use Rattle.std.proofs.lemmas.List.{length-map, get_or-map}
 use Rattle.rules.specs.Limits.{most_columns}
 
 -- i of the labels xs are stored in ls behind the n of p
@@ -30,15 +30,10 @@ pub copying-first : {xs : List ℕ} {j : ℕ} {ls : List ℕ} (v : ℕ) → Copy
 copying-first {xs} {j} {ls} v t h g e = copying-more j v t (omega arith) (omega arith) g e
 
 -- what f makes of each of the numbers xs
-get_d_map : (f : ℕ → ℕ) (xs : List ℕ) (j : ℕ) → j < length xs → get_or (map f xs) j 0 ≡ f (get_or xs j 0)
-get_d_map f [] j h = absurd (omega arith)
-get_d_map f (x ∷ xs) zero h = refl
-get_d_map f (x ∷ xs) (suc j) h = get_d_map f xs j (omega arith)
-
 pub copying-map : (f : ℕ → ℕ) (xs : List ℕ) {j : ℕ} {ls : List ℕ} (v : ℕ) → Copying [] 0 (map f xs) j ls
     → j < most_columns → j < length xs → v ≡ f (get_or xs j 0) → Copying [] 0 (map f xs) (j + 1) (set ls j v)
 copying-map f xs {j} {ls} v t h g e =
-    copying-first v t h (omega (arith, length-map xs f)) (e ∙ sym (get_d_map f xs j g))
+    copying-first v t h (omega (arith, length-map xs f)) (e ∙ sym (get_or-map f xs j 0 0 g))
 
 -- all are stored
 pub stored : {xs : List ℕ} {j n w : ℕ} {ls : List ℕ} → Copying [] 0 xs j ls → w ≡ n → length xs ≡ n → j ≤ n → n ≤ j

@@ -78,9 +78,9 @@ module _ (c : Bytes) (e : Ending) (x : ℕ) where
     where
       go : (a b d : Bool) → ltb e.limit (end_of x) ≡ a → eqb (end_of x) 0 ≡ b
           → eqb (get_or c (end_of x - 1) 0) e.last ≡ d → (a || (b || d)) ≡ false → Passed
-      go true b d ea eb ed h = absurd (let z : ◌≡◌ {A = ℕ} 0 1 = cc in omega arith)
-      go false true d ea eb ed h = absurd (let z : ◌≡◌ {A = ℕ} 0 1 = cc in omega arith)
-      go false false true ea eb ed h = absurd (let z : ◌≡◌ {A = ℕ} 0 1 = cc in omega arith)
+      go true b d ea eb ed h = grind arith
+      go false true d ea eb ed h = grind arith
+      go false false true ea eb ed h = grind arith
       go false false false ea eb ed h =
           record { within = ltb-false _ _ ea; some = eqb-false _ _ eb; other = eqb-false _ _ ed }
 

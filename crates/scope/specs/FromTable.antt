@@ -14,7 +14,8 @@ use Rattle.schema.specs.Layout.{table_at}
 use Rattle.schema.specs.Search as schema
 use Rattle.scope.specs.Labels.{packed, Fits, label-packed}
 use Rattle.scope.specs.Labels.{name-packed, name_at, tables_of, columns_of, label_at}
-use Rattle.scope.specs.Labels.{map-append, columns-append}
+use Rattle.std.proofs.lemmas.List.{map-append}
+use Rattle.scope.specs.Labels.{columns-append}
 use Rattle.scope.specs.Slots.{Below, none, below-append, below_one}
 use Rattle.scope.specs.Scopes.{scope_of, Valid, Plain, plain-scope}
 use Rattle.scope.specs.declared.Scope.{Scope}

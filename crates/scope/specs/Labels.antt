@@ -1,8 +1,8 @@
 -- A label as one number: 1 + the place of its table among the scope's tables (0: none) times 2^24, its name's address
 -- times 2^7, its name's length. A column without a name is 0. A table's name is such a number with no table.
-use Rattle.std.specs.Prelude.{ℕ, zero, suc, ◌+◌, ◌-◌, ◌*◌, ◌/◌, ◌%◌, ◌≤◌, ◌<◌, min, ◌≡◌, refl, Bool, true, false, List, [], ◌∷◌, ◌++◌, map, eqb, ltb, length, get_or, take, drop}
+use Rattle.std.specs.Prelude.{ℕ, zero, suc, ◌+◌, ◌-◌, ◌*◌, ◌/◌, ◌%◌, ◌≤◌, ◌<◌, min, ◌≡◌, refl, Bool, true, false, List, ◌++◌, map, eqb, ltb, length, get_or, take, drop}
 use Rattle.std.proofs.Common.{arith, ap, ◌∙◌, length-take, take_all, eq-eqb, ne_eqb, ltb-true, ltb-false, eqb-true}
-use Rattle.std.proofs.lemmas.List.{length-map}
+use Rattle.std.proofs.lemmas.List.{length-map, map-append}
 use Rattle.std.proofs.lemmas.Bool.{eqb-false}
 use Rattle.rules.specs.Limits.{most_bytes}
 use Rattle.rules.specs.Lists.{Bytes}
@@ -163,10 +163,6 @@ label-alias c q ts a n h l =
             omega (arith, ap length (bytes-statement c q a n k), length-take n (drop (a - most_bytes) q))
 
 -- SEVERAL
-pub map-append : {A B : Type 0} (f : A → B) (xs ys : List A) → map f (xs ++ ys) ≡ map f xs ++ map f ys
-map-append f [] ys = refl
-map-append f (x ∷ xs) ys = ap (λ r. f x ∷ r) (map-append f xs ys)
-
 pub columns-append : (c q : Bytes) (ts xs ys : List ℕ)
     → columns_of c q ts (xs ++ ys) ≡ columns_of c q ts xs ++ columns_of c q ts ys
 unfolding columns_of

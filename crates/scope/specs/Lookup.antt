@@ -58,14 +58,14 @@ not_found_lem s i = go (is_empty s.aggregates)
     go : (b : Bool)
         → ◌≡◌ {A = rules.Found} (elim b [ true ↦ missing unknown_column | false ↦ missing not_aggregated ]) (at i)
         → ⊥
-    go true e = let z : ◌≡◌ {A = ℕ} 0 1 = cc in omega arith
-    go false e = let z : ◌≡◌ {A = ℕ} 0 1 = cc in omega arith
+    go true e = grind arith
+    go false e = grind arith
 
 only_under : (s : rules.Scope) {n : ℕ} {ps : List ℕ} (i : ℕ) → Under n ps → the_only s ps ≡ at i → i < n
 unfolding the_only
 only_under s i done e = absurd (not_found_lem s i e)
 only_under s i (more {j} h done) e = let z : j ≡ i = cc in omega arith
-only_under s i (more h (more g u)) e = absurd (let z : ◌≡◌ {A = ℕ} 0 1 = cc in omega arith)
+only_under s i (more h (more g u)) e = grind arith
 
 last_under : (s : rules.Scope) {n : ℕ} {ps : List ℕ} (i : ℕ) → Under n ps → the_last s ps ≡ at i → i < n
 unfolding the_last
@@ -85,7 +85,7 @@ named-below s (some t) w i e = go (any (same_name t) s.tables) e
         ]) (at i)
         → i < length s.columns
     go true g = omega (arith, last_under s i (positions-under (is_qualified t w) 0 s.columns) g)
-    go false g = absurd (let z : ◌≡◌ {A = ℕ} 0 1 = cc in omega arith)
+    go false g = grind arith
 
 -- of the rules' lookup
 pub lookup-below : (s : rules.Scope) (o : Option Word) (w : Word) (i : ℕ) → rules.lookup s o w ≡ at i
@@ -95,7 +95,7 @@ lookup-below s o w i e = go (is_empty s.columns) e
   where
     go : (b : Bool) → ◌≡◌ {A = rules.Found} (elim b [ true ↦ missing constant_only | false ↦ lookup_named s o w ]) (at i)
         → i < rules.width s
-    go true g = absurd (let z : ◌≡◌ {A = ℕ} 0 1 = cc in omega arith)
+    go true g = grind arith
     go false g = named-below s o w i g
 
 -- and of the code's

@@ -10,7 +10,7 @@ use borrow.Author.Tests.{lt-ltb, le-ltb}
 use Rattle.std.specs.Prelude.{◌≡◌, refl, cond, IfSome, ltb, Some, not, ◌&&◌, nat_eq, Bool, true, false, List, [], ◌∷◌, length}
 use Rattle.std.specs.Prelude as std
 use Rattle.std.proofs.Math.Path.{ap, sym}
-use Rattle.std.proofs.Math.Option.{Option, none, some}
+use Rattle.std.proofs.Math.Option.{Option, some, none-ne-some}
 use Rattle.rules.specs.Lists.{Bytes}
 use Rattle.rules.specs.Ast.{Expr}
 use Rattle.rules.specs.Equality.{equal}
@@ -62,10 +62,7 @@ matched-from e c q xs ms ts h x = refl
 match-below : (e : ℕ → Expr) (x : Expr) (i j : ℕ) (ms : List ℕ) → match_at (matches_of e i ms) x ≡ some j
     → j < i + length ms
 unfolding matches_of match_at
-match-below e x i j [] h = absurd (none-some h)
-  where
-    none-some : {n : ℕ} → ◌≡◌ {A = Option ℕ} none (some n) → ⊥
-    none-some g = let z : ◌≡◌ {A = ℕ} 0 1 = cc in omega arith
+match-below e x i j [] h = absurd (none-ne-some j h)
 match-below e x i j (zero ∷ ms) h = omega (arith, match-below e x (suc i) j ms h)
 match-below e x i j (suc r ∷ ms) h = go (equal (e r) x) (match-below e x (suc i) j ms) h
   where

@@ -1,11 +1,11 @@
 -- Two scopes merged: the other's labels and tables behind one's own.
-use Rattle.std.specs.Prelude.{ℕ, suc, ◌+◌, ◌≤◌, ◌<◌, ◌≡◌, List, [], ◌∷◌, ◌++◌, map, length, get_or, take, drop, set}
-use Rattle.std.proofs.Common.{arith, add-one, add-zero, ap, ◌∙◌, append_assoc, append-nil, length-set, take-suc-set, take-suc, take_all, length-take-le, length-append, length-drop, take_at}
+use Rattle.std.specs.Prelude.{ℕ, ◌+◌, ◌≤◌, ◌<◌, ◌≡◌, List, ◌++◌, map, length, get_or, take, drop}
+use Rattle.std.proofs.Common.{arith, ap, ◌∙◌, append_assoc, take_all, length-take-le, length-append, length-drop, take_at}
 use Rattle.rules.specs.Limits.{most_columns, most_from_tables}
 use Rattle.rules.specs.Lists.{Bytes}
 use Rattle.rules.specs.Ast.{Expr}
 use Rattle.rules.specs.Scope as rules
-use Rattle.scope.specs.Labels.{slot_count, slot_of, tables_of, columns_of, map-append, columns-append, tables-append}
+use Rattle.scope.specs.Labels.{slot_count, slot_of, tables_of, columns_of, columns-append, tables-append}
 use Rattle.scope.specs.Slots.{shifted, below-append, below_wider, below-shifted, below_at}
 use Rattle.scope.specs.Slots.{shifted-columns, kept-columns}
 use Rattle.scope.specs.Scopes.{scope_of, Valid, Plain, plain_scope, plain-scope, labels_of, table_numbers}
@@ -30,23 +30,6 @@ pub record Merged (s o r : Scope) : Type 0 where
 pub record Appending (f : ℕ → ℕ) (m : ℕ) (l : List ℕ) (n : ℕ) (xs : List ℕ) (j : ℕ) (ls : List ℕ) : Type 0 where
   pub room : length ls ≡ m
   pub stored : take (n + j) ls ≡ take n l ++ map f (take j xs)
-
-pub appending-begin : (f : ℕ → ℕ) (m : ℕ) (l : List ℕ) (n : ℕ) (xs : List ℕ) → length l ≡ m → Appending f m l n xs 0 l
-appending-begin f m l n xs h = record { room = h; stored = rw (add-zero n, append-nil) }
-
-pub appending-more : {f : ℕ → ℕ} {m : ℕ} {l : List ℕ} {n : ℕ} {xs : List ℕ} {j : ℕ} {ls : List ℕ} {v : ℕ}
-    → Appending f m l n xs j ls → n + j < m → j < length xs → v ≡ f (get_or xs j 0)
-    → Appending f m l n xs (j + 1) (set ls (n + j) v)
-appending-more {f} {m} {l} {n} {xs} {j} {ls} {v} a h g e =
-    let k : n + j < length ls = omega (arith, a.room) in
-    let z : n + suc j ≡ suc (n + j) = omega arith in
-    let y : map f (take j xs ++ (get_or xs j 0 ∷ [])) ≡ map f (take j xs) ++ (f (get_or xs j 0) ∷ []) =
-    map-append f (take j xs) (get_or xs j 0 ∷ []) in
-    record {
-      room = length-set ls (n + j) v ∙ a.room;
-      stored = rw (add-one j, z, take-suc-set ls (n + j) v k, a.stored, take-suc xs j 0 g, y, e)
-          (append_assoc (take n l) (map f (take j xs)) (f (get_or xs j 0) ∷ []));
-    }
 
 -- the slot of the j-th of the other's labels
 pub slot_at : {s o : Scope} → Mergeable s o → (j : ℕ) → slot_of (get_or (labels_of o) j 0) + s.count < slot_count

@@ -4,7 +4,7 @@ use Rattle.std.proofs.Common.{arith, ◌∙◌, eqb-true}
 use Rattle.std.specs.List.{list_any}
 use Rattle.std.specs.Prelude.{◌≡◌, Bool, ◌&&◌, map, List, get_or}
 use Rattle.std.proofs.Math.Path.{refl}
-use Rattle.std.proofs.Math.Bool.{true, false}
+use Rattle.std.proofs.Math.Bool.{true, false, and-false, and-true}
 use Rattle.std.proofs.Math.Dec.{eqb}
 use Rattle.std.proofs.lemmas.Bool.{eqb-false}
 use Rattle.rules.specs.Lists.{Bytes, any}
@@ -42,14 +42,6 @@ module _ (c q : Bytes) (ts : List ℕ) (x : ℕ) (w : Word) where
       ≡ (same_name (name_at c q (get_or ts (slot_of x - 1) 0)) v && same_name (name_at c q x) w)
   unfolding is_qualified
   qualified-some v h = rw (label-in c q ts x (slot_of x - 1) (omega arith))
-
-and-false : (a : Bool) → (a && false) ≡ false
-and-false true = refl
-and-false false = refl
-
-and-true : (a : Bool) → (a && true) ≡ a
-and-true true = refl
-and-true false = refl
 
 -- d tells whether the label's name is w
 module _ (c q : Bytes) (ts : List ℕ) (x : ℕ) (w v : Word) (d : Bool) (h : slot_of x ≡ 0 → ⊥)

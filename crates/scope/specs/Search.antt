@@ -77,10 +77,10 @@ module _ (t : Label → Bool) (f : ℕ → Label) (xs : List ℕ) (i : ℕ) wher
 
 no_hit : (h : std.Option ℕ) → is_some h ≡ false → h ≡ std.None
 no_hit std.None e = refl
-no_hit (std.Some i) e = absurd (let z : ◌≡◌ {A = ℕ} 0 1 = cc in omega arith)
+no_hit (std.Some i) e = grind arith
 
 some_hit : (h : std.Option ℕ) → is_some h ≡ true → (i : ℕ) × (h ≡ std.Some i)
-some_hit std.None e = absurd (let z : ◌≡◌ {A = ℕ} 0 1 = cc in omega arith)
+some_hit std.None e = grind arith
 some_hit (std.Some i) e = (i, refl)
 
 module _ {F : rules.Scope → List ℕ → rules.Found} {t : Label → Bool} {f : ℕ → Label} {xs : List ℕ} {i : ℕ}

@@ -1,7 +1,7 @@
 -- The remap that drops hidden columns: a target for each column that is shown, none for a hidden one.
 use Rattle.std.specs.Prelude.{ℕ, zero, suc, ◌+◌, ◌-◌, ◌≤◌, ◌<◌, ◌≡◌, refl, Bool, true, false, List, [], ◌∷◌, ◌++◌, map, eqb, length, get_or}
 use Rattle.std.proofs.Common.{arith, add-one, ap, sym, ◌∙◌, length-append, length-take-le, ne_eqb}
-use Rattle.std.proofs.Math.Option.{Option, none, some}
+use Rattle.std.proofs.Math.Option.{Option, none, some, none-ne-some}
 use Rattle.std.proofs.lemmas.List.{length-map}
 use Rattle.std.proofs.lemmas.Bool.{eqb-false}
 use Rattle.rules.specs.Lists.{Bytes, any, is_empty}
@@ -10,6 +10,7 @@ use Rattle.rules.specs.Scope as rules
 use Rattle.rules.specs.Scope.{targets_from, remap_hidden}
 use Rattle.rules.specs.Area.{option_number}
 use Rattle.rules.specs.BuildFrom.{rising}
+use Rattle.claims.specs.Widths.Swapped.{length-rising}
 use Rattle.scope.specs.Labels.{columns-length}
 use Rattle.scope.specs.Scopes.{up_to, scope_from, scope_of, Valid, labels_of, table_numbers}
 use Rattle.scope.specs.declared.Scope.{Scope}
@@ -139,12 +140,8 @@ unfolding target_numbers rising nones
 targets-length w h l =
     length-map (rising 0 (w - h) ++ nones h) option_number ∙ length-append (rising 0 (w - h)) (nones h)
     ∙ (let z : length (rising 0 (w - h)) + length (nones h) ≡ w =
-    omega (arith, rising-length 0 (w - h), nones-length h) in z)
+    omega (arith, length-rising (w - h) 0, nones-length h) in z)
   where
-    rising-length : (i n : ℕ) → length (rising i n) ≡ n
-    rising-length i zero = refl
-    rising-length i (suc n) = ap suc (rising-length (i + 1) n)
-
     nones-length : (n : ℕ) → length (nones n) ≡ n
     nones-length zero = refl
     nones-length (suc n) = ap suc (nones-length n)
@@ -152,8 +149,5 @@ targets-length w h l =
 -- they are the numbers of the rules' targets
 pub target-numbers : (w h : ℕ) (ts : List (Option ℕ)) → hidden_targets w h ≡ some ts → map option_number ts ≡ target_numbers w h
 unfolding hidden_targets target_numbers
-target-numbers w zero ts e = absurd (none-some e)
-  where
-    none-some : ◌≡◌ {A = Option (List (Option ℕ))} none (some ts) → ⊥
-    none-some g = let z : ◌≡◌ {A = ℕ} 0 1 = cc in omega arith
+target-numbers w zero ts e = absurd (none-ne-some ts e)
 target-numbers w (suc h) ts e = let z : rising 0 (w - suc h) ++ nones (suc h) ≡ ts = cc in ap (map option_number) (sym z)

@@ -25,7 +25,7 @@ none_of : (e : ℕ → Expr) (i : ℕ) (ms : List ℕ) → some_match ms ≡ fal
 unfolding some_match any is_match matches_of
 none_of e i [] h = refl
 none_of e i (zero ∷ ms) h = none_of e (suc i) ms h
-none_of e i (suc m ∷ ms) h = absurd (let z : ◌≡◌ {A = ℕ} 0 1 = cc in omega arith)
+none_of e i (suc m ∷ ms) h = grind arith
 
 same-matches : (e : ℕ → Expr) (ms : List ℕ) → matches_of e 0 (used_matches ms) ≡ matches_of e 0 ms
 unfolding used_matches matches_of

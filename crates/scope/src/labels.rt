@@ -1,4 +1,5 @@
 // A label as one number (specs/Labels.antt): its table's slot, its name's address and length.
+// As a struct it would take three times the bytes, in every copy of a scope.
 ghost use Rattle.std.specs.Prelude.{◌≡◌, ◌+◌, ◌≤◌, ◌<◌};
 ghost use Rattle.rules.specs.Limits.{most_from_tables};
 ghost use Rattle.rules.specs.Equality.{same_name};

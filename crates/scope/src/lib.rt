@@ -26,9 +26,10 @@ use ast::Expressions;
 use expressions::label_of;
 use labels::{behind, label};
 use matches::{match_number, new_match, pass_match};
+use numbers::first;
 use schema::{column_count, column_name};
 use text::places::Place;
-use view::{View, first};
+use view::View;
 
 // The most columns of a scope, and the most tables.
 pub const COLUMNS: usize = 256;
@@ -36,7 +37,8 @@ pub const COLUMNS: usize = 256;
 pub const TABLES: usize = 16;
 
 // The columns: their labels, what is matched to each (0 nothing, or 1 + the row of an expression), and the tables they
-// come from. The last `hidden` of them are not shown.
+// come from. The last `hidden` of them are not shown. A label too is 0 for none: with an Option labels and matches would each take twice
+// the bytes, in every copy of a scope.
 #[derive(Clone, Copy, Debug, PartialEq, Eq)]
 pub struct Scope {
     pub labels: [u32; COLUMNS],

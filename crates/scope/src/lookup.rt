@@ -101,6 +101,7 @@ impl View<'_> {
             self.now.matches.now result }
     {
         let ending = ending_of(texts.catalog, name);
+        // by a loop: std's lemmas on searches are about those from the front
         for i in (0..self.labels.len()).rev() {
             if is_qualified(texts, self.tables, self.labels[i], table, name, ending) {
                 return Ok(i as u32);

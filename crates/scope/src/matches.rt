@@ -6,9 +6,10 @@ ghost use Rattle.scope.specs.Scopes.{matches_of};
 ghost use Rattle.numbers.specs.Options.{option_of};
 ghost use Rattle.scope.specs.NewMatch.{match_number, new_match, pass_match};
 
-use super::view::{View, first};
+use super::view::View;
 use ast::Expressions;
 use ast::equality::equal;
+use numbers::first;
 
 // The first match that is equal to the expression at row r. Where the rows are of two kinds, `equal` goes no further.
 fn matched(exprs: &Expressions, matches: &[u16], r: usize) -> Option<usize>

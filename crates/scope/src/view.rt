@@ -1,5 +1,5 @@
 // What of a scope is in use, lent.
-ghost use Rattle.std.specs.Prelude.{◌≡◌, ◌<◌, take, length};
+ghost use Rattle.std.specs.Prelude.{◌<◌, length};
 ghost use Rattle.scope.specs.Labels.{position_count};
 
 // The columns' labels, what is matched to each, and the tables. A column's position has 32 bits.
@@ -9,14 +9,4 @@ pub struct View<'s> {
     pub matches: &'s [u16],
     pub tables: &'s [u32],
     pub ghost counted: { (length labels.now < position_count) × (length matches.now < position_count) },
-}
-
-// The first n, or as many of them as there are.
-pub fn first<T>(s: &[T], n: usize) -> &[T]
-    ensures { result.now ≡ take n s.now }
-{
-    if n <= s.len() {
-        return &s[..n];
-    }
-    s
 }

@@ -4,7 +4,7 @@ use native.Mathlib.Omega.{arith}
 use Rattle.std.specs.Prelude.{◌≡◌, Bool, true, false, List, [], ◌∷◌, length, get_or, drop, Option, Some, None}
 use Rattle.std.proofs.Math.Path.{ap}
 use Rattle.std.proofs.Common.{◌∙◌}
-use Rattle.std.proofs.Math.Option.{some}
+use Rattle.std.proofs.Math.Option.{some, some-injective}
 use Rattle.rules.specs.Lists.{Bytes, entry_after}
 use Rattle.numbers.specs.Codes.{coded}
 use Rattle.numbers.specs.Values.{is_one}
@@ -76,22 +76,24 @@ numbers_from parts i = record {
   expressions = get_or parts (i + 1) 0;
   row = get_or parts (i + 2) 0;
   name = place_of (get_or parts (i + 3) 0) (get_or parts (i + 4) 0);
-  descending = is_one (get_or parts (i + 5) 0);
-  column = column_from parts i;
 }
 
 unfoldable pub numbers_at : List ℕ → ℕ → ℕ → Entry
 numbers_at parts kind k = numbers_from parts (entry_start kind k)
+
+-- whether key k of ORDER descends, and what new column k says
+abbrev pub descends : List ℕ → ℕ → Bool
+descends parts k = is_one (get_or parts (entry_start order_kind k + 5) 0)
+
+abbrev pub new_column : List ℕ → ℕ → NewColumn
+new_column parts k = column_from parts (entry_start column_kind k)
 
 -- ENTRIES OF A LIST
 -- the entry behind the first k comes first in what is left behind them
 pub after-drop : {A : Type 0} (k : ℕ) (xs : List A) (x : A) → entry_after k xs ≡ some x → drop k xs ≡ x ∷ drop (suc k) xs
 unfolding entry_after
 after-drop k [] x h = cc
-after-drop zero (y ∷ xs) x h = ap (λ z. z ∷ xs) (some_same y x h)
-  where
-    some_same : {A : Type 0} (a b : A) → some a ≡ some b → a ≡ b
-    some_same a b e = cc
+after-drop zero (y ∷ xs) x h = ap (λ z. z ∷ xs) (some-injective y x h)
 after-drop (suc k) (y ∷ xs) x h = after-drop k xs x h
 
 -- SECTIONS

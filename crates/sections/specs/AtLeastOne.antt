@@ -61,7 +61,7 @@ module _ (kind : ℕ) (p : Place) where
     where
       go : (b : Bool) → at (keyword_of kind) p ≡ b → some_section kind p ≡ refused r
       go true s = some-there s ∙ e
-      go false s = absurd (let x = sym e ∙ section-none s in let y : ◌≡◌ {A = ℕ} 0 1 = cc in omega arith)
+      go false s = absurd (let x = sym e ∙ section-none s in grind arith)
 
   some-empty : {xs : List Entry} {q : Place} → section kind p ≡ ok (xs, q) → length xs ≡ 0 → some_section kind p ≡ stop wrong_record p
   some-empty {xs} {q} e z = go (at (keyword_of kind) p) refl

@@ -32,7 +32,7 @@ passes_at f (suc n) k h l = go (f n) refl (passes_at f n k)
       | yes y ↦ ih (rw (passes, e) at h) y
       | no y ↦ let z : k ≡ n = omega (arith, y) in rw (z, e)
     ]
-    go false e ih = absurd (let x : false ≡ true = (rw (passes, e) at h) in let y : ◌≡◌ {A = ℕ} 0 1 = cc in omega arith)
+    go false e ih = absurd (let x : false ≡ true = (rw (passes, e) at h) in grind arith)
 
 module _ (kind : ℕ) (h : kind ≤ 11) where
   keyword-some : same [] (keyword_of kind) ≡ false
@@ -61,7 +61,7 @@ module _ (kind : ℕ) (h : kind ≤ 11) where
     pub keyword-inside : at (keyword_of kind) (here t p l c k) ≡ true → p < length t
     keyword-inside e = elim (dec_lt p (length t)) [
       | yes y ↦ y
-      | no y ↦ absurd (let x = keyword-past (omega (arith, y)) in let z : ◌≡◌ {A = ℕ} 0 1 = cc in omega arith)
+      | no y ↦ absurd (let x = keyword-past (omega (arith, y)) in grind arith)
     ]
 
 -- TURNS

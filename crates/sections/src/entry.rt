@@ -12,19 +12,33 @@ use numbers::datatypes::DataType;
 use numbers::number;
 use text::places::Place;
 
-// A row past the end of every table: what stands there is a star.
-pub const OUTSIDE: usize = 9223372036854775808;
-
-// An entry: its line, how many expressions it has and the row of the first, and its name; then whether it descends as an order key,
-// and what it says as a new column.
+// An entry: its line, how many expressions it has and the row of the first, and its name.
 #[derive(Clone, Copy, Debug, PartialEq, Eq)]
 pub struct Entry {
     pub line: u32,
     pub expressions: u32,
     pub row: u32,
     pub name: Option<Place>,
-    pub descending: bool,
-    pub column: NewColumn,
+}
+
+impl Entry {
+    // The row of its first expression, where it has one.
+    pub fn first_row(self) -> Option<usize>
+        ensures { result ≡ expressions.first_row self }
+    {
+        match self.expressions {
+            0 => None,
+            _ => Some(self.row as usize),
+        }
+    }
+
+    // The row of the expression that an item, a group, a key and a clause have. Where the parts hold none: a row past the end of every
+    // table, at which a star stands, as in the rules.
+    pub fn expr_row(self) -> usize
+        ensures { result ≡ expressions.expr_row self }
+    {
+        self.first_row().unwrap_or(usize::MAX)
+    }
 }
 
 // How many entries a section has.
@@ -71,24 +85,27 @@ fn numbers_from(parts: &[u32], i: usize) -> Entry
         expressions: number(parts, i + 1),
         row: number(parts, i + 2),
         name: Place::of_numbers(number(parts, i + 3), number(parts, i + 4)),
-        descending: number(parts, i + 5) == 1,
-        column: column_from(parts, i),
     }
 }
 
-// Entry k of a section, from 0 on.
+// Entry k of a section, from 0 on. (A `for` over the numbers asks for each: an iterator of our own would have a `next` with a contract
+// to carry through each loop, and save a line.)
 pub fn entry_at(parts: &[u32], kind: Section, k: u32) -> Entry
     ensures { result ≡ access.numbers_at parts.now (number_of kind) k }
 {
     numbers_from(parts, entry_start(kind, k))
 }
 
-// The row of an entry's first expression; a row past the end where it has none.
-pub fn first_row(e: Entry) -> usize
-    ensures { result ≡ expressions.first_row e }
+// Whether key k of ORDER descends.
+pub fn descends(parts: &[u32], k: u32) -> bool
+    ensures { result ≡ access.descends parts.now k }
 {
-    if e.expressions == 0 {
-        return OUTSIDE;
-    }
-    e.row as usize
+    number(parts, entry_start(Section::Order, k) + 5) == 1
+}
+
+// What new column k says beside its name and its default.
+pub fn new_column(parts: &[u32], k: u32) -> NewColumn
+    ensures { result ≡ access.new_column parts.now k }
+{
+    column_from(parts, entry_start(Section::Column, k))
 }

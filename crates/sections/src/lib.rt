@@ -174,8 +174,8 @@ pub fn read_section(
     cells: &mut [u32],
     parts: &mut [u32],
 ) -> Result<Cursor, Refusal>
-    requires fact_1 { Position t.now at.position at.line at.rows }
-    requires fact_2 { (length cells.old ≡ table_size) × (length parts.old ≡ 3863) }
+    requires position { Position t.now at.position at.line at.rows }
+    requires room { (length cells.old ≡ table_size) × (length parts.old ≡ 3863) }
     ensures { (k : ℕ) → Given (section (number_of kind)) (SectionRead t.now
         (number_of kind) at.rows cells.old cells.new parts.old parts.new) t.now at.position at.line at.rows k result }
 {
@@ -205,8 +205,8 @@ pub fn read_some(
     cells: &mut [u32],
     parts: &mut [u32],
 ) -> Result<Cursor, Refusal>
-    requires fact_1 { Position t.now at.position at.line at.rows }
-    requires fact_2 { (length cells.old ≡ table_size) × (length parts.old ≡ 3863) }
+    requires position { Position t.now at.position at.line at.rows }
+    requires room { (length cells.old ≡ table_size) × (length parts.old ≡ 3863) }
     ensures { (k : ℕ) → Given (some_section (number_of kind)) (SectionRead t.now
         (number_of kind) at.rows cells.old cells.new parts.old parts.new) t.now at.position at.line at.rows k result }
 {

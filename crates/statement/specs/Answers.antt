@@ -1,15 +1,10 @@
 -- Answers of reading a statement: one step after another.
-use Rattle.std.specs.Prelude.{ℕ, ◌≡◌, Result, Ok, Err}
+use Rattle.std.specs.Prelude.{ℕ, Result, Ok, Err}
 use Rattle.rules.specs.Lists.{Bytes}
-use Rattle.rules.specs.Reader.{Place, Read, ◌>>=◌}
+use Rattle.rules.specs.Reader.{Read}
 use Rattle.numbers.specs.declared.refusals.Refusal as code
 use Rattle.read_expression.specs.declared.reading.Cursor.{Cursor}
 use Rattle.read_expression.specs.Reading.{Given}
-
--- what is read depends on the answer alone
-pub bind-same : {A B : Type 0} (m n : Read A) (f : A → Read B) (p q : Place) → m p ≡ n q → (m >>= f) p ≡ (n >>= f) q
-unfolding ◌>>=◌
-bind-same m n f p q e = rw (◌>>=◌, e)
 
 -- more of what was read
 pub given-map : {A : Type 0} (m : Read A) (H K : ℕ → A → Type 0) (t : Bytes) (p l c k : ℕ) (r : Result Cursor code.Refusal) → ((c' : ℕ) (v : A) → H c' v → K c' v) → Given m H t p l c k r → Given m K t p l c k r

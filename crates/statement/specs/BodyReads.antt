@@ -10,7 +10,7 @@ use Rattle.rules.specs.Ast as Ast
 use Rattle.rules.specs.Reader.{Place, Read, give, ◌>>=◌}
 use Rattle.rules.specs.ReadStatement.{StatementHead, select_head, other_head, delete_head, insert_head, update_head, create_head, drop_head}
 use Rattle.ast.specs.Table.{statement_rows, table_size}
-use Rattle.text.specs.Answers.{bind_ok, bind-no}
+use Rattle.text.specs.Answers.{bind_ok, bind-no, bind-answer}
 use Rattle.numbers.specs.Kept.{Kept, kept-all}
 use Rattle.read_expression.specs.Reading.{here, Position, Given}
 use Rattle.entries.specs.Entries.{Entry, most_of, section, some_section}
@@ -20,7 +20,6 @@ use Rattle.statement.specs.Layout.{select_of, insert_of, update_of, delete_of, c
 use Rattle.sections.specs.Terms.{end_of, SectionRead}
 use Rattle.statement.specs.Bodies.{update_sections, delete_sections, create_sections, sections_of}
 use Rattle.statement.specs.Stays.{stays-begin, stays_on, stays-end, SectionsStay}
-use Rattle.statement.specs.Answers.{bind-same}
 use Rattle.read_expression.specs.Given.{given-done, given-refused}
 use Rattle.numbers.specs.declared.refusals.Refusal as code
 use Rattle.numbers.specs.Reasons.{told}
@@ -70,7 +69,7 @@ BodyRead t h p cells' froms' parts parts' r = BodyBy (sections_of h 1) t h p cel
 -- m is the first to be read
 module _ {A B C : Type 0} (m : Read A) (f : A → Read B) (g : B → Read C) (p : Place) where
   pub inner-ok : (v : A) (q : Place) → m p ≡ ok (v, q) → ((m >>= f) >>= g) p ≡ (f v >>= g) q
-  inner-ok v q e = bind-same (m >>= f) (f v) g p q (bind_ok m f p v q e)
+  inner-ok v q e = bind-answer (m >>= f) (f v) g p q (bind_ok m f p v q e)
 
   pub inner-no : (r : Refusal) → m p ≡ refused r → ((m >>= f) >>= g) p ≡ refused r
   inner-no r e = bind-no (m >>= f) g p r (bind-no m f p r e)

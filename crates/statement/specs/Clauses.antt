@@ -189,9 +189,6 @@ pub record ClausesLoop (t : Bytes) (p₀ l₀ c₀ : ℕ) (cells₀ parts₀ : L
   pub rest : (k : ℕ) (x y : List ℕ) (r : Result Cursor code.Refusal) → Given (run (1 + i) (6 - i)) (RunRead t (1 + i) (6 - i) c cells x parts y) t p l c k r
       → Given (run 1 6) (RunRead t 1 6 c₀ cells₀ x parts₀ y) t p₀ l₀ c₀ k r
 
-pub clauses-begin : (t : Bytes) (p l c : ℕ) (cells parts : List ℕ) → Position t p l c → ClausesLoop t p l c cells parts 0 p l c cells parts
-clauses-begin t p l c cells parts w = record { position = w; rest = λ k x y r g. g }
-
 module _ {t : Bytes} {p₀ l₀ c₀ : ℕ} {cells₀ parts₀ : List ℕ} {i p l c : ℕ} {cells parts : List ℕ} (h : ClausesLoop t p₀ l₀ c₀ cells₀ parts₀ i p l c cells parts) where
   pub clauses-end : 6 ≤ i → (k : ℕ) → Given (run 1 6) (RunRead t 1 6 c₀ cells₀ cells parts₀ parts) t p₀ l₀ c₀ k (Ok (record { position = p; line = l; rows = c }))
   clauses-end m k = h.rest k cells parts _ (run_none t (1 + i) (6 - i) p l c k cells parts h.position (omega arith))

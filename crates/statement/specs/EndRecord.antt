@@ -69,7 +69,7 @@ end-inside : (t : Bytes) (p l c k : ℕ) → at (bytes "end") (here t p l c k) �
 unfolding at key key_of line_here place fields empty same bytes
 end-inside t p l c k e = elim (dec_lt p (length t)) [
   | yes y ↦ y
-  | no y ↦ absurd (let m : length t ≤ p = omega (arith, y) in let x : false ≡ true = (rw (drop_of_length-le t m) at e) in let z : ◌≡◌ {A = ℕ} 0 1 = cc in omega arith)
+  | no y ↦ absurd (let m : length t ≤ p = omega (arith, y) in let x : false ≡ true = (rw (drop_of_length-le t m) at e) in grind arith)
 ]
 
 -- BY POSITION

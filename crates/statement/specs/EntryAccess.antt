@@ -7,22 +7,26 @@ use Rattle.std.proofs.Math.Path.{refl, sym, ap}
 use Rattle.std.proofs.Math.Bool.{true, false}
 use Rattle.std.proofs.Math.Option.{Option, none, some}
 use Rattle.std.proofs.Math.Dec.{eqb}
+use Rattle.std.proofs.lemmas.List.{nil_from_length}
 use borrow.Author.Tests.{eqb-true, eqb-false, eq-eqb, ne_eqb}
 use Rattle.rules.specs.Lists.{Bytes, entry_after, map_option, or_else}
 use Rattle.rules.specs.Lines.{Word}
 use Rattle.rules.specs.Places.{bytes_at, word_at}
 use Rattle.rules.specs.Ast.{Expr, Clause, list_of}
+use Rattle.rules.specs.Ast as Ast
 use Rattle.ast.specs.Table.{arguments_at, tree_at}
 use Rattle.ast.specs.Names.{name_at, option_name, name-place}
 use Rattle.numbers.specs.Codes.{coded-map}
 use Rattle.numbers.specs.Options.{option_of}
 use Rattle.numbers.specs.Datatypes.{type_of, datatype-type}
+use Rattle.numbers.specs.Values.{is_one}
 use Rattle.text.specs.Places.{place_of}
 use Rattle.entries.specs.Entries as E
+use Rattle.entries.specs.declared.NewColumn.{NewColumn}
 use Rattle.sections.specs.Layout.{start_of, head_at, entry_at, section_at}
 use Rattle.sections.specs.OneEntry.{entry_start}
 use Rattle.sections.specs.Access.{null_of, column_from, numbers_from, numbers_at, after-drop, section-count, section-entry}
-use Rattle.sections.specs.Expressions.{outside_row, first_row, star-outside, first-none, exprs_of, exprs-none, exprs-some}
+use Rattle.sections.specs.Expressions.{outside_row, expr_row, star-outside, first-none, exprs_of, exprs-none, exprs-some}
 use Rattle.sections.specs.declared.entry.Entry.{Entry}
 use Rattle.statement.specs.Access.{name_or}
 use Rattle.statement.specs.Layout.{first_or, first_of, word_or, map_entries, to_item, to_group, to_key, to_clause}
@@ -44,13 +48,13 @@ module _ (b q : Bytes) where
 module _ (b q : Bytes) (cells : List ℕ) where
   -- the first expression where there is one
   unfoldable pub given_of : Entry → Option Expr
-  given_of e = elim (eqb e.expressions 0) [ true ↦ none | false ↦ some (tree_at b q cells (first_row e)) ]
+  given_of e = elim (eqb e.expressions 0) [ true ↦ none | false ↦ some (tree_at b q cells (expr_row e)) ]
 
   pub given-none : (e : Entry) → e.expressions ≡ 0 → given_of e ≡ none
   unfolding given_of
   given-none e h = rw (given_of, eq-eqb e.expressions 0 h)
 
-  pub given-some : (e : Entry) → (e.expressions ≡ 0 → ⊥) → given_of e ≡ some (tree_at b q cells (first_row e))
+  pub given-some : (e : Entry) → (e.expressions ≡ 0 → ⊥) → given_of e ≡ some (tree_at b q cells (expr_row e))
   unfolding given_of
   given-some e h = rw (given_of, ne_eqb e.expressions 0 h)
 
@@ -66,14 +70,28 @@ module _ (b q : Bytes) (cells : List ℕ) where
           let z = eqb-false e.expressions 0 h in
           ap first_of (exprs-some e b q cells z) ∙ sym (given-some e z)
 
+  -- the column that CREATE gives
+  unfoldable pub column_of : Entry → NewColumn → Ast.NewColumn
+  column_of e new = record {
+    line = e.line;
+    name = word_of b q e;
+    type = type_of new.datatype;
+    key = new.key;
+    nullable = option_of new.nullable;
+    unique = new.unique;
+    index = new.index;
+    default = given_of e;
+    reference = option_name b q new.reference;
+  }
+
   -- the first expression is the tree at its row, and a star where there is none
   pub first-tree : length cells ≤ outside_row → (e : Entry)
-      → first_or (exprs_of e b q cells) ≡ tree_at b q cells (first_row e)
+      → first_or (exprs_of e b q cells) ≡ tree_at b q cells (expr_row e)
   unfolding first_or
   first-tree l e = go (eqb e.expressions 0) refl
     where
       go : (t : Bool) → eqb e.expressions 0 ≡ t
-          → first_or (exprs_of e b q cells) ≡ tree_at b q cells (first_row e)
+          → first_or (exprs_of e b q cells) ≡ tree_at b q cells (expr_row e)
       go true h =
           let z = eqb-true e.expressions 0 h in
           ap first_or (exprs-none e b q cells z)
@@ -106,6 +124,9 @@ module _ (b q : Bytes) (cells parts : List ℕ) (i : ℕ) where
   abbrev e : Entry
   e = numbers_from parts i
 
+  abbrev new : NewColumn
+  new = column_from parts i
+
   named-from : to_named here ≡ record { line = e.line; name = word_of b q e }
   unfolding to_named entry_at head_at numbers_from
   named-from = rw (word-or b q (get_or parts (i + 3) 0) (get_or parts (i + 4) 0))
@@ -118,18 +139,8 @@ module _ (b q : Bytes) (cells parts : List ℕ) (i : ℕ) where
   unfolding to_set entry_at head_at numbers_from
   set-from = rw (word-or b q (get_or parts (i + 3) 0) (get_or parts (i + 4) 0), ← first-given b q cells (numbers_from parts i))
 
-  column-from : to_column here ≡ record {
-    line = e.line;
-    name = word_of b q e;
-    type = type_of e.column.datatype;
-    key = e.column.key;
-    nullable = option_of e.column.nullable;
-    unique = e.column.unique;
-    index = e.column.index;
-    default = given_of b q cells e;
-    reference = option_name b q e.column.reference;
-  }
-  unfolding to_column entry_at head_at numbers_from column_from
+  column-from : to_column here ≡ column_of b q cells e new
+  unfolding to_column entry_at head_at numbers_from column_from column_of
   column-from =
       rw (
         word-or b q (get_or parts (i + 3) 0) (get_or parts (i + 4) 0),
@@ -140,15 +151,15 @@ module _ (b q : Bytes) (cells parts : List ℕ) (i : ℕ) where
       )
 
   module _ (s : length cells ≤ outside_row) where
-    item-from : to_item here ≡ record { line = e.line; expr = tree_at b q cells (first_row e); alias = option_name b q e.name }
+    item-from : to_item here ≡ record { line = e.line; expr = tree_at b q cells (expr_row e); alias = option_name b q e.name }
     unfolding to_item entry_at head_at numbers_from
     item-from = rw (name-place b q (get_or parts (i + 3) 0) (get_or parts (i + 4) 0), ← first-tree b q cells s (numbers_from parts i))
 
-    group-from : to_group here ≡ tree_at b q cells (first_row e)
+    group-from : to_group here ≡ tree_at b q cells (expr_row e)
     unfolding to_group entry_at numbers_from
     group-from = first-tree b q cells s (numbers_from parts i)
 
-    key-from : to_key here ≡ record { expr = tree_at b q cells (first_row e); descending = e.descending }
+    key-from : to_key here ≡ record { expr = tree_at b q cells (expr_row e); descending = is_one (get_or parts (i + 5) 0) }
     unfolding to_key entry_at head_at numbers_from
     key-from = rw (← first-tree b q cells s (numbers_from parts i))
 
@@ -175,43 +186,29 @@ module _ (b q : Bytes) (cells parts : List ℕ) (kind k : ℕ) (e : Entry) (h : 
   unfolding numbers_at
   set_at = rw h (at-k to_set _ (set-from b q cells parts (entry_start kind k)))
 
-  pub column-at : entry_after k (map_entries to_column entries_here) ≡ some (record {
-    line = e.line;
-    name = word_of b q e;
-    type = type_of e.column.datatype;
-    key = e.column.key;
-    nullable = option_of e.column.nullable;
-    unique = e.column.unique;
-    index = e.column.index;
-    default = given_of b q cells e;
-    reference = option_name b q e.column.reference;
-  })
+  pub column-at : (n : NewColumn) → n ≡ column_from parts (entry_start kind k) → entry_after k (map_entries to_column entries_here) ≡ some (column_of b q cells e n)
   unfolding numbers_at
-  column-at = rw h (at-k to_column _ (column-from b q cells parts (entry_start kind k)))
+  column-at n g = rw (h, g) (at-k to_column _ (column-from b q cells parts (entry_start kind k)))
 
   module _ (s : length cells ≤ outside_row) where
     pub item-at : entry_after k (map_entries to_item entries_here) ≡ some (record {
       line = e.line;
-      expr = tree_at b q cells (first_row e);
+      expr = tree_at b q cells (expr_row e);
       alias = option_name b q e.name;
     })
     unfolding numbers_at
     item-at = rw h (at-k to_item _ (item-from b q cells parts (entry_start kind k) s))
 
-    pub group_at : entry_after k (map_entries to_group entries_here) ≡ some (tree_at b q cells (first_row e))
+    pub group_at : entry_after k (map_entries to_group entries_here) ≡ some (tree_at b q cells (expr_row e))
     unfolding numbers_at
     group_at = rw h (at-k to_group _ (group-from b q cells parts (entry_start kind k) s))
 
-    pub key-at : entry_after k (map_entries to_key entries_here)
-        ≡ some (record { expr = tree_at b q cells (first_row e); descending = e.descending })
+    pub key-at : (d : Bool) → d ≡ is_one (get_or parts (entry_start kind k + 5) 0) → entry_after k (map_entries to_key entries_here)
+        ≡ some (record { expr = tree_at b q cells (expr_row e); descending = d })
     unfolding numbers_at
-    key-at = rw h (at-k to_key _ (key-from b q cells parts (entry_start kind k) s))
+    key-at d g = rw (h, g) (at-k to_key _ (key-from b q cells parts (entry_start kind k) s))
 
 -- CLAUSES
-no-entries : {A : Type 0} (xs : List A) → length xs ≡ 0 → xs ≡ []
-no-entries [] h = refl
-no-entries (x ∷ xs) h = absurd (omega arith)
-
 -- the inserted names, where there is a `columns`
 pub names-none : (cs ns : List E.Entry) → length cs ≡ 0 → to_names cs ns ≡ none
 unfolding to_names
@@ -227,7 +224,7 @@ names-some (c ∷ cs) ns h = refl
 unfoldable pub clause_at : List ℕ → ℕ → std.Option Cl.Clause
 clause_at parts kind = elim (eqb (get_or parts (start_of kind) 0) 0) [
   | true ↦ std.None
-  | false ↦ std.Some (record { line = (numbers_at parts kind 0).line; row = first_row (numbers_at parts kind 0) })
+  | false ↦ std.Some (record { line = (numbers_at parts kind 0).line; row = expr_row (numbers_at parts kind 0) })
 ]
 
 -- what it stands for
@@ -241,27 +238,27 @@ module _ (parts : List ℕ) (kind : ℕ) where
   clause-none h = rw (clause_at, eq-eqb _ 0 h)
 
   pub clause-some : (get_or parts (start_of kind) 0 ≡ 0 → ⊥)
-      → std.Some (record { line = (numbers_at parts kind 0).line; row = first_row (numbers_at parts kind 0) }) ≡ clause_at parts kind
+      → std.Some (record { line = (numbers_at parts kind 0).line; row = expr_row (numbers_at parts kind 0) }) ≡ clause_at parts kind
   unfolding clause_at
   clause-some h = rw (clause_at, ne_eqb _ 0 h)
 
-  pub clause-by : (e : Entry) (r n : ℕ) → e ≡ numbers_at parts kind 0 → r ≡ first_row e → n ≡ get_or parts (start_of kind) 0
+  pub clause-by : (e : Entry) (r n : ℕ) → e ≡ numbers_at parts kind 0 → r ≡ expr_row e → n ≡ get_or parts (start_of kind) 0
       → (n ≡ 0 → ⊥) → std.Some (record { line = e.line; row = r }) ≡ clause_at parts kind
   clause-by e r n h g m ne = rw (g, h) (clause-some (λ z. ne (m ∙ z)))
 
   module _ (b q : Bytes) (cells : List ℕ) (s : length cells ≤ outside_row) where
     clause-first : (i : ℕ) (ys : List E.Entry) → to_clause (entry_at b q cells parts i ∷ ys)
-        ≡ clause_of b q cells (std.Some (record { line = (numbers_from parts i).line; row = first_row (numbers_from parts i) }))
+        ≡ clause_of b q cells (std.Some (record { line = (numbers_from parts i).line; row = expr_row (numbers_from parts i) }))
     unfolding to_clause clause_of entry_at numbers_from
     clause-first i ys = ap (λ (x : Expr). some (record { line = get_or parts i 0; expr = x })) (first-tree b q cells s (numbers_from parts i))
 
     clause-missing : get_or parts (start_of kind) 0 ≡ 0
         → to_clause (section_at b q cells parts kind) ≡ clause_of b q cells std.None
     unfolding to_clause clause_of
-    clause-missing n = ap to_clause (no-entries (section_at b q cells parts kind) (section-count b q cells parts kind ∙ n))
+    clause-missing n = ap to_clause (nil_from_length (section_at b q cells parts kind) (section-count b q cells parts kind ∙ n))
 
     clause-stands : (get_or parts (start_of kind) 0 ≡ 0 → ⊥) → to_clause (section_at b q cells parts kind)
-        ≡ clause_of b q cells (std.Some (record { line = (numbers_at parts kind 0).line; row = first_row (numbers_at parts kind 0) }))
+        ≡ clause_of b q cells (std.Some (record { line = (numbers_at parts kind 0).line; row = expr_row (numbers_at parts kind 0) }))
     clause-stands n =
         let xs = section_at b q cells parts kind in
         let i = entry_start kind 0 in

@@ -14,11 +14,11 @@ use Rattle.rules.specs.Reader.{base_address, line_here, key, rest, rest_of, one_
 use Rattle.rules.specs.ReadStatement.{answers, StatementHead, select_head, other_head, delete_head, insert_head, update_head, create_head, drop_head, statement_heads}
 use Rattle.text.specs.Lines.{field, Fields}
 use Rattle.numbers.specs.Options.{option_of}
-use Rattle.text.specs.Numbers.{is_name, name_in, name_out}
-use Rattle.text.specs.Reading.{field_of, text_of, field-word, key-is, rest-none, rest-one, rest-two, rest-other, field-inside}
+use Rattle.text.specs.Numbers.{is_name}
+use Rattle.text.specs.Reading.{text_of, field-word, key-is, rest-none, rest-other, with-one, with-two, field-inside}
 use Rattle.text.specs.Records.{no-field, one_field_lem, two_fields_lem}
 use Rattle.text.specs.declared.Line.{Line}
-use Rattle.text.specs.Fields.{Inside, field-length}
+use Rattle.text.specs.Fields.{Inside, field-named, field-unnamed}
 use Rattle.numbers.specs.Codes.{coded}
 use Rattle.read_expression.specs.Reading.{here}
 use Rattle.statement.specs.Kinds.{number_of}
@@ -53,21 +53,13 @@ OneName k = (k ≡ K.Delete) ⊎ ((k ≡ K.Insert) ⊎ ((k ≡ K.Update) ⊎ (k 
 
 -- NAMES
 module _ (t : Bytes) (a n : ℕ) (i : Inside t a n) where
-  field-name : is_name n ≡ true → name (field most_bytes t a n) ≡ some (field most_bytes t a n)
-  unfolding field
-  field-name h = name_in _ (ap is_name (field-length t a n i) ∙ h)
-
-  field-none : is_name n ≡ false → name (field most_bytes t a n) ≡ none
-  unfolding field
-  field-none h = name_out _ (ap is_name (field-length t a n i) ∙ h)
-
   -- the statements of one name
   pub named_none : (k : Kind) → OneName k → is_name n ≡ false → said_by k (field most_bytes t a n ∷ []) ≡ none
   unfolding said_by one_field map_option
-  named_none k (inl e) h = rw (e, field-none h)
-  named_none k (inr (inl e)) h = rw (e, field-none h)
-  named_none k (inr (inr (inl e))) h = rw (e, field-none h)
-  named_none k (inr (inr (inr e))) h = rw (e, field-none h)
+  named_none k (inl e) h = rw (e, field-unnamed t a n i h)
+  named_none k (inr (inl e)) h = rw (e, field-unnamed t a n i h)
+  named_none k (inr (inr (inl e))) h = rw (e, field-unnamed t a n i h)
+  named_none k (inr (inr (inr e))) h = rw (e, field-unnamed t a n i h)
 
   module _ (c : Bytes) (p : Place) (e : p ≡ record { address = most_bytes + a; length = n }) where
     word-is : word_at c t p.address p.length ≡ field most_bytes t a n
@@ -77,26 +69,26 @@ module _ (t : Bytes) (a n : ℕ) (i : Inside t a n) where
     pub named_some : (k : Kind) → OneName k → is_name n ≡ true
         → first_said c t (Some (record { kind = k; name = Some p; if_exists = false })) ≡ said_by k (field most_bytes t a n ∷ [])
     unfolding first_said name_or head_of coded said_by one_field map_option
-    named_some k (inl e) h = rw (e, word-is, field-name h)
-    named_some k (inr (inl e)) h = rw (e, word-is, field-name h)
-    named_some k (inr (inr (inl e))) h = rw (e, word-is, field-name h)
-    named_some k (inr (inr (inr e))) h = rw (e, word-is, field-name h)
+    named_some k (inl e) h = rw (e, word-is, field-named t a n i h)
+    named_some k (inr (inl e)) h = rw (e, word-is, field-named t a n i h)
+    named_some k (inr (inr (inl e))) h = rw (e, word-is, field-named t a n i h)
+    named_some k (inr (inr (inr e))) h = rw (e, word-is, field-named t a n i h)
 
   -- `drop`
   module _ (w : Word) where
     pub drop-unnamed : is_name n ≡ false → said_by K.Drop (field most_bytes t a n ∷ w ∷ []) ≡ none
     unfolding said_by two_fields both map_option
-    drop-unnamed h = rw (field-none h)
+    drop-unnamed h = rw (field-unnamed t a n i h)
 
     module _ (y : std.Option Bool) (e : option_of y ≡ word answers w) (h : is_name n ≡ true) where
       pub drop-unanswered : y ≡ None → said_by K.Drop (field most_bytes t a n ∷ w ∷ []) ≡ none
       unfolding said_by two_fields both map_option
-      drop-unanswered l = rw (field-name h, ← e, l)
+      drop-unanswered l = rw (field-named t a n i h, ← e, l)
 
       pub drop-some : (c : Bytes) (p : Place) (d : Bool) → y ≡ Some d → p ≡ record { address = most_bytes + a; length = n }
           → first_said c t (Some (record { kind = K.Drop; name = Some p; if_exists = d })) ≡ said_by K.Drop (field most_bytes t a n ∷ w ∷ [])
       unfolding first_said name_or head_of coded said_by two_fields both map_option
-      drop-some c p d l q = rw (word-is c p q, field-name h, ← e, l)
+      drop-some c p d l q = rw (word-is c p q, field-named t a n i h, ← e, l)
 
 -- THE RECORD
 named-not : (k : Kind) (r : List Word) → OneName k → (length r ≡ 1 → ⊥) → said_by k r ≡ none
@@ -144,16 +136,14 @@ module _ (t : Bytes) (r : Line) (f : Fields t 0 r) where
 
       pub first-drop : k ≡ K.Drop → r.count ≡ 3
           → one_of statement_heads (line_here (here t 0 1 0 0)) ≡ said_by K.Drop (field most_bytes t (get_or r.starts 1 0) (get_or r.lens 1 0) ∷ field most_bytes t (get_or r.starts 2 0) (get_or r.lens 2 0) ∷ [])
-      unfolding field_of base_address
-      first-drop z m = kind-is ∙ rw (z, rest-two statement t 0 1 0 0 r f m)
+      first-drop z m = kind-is ∙ rw (z, with-two t 0 1 0 0 r f m)
 
       pub first-drop-not : k ≡ K.Drop → (r.count ≡ 3 → ⊥) → one_of statement_heads (line_here (here t 0 1 0 0)) ≡ none
       unfolding said_by map_option
       first-drop-not z m = kind-is ∙ rw (z, two_fields_lem name (word answers) _ (without 2 (omega arith) m))
 
       pub first-named : r.count ≡ 2 → one_of statement_heads (line_here (here t 0 1 0 0)) ≡ said_by k (field most_bytes t (get_or r.starts 1 0) (get_or r.lens 1 0) ∷ [])
-      unfolding field_of base_address
-      first-named m = kind-is ∙ ap (said_by k) (rest-one statement t 0 1 0 0 r f m)
+      first-named m = kind-is ∙ ap (said_by k) (with-one t 0 1 0 0 r f m)
 
       pub first-named-not : OneName k → (r.count ≡ 2 → ⊥) → one_of statement_heads (line_here (here t 0 1 0 0)) ≡ none
       first-named-not o m = kind-is ∙ named-not k _ o (without 1 (omega arith) m)

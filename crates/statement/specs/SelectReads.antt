@@ -14,12 +14,12 @@ use Rattle.entries.specs.Entries.{Entry, most_of, some_section}
 use Rattle.sections.specs.Layout.{start_of, section_at}
 use Rattle.sections.specs.Access.{limit_kind}
 use Rattle.from.specs.Layout.{froms_at}
+use Rattle.text.specs.Answers.{bind-answer}
 use Rattle.statement.specs.Layout.{select_of}
 use Rattle.sections.specs.Terms.{end_of, SectionRead}
 use Rattle.from.specs.Terms.{FromsTook, FromsRead}
 use Rattle.statement.specs.Bodies.{select_sections, sections_of}
 use Rattle.statement.specs.Stays.{Stays, stays-begin, stays_on, stays-more, stays-set}
-use Rattle.statement.specs.Answers.{bind-same}
 use Rattle.read_expression.specs.Given.{given-done, given-refused}
 use Rattle.statement.specs.Clauses.{run, run_on, run_on_lem, run_at, run-same, edge, RunRead, stays-run}
 use Rattle.statement.specs.BodyReads.{body_at, BodyBy, BodyRead, inner-ok, inner-no, body-last}
@@ -77,7 +77,7 @@ module _ (t : Bytes) (p : ℕ) (cells cells₁ parts parts₁ : List ℕ) where
       from-took = f
 
       come-clauses : sections_of select_head 1 (here t p 2 0 0) ≡ ((run 1 6 >>= λ xss. give (select_by items.value from-took.value xss)) >>= λ d. give (Ast.select d)) (here t fs.at.position fs.at.line fs.at.rows fs.tables)
-      come-clauses = come ∙ inner-ok (turns froms) _ _ _ _ _ from-took.is ∙ bind-same _ _ _ _ _ (run_on_lem 1 6 _ _)
+      come-clauses = come ∙ inner-ok (turns froms) _ _ _ _ _ from-took.is ∙ bind-answer _ _ _ _ _ (run_on_lem 1 6 _ _)
 
       -- all that was read, whatever stands behind its rows
       stands : (cells₃ parts₃ : List ℕ) (c₃ : ℕ) (xss : List (List Entry)) → fs.at.rows ≤ c₃ → RunRead t 1 6 fs.at.rows cells₂ cells₃ parts₁ parts₃ c₃ xss

@@ -130,7 +130,7 @@ module _ (t : Bytes) (f : First) (g : (c : Bytes) → first_said c t (Some f) �
   some-text : 0 < length t
   some-text = elim (dec_lt 0 (length t)) [
     | yes y ↦ y
-    | no y ↦ absurd (let x = sym (head-is []) ∙ no_text t (omega (arith, y)) in let z : ◌≡◌ {A = ℕ} 0 1 = cc in omega arith)
+    | no y ↦ absurd (let x = sym (head-is []) ∙ no_text t (omega (arith, y)) in grind arith)
   ]
 
   pub second-line : Position t (line_end t 0) 2 0

@@ -9,7 +9,7 @@ ghost use Rattle.statement.specs.EntryAccess as entryAccess;
 
 use entries::Section;
 use numbers::number;
-use sections::entry::{count, entry_at, first_row};
+use sections::entry::{count, entry_at};
 use text::places::Place;
 
 // Where the statement's own numbers stand in the parts, which are lent zeroed (reader_read_texts) and so stay numbers.
@@ -111,7 +111,7 @@ pub fn clause_at(parts: &[u32], kind: Section) -> Option<Clause>
     let e = entry_at(parts, kind, 0);
     Some(Clause {
         line: e.line,
-        row: first_row(e),
+        row: e.expr_row(),
     })
 }
 

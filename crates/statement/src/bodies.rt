@@ -32,6 +32,17 @@ const CLAUSES: [Section; 6] = [
     Section::Limit,
 ];
 
+// Where the second line starts, before any expression.
+fn second_line(position: usize) -> Cursor
+    ensures { result ≡ record { position = position; line = 2; rows = 0 } }
+{
+    Cursor {
+        position,
+        line: 2,
+        rows: 0,
+    }
+}
+
 // The clauses that stand here.
 fn read_clauses(
     t: &[u8],
@@ -58,15 +69,11 @@ fn read_select(
     froms: &mut [u32],
     parts: &mut [u32],
 ) -> Result<Cursor, Refusal>
-    requires fact_1 { Position t.now p 2 0 }
-    requires fact_2 { Room cells.old froms.old parts.old }
+    requires position { Position t.now p 2 0 }
+    requires room { Room cells.old froms.old parts.old }
     ensures { BodyRead t.now select_head p cells.new froms.new parts.old parts.new result }
 {
-    let at = Cursor {
-        position: p,
-        line: 2,
-        rows: 0,
-    };
+    let at = second_line(p);
     let items = read_some(t, at, Section::Item, cells, parts)?;
     let f = read_froms(t, items, cells, froms)?;
     let clauses = read_clauses(t, f.at, cells, parts)?;
@@ -76,8 +83,8 @@ fn read_select(
 
 // The names behind a `columns`, where one was read.
 fn read_names(t: &[u8], at: Cursor, cells: &mut [u32], parts: &mut [u32]) -> Result<Cursor, Refusal>
-    requires fact_1 { Position t.now at.position at.line at.rows }
-    requires fact_2 { (length cells.old ≡ table_size) × (length parts.old ≡ 3863) }
+    requires position { Position t.now at.position at.line at.rows }
+    requires room { (length cells.old ≡ table_size) × (length parts.old ≡ 3863) }
     ensures { (cs : List Entry) (k : ℕ) → ((b : Bytes) → section_at b t.now cells.old parts.old 7 ≡ cs)
         → Given (names_behind cs) (NamesRead t.now cs at.rows cells.old cells.new parts.old parts.new) t.now at.position
         at.line at.rows k result }
@@ -90,15 +97,11 @@ fn read_names(t: &[u8], at: Cursor, cells: &mut [u32], parts: &mut [u32]) -> Res
 
 // An INSERT's names and rows.
 fn read_insert(t: &[u8], p: usize, cells: &mut [u32], parts: &mut [u32]) -> Result<Cursor, Refusal>
-    requires fact_1 { Position t.now p 2 0 }
-    requires fact_2 { (length cells.old ≡ table_size) × (length parts.old ≡ 3863) }
+    requires position { Position t.now p 2 0 }
+    requires room { (length cells.old ≡ table_size) × (length parts.old ≡ 3863) }
     ensures { (n : Word) (froms : List ℕ) → BodyRead t.now (insert_head n) p cells.new froms parts.old parts.new result }
 {
-    let at = Cursor {
-        position: p,
-        line: 2,
-        rows: 0,
-    };
+    let at = second_line(p);
     let columns = read_section(t, at, Section::Columns, cells, parts)?;
     let names = read_names(t, columns, cells, parts)?;
     read_some(t, names, Section::Row, cells, parts)
@@ -106,15 +109,11 @@ fn read_insert(t: &[u8], p: usize, cells: &mut [u32], parts: &mut [u32]) -> Resu
 
 // An UPDATE's sets and `where`.
 fn read_update(t: &[u8], p: usize, cells: &mut [u32], parts: &mut [u32]) -> Result<Cursor, Refusal>
-    requires fact_1 { Position t.now p 2 0 }
-    requires fact_2 { (length cells.old ≡ table_size) × (length parts.old ≡ 3863) }
+    requires position { Position t.now p 2 0 }
+    requires room { (length cells.old ≡ table_size) × (length parts.old ≡ 3863) }
     ensures { (n : Word) (froms : List ℕ) → BodyRead t.now (update_head n) p cells.new froms parts.old parts.new result }
 {
-    let at = Cursor {
-        position: p,
-        line: 2,
-        rows: 0,
-    };
+    let at = second_line(p);
     let sets = read_some(t, at, Section::Set, cells, parts)?;
     read_section(t, sets, Section::Where, cells, parts)
 }
@@ -128,16 +127,12 @@ pub fn read_body(
     froms: &mut [u32],
     parts: &mut [u32],
 ) -> Result<Cursor, Refusal>
-    requires fact_1 { Position t.now p 2 0 }
-    requires fact_2 { Room cells.old froms.old parts.old }
+    requires position { Position t.now p 2 0 }
+    requires room { Room cells.old froms.old parts.old }
     ensures { (n : Word) (y : Bool) → BodyRead t.now (head_of (number_of kind) n y) p cells.new froms.new parts.old
         parts.new result }
 {
-    let at = Cursor {
-        position: p,
-        line: 2,
-        rows: 0,
-    };
+    let at = second_line(p);
     match kind {
         Kind::Select => read_select(t, p, cells, froms, parts),
         Kind::Create => read_section(t, at, Section::Column, cells, parts),

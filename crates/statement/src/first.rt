@@ -6,11 +6,11 @@ ghost use Rattle.rules.specs.Lists.{Bytes, named};
 ghost use Rattle.rules.specs.Limits.{most_bytes};
 ghost use Rattle.rules.specs.Reader.{line_here, one_of};
 ghost use Rattle.rules.specs.ReadStatement.{statement_heads};
-ghost use Rattle.text.specs.Lines.{field, Fields};
+ghost use Rattle.text.specs.Lines.{field};
 ghost use Rattle.rules.specs.Area.{flag};
 ghost use Rattle.numbers.specs.Options.{option_of};
 ghost use Rattle.text.specs.Fields.{Inside};
-ghost use Rattle.read_expression.specs.Reading.{here};
+ghost use Rattle.read_expression.specs.Reading.{here, LineAt};
 ghost use Rattle.statement.specs.Kinds.{number_of};
 ghost use Rattle.statement.specs.Access.{name_or};
 ghost use Rattle.statement.specs.declared.access.Kind.TheVariants as kinds;
@@ -20,7 +20,7 @@ use crate::access::{FLAG, KIND, Kind, LINE, NAME_ADDRESS, NAME_LENGTH, name_or};
 use text::places::{Place, name_at};
 use text::words::beside;
 
-// A first record: the statement's kind, its name, and whether a `drop` says yes.
+// A first record: the statement's kind, its name, and whether a `drop` says yes; no in any other, as it stands in the parts.
 #[derive(Clone, Copy, Debug, PartialEq, Eq)]
 pub struct First {
     pub kind: Kind,
@@ -45,10 +45,10 @@ fn keyword(word: &[u8]) -> Option<Kind>
 }
 
 // A statement whose one field is a name.
-fn named(t: &[u8], kind: Kind, a: usize, n: usize) -> Option<First>
-    requires fact_1 { Inside t.now a n }
-    requires fact_2 { OneName kind }
-    ensures { (c : Bytes) → first_said c t.now result ≡ said_by kind (field most_bytes t.now a n ∷ []) }
+fn named(kind: Kind, a: usize, n: usize) -> Option<First>
+    requires place { (a ≤ 65536) × (n ≤ 65536) }
+    requires one_name { OneName kind }
+    ensures { (c t : Bytes) → Inside t a n → first_said c t result ≡ said_by kind (field most_bytes t a n ∷ []) }
 {
     let name = name_at(a, n)?;
     Some(First {
@@ -59,10 +59,10 @@ fn named(t: &[u8], kind: Kind, a: usize, n: usize) -> Option<First>
 }
 
 // A `drop`: a name, and yes or no.
-fn dropped(t: &[u8], a: usize, n: usize, answer: &[u8]) -> Option<First>
-    requires { Inside t.now a n }
-    ensures { (c : Bytes) (o : ℕ) → first_said c t.now result ≡ said_by kinds.Drop
-        (field most_bytes t.now a n ∷ record { bytes = answer.now; start = o } ∷ []) }
+fn dropped(a: usize, n: usize, answer: &[u8]) -> Option<First>
+    requires { (a ≤ 65536) × (n ≤ 65536) }
+    ensures { (c t : Bytes) (o : ℕ) → Inside t a n → first_said c t result ≡ said_by kinds.Drop
+        (field most_bytes t a n ∷ record { bytes = answer.now; start = o } ∷ []) }
 {
     let name = name_at(a, n)?;
     let table: [(&[u8], bool); 2] = [(b"yes", true), (b"no", false)];
@@ -76,8 +76,7 @@ fn dropped(t: &[u8], a: usize, n: usize, answer: &[u8]) -> Option<First>
 
 // The first record of a text, by the fields of its first line.
 pub fn first_record(t: &[u8], f: text::Line) -> Option<First>
-    requires fact_1 { length t.now ≤ most_bytes }
-    requires fact_2 { Fields t.now 0 f }
+    requires { LineAt t.now 0 f }
     ensures { (c : Bytes) → first_said c t.now result ≡ one_of statement_heads (line_here (here t.now 0 1 0 0)) }
 {
     let n = f.count;
@@ -97,13 +96,13 @@ pub fn first_record(t: &[u8], f: text::Line) -> Option<First>
             if n != 3 {
                 return None;
             }
-            dropped(t, f.starts[1], f.lens[1], f.field(t, 2))
+            dropped(f.starts[1], f.lens[1], f.field(t, 2))
         }
         Kind::Delete | Kind::Insert | Kind::Update | Kind::Create => {
             if n != 2 {
                 return None;
             }
-            named(t, kind, f.starts[1], f.lens[1])
+            named(kind, f.starts[1], f.lens[1])
         }
     }
 }

@@ -60,8 +60,8 @@ fn read_behind(
     froms: &mut [u32],
     parts: &mut [u32],
 ) -> Result<Cursor, Refusal>
-    requires fact_1 { Position t.now p 2 0 }
-    requires fact_2 { Room cells.old froms.old parts.old }
+    requires position { Position t.now p 2 0 }
+    requires room { Room cells.old froms.old parts.old }
     ensures { (n : Word) (y : Bool) → WholeRead t.now (head_of (number_of kind) n y) p cells.new froms.new parts.old
         parts.new result }
 {

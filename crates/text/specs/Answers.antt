@@ -33,6 +33,11 @@ module _ {A B : Type 0} (m : Read A) (n : Read B) (p : Place) where
   unfolding ◌>>◌
   then-no r e = rw (◌>>◌, e)
 
+-- what is read depends on the answer alone
+pub bind-answer : {A B : Type 0} (m n : Read A) (f : A → Read B) (p q : Place) → m p ≡ n q → (m >>= f) p ≡ (n >>= f) q
+unfolding ◌>>=◌
+bind-answer m n f p q e = rw (◌>>=◌, e)
+
 -- a record after n of its kind
 module _ {H : Type 0} (f : List Word → Option H) (n most : ℕ) (p : Place) where
   pub within-wrong : f (rest p) ≡ none → record_within f n most p ≡ stop wrong_record p

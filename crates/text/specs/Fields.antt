@@ -1,13 +1,15 @@
 -- Fields that lie inside a text of at most 65,536 bytes.
-use Rattle.std.specs.Prelude.{ℕ, ◌+◌, ◌≤◌, ◌<◌, ◌≡◌, length, get_or, take, drop}
-use Rattle.std.proofs.Common.{arith}
+use Rattle.std.specs.Prelude.{ℕ, ◌+◌, ◌≤◌, ◌<◌, ◌≡◌, true, false, length, get_or, take, drop}
+use Rattle.std.proofs.Common.{arith, ap, ◌∙◌}
+use Rattle.std.proofs.Math.Option.{none, some}
 use Rattle.rules.specs.Limits.{most_bytes}
 use Rattle.rules.specs.Lists.{Bytes}
 use Rattle.rules.specs.Refusals.{Text, catalog}
-use Rattle.rules.specs.Reader.{base_address}
+use Rattle.rules.specs.Reader.{base_address, name}
 use Rattle.rules.specs.Places.{word_at}
 use Rattle.text.specs.Bytes.{part_length}
 use Rattle.text.specs.Lines.{field, Fields}
+use Rattle.text.specs.Numbers.{is_name, name_in, name_out}
 use Rattle.text.specs.Reading.{text_of, field-word, field-inside}
 use Rattle.text.specs.declared.Line.{Line}
 
@@ -25,6 +27,15 @@ module _ (t : Bytes) (a n : ℕ) (i : Inside t a n) where
   field_at k c q e =
       let h : a + n ≤ most_bytes = omega (arith, i.inside, i.short) in
       rw (← e) (field-word k c q a n h)
+
+  -- and a name, or none, by its length
+  pub field-named : is_name n ≡ true → name (field most_bytes t a n) ≡ some (field most_bytes t a n)
+  unfolding field
+  field-named h = name_in _ (ap is_name field-length ∙ h)
+
+  pub field-unnamed : is_name n ≡ false → name (field most_bytes t a n) ≡ none
+  unfolding field
+  field-unnamed h = name_out _ (ap is_name field-length ∙ h)
 
 -- the i-th field of the line at p
 pub inside-field : (t : Bytes) (p : ℕ) (r : Line) → Fields t p r → (i : ℕ) → length t ≤ most_bytes → p ≤ length t → i < r.count → Inside t (get_or r.starts i 0) (get_or r.lens i 0)

@@ -4,8 +4,10 @@ use native.Mathlib.Omega.{arith}
 use Rattle.std.proofs.Math.Decide.{dec_lt}
 use Rattle.std.proofs.Common.{sym, ap, ◌∙◌}
 use Rattle.std.proofs.Math.ListN.{drop_of_length-le}
-use borrow.Author.Tests.{eqb-true, eq-eqb, ne_eqb, lt-ltb, le-ltb}
+use borrow.Author.Tests.{eq-eqb, ne_eqb, lt-ltb, le-ltb}
+use Rattle.std.proofs.lemmas.Bool.{false≢true}
 use Rattle.rules.specs.Lists.{Bytes, same, before}
+pub use Rattle.numbers.specs.Same.{same_true}
 use Rattle.text.specs.Bytes.{step}
 use Rattle.std.specs.declared.cmp.Ordering.{Ordering}
 use Rattle.std.specs.declared.cmp.Ordering.TheVariants.{Less, Equal, Greater}
@@ -22,20 +24,6 @@ unfoldable pub order_of : Bytes → Bytes → Ordering
 order_of x y = order_by (before x y) (same x y)
 
 -- EQUALITY
-never : false ≡ true → ⊥
-never e = let z : ◌≡◌ {A = ℕ} 0 1 = cc in omega arith
-
-pub same_true : (xs ys : Bytes) → same xs ys ≡ true → xs ≡ ys
-unfolding same
-same_true [] [] e = refl
-same_true [] (y ∷ ys) e = absurd (never e)
-same_true (x ∷ xs) [] e = absurd (never e)
-same_true (x ∷ xs) (y ∷ ys) e = go (eqb x y) refl e (same_true xs ys)
-  where
-    go : (b : Bool) → eqb x y ≡ b → elim b [ true ↦ same xs ys | false ↦ false ] ≡ true → (same xs ys ≡ true → xs ≡ ys) → x ∷ xs ≡ y ∷ ys
-    go true h s ih = let f = eqb-true x y h in let t = ih s in cc
-    go false h s ih = absurd (never s)
-
 pub same_self : (xs : Bytes) → same xs xs ≡ true
 unfolding same
 same_self [] = refl
@@ -54,7 +42,7 @@ same-swap xs ys = go (same ys xs) refl
   where
     go : (b : Bool) → same ys xs ≡ b → same xs ys ≡ b
     go true e = rw (same_true ys xs e) (same_self xs)
-    go false e = differ xs ys (λ z. never (sym e ∙ (rw z (same_self ys))))
+    go false e = differ xs ys (λ z. false≢true (sym e ∙ (rw z (same_self ys))))
 
 -- THE FIRST BYTES
 module _ (x y : ℕ) (xs ys : Bytes) where

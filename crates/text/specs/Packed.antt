@@ -5,6 +5,7 @@ use Rattle.std.proofs.Math.Path.{refl, sym}
 use Rattle.std.proofs.Common.{ap, ◌∙◌, drop_of_length-le}
 use Rattle.std.proofs.Math.ListN.{length, get_or, take, drop}
 use Rattle.std.proofs.lemmas.List.{take_all, take_at, take-take, get_or-take, get_or-append_right, length-append}
+use Rattle.std.proofs.lemmas.Bool.{false≢true}
 use borrow.Author.Tests.{eqb-true, eqb-false, ne_eqb, ltb-true, lt-ltb, le-ltb}
 use Rattle.rules.specs.Lists.{Bytes, same}
 use Rattle.text.specs.Bytes.{step}
@@ -38,9 +39,6 @@ pub record Packed (x : Bytes) (r : ℕ) : Type 0 where
   pub only : (w : Bytes) → is_word w ≡ true → eqb r (number w) ≡ same w x
 
 -- NUMBERS
-never : false ≡ true → ⊥
-never e = let z : ◌≡◌ {A = ℕ} 0 1 = cc in omega arith
-
 number-some : (xs : Bytes) → 0 < number xs
 unfolding number
 number-some [] = omega arith
@@ -52,7 +50,7 @@ bytes-first x xs e = go (ltb x 256) refl e
   where
     go : (b : Bool) → ltb x 256 ≡ b → elim b [ true ↦ are_bytes xs | false ↦ false ] ≡ true → (x < 256) × (are_bytes xs ≡ true)
     go true h s = (ltb-true x 256 h, s)
-    go false h s = absurd (never s)
+    go false h s = absurd (false≢true s)
 
 bytes-more : (x : ℕ) (xs : Bytes) → x < 256 → are_bytes xs ≡ true → are_bytes (x ∷ xs) ≡ true
 unfolding are_bytes
@@ -90,7 +88,7 @@ word-is w e = go (are_bytes w) refl e
   where
     go : (b : Bool) → are_bytes w ≡ b → elim b [ true ↦ ltb (number w) bound | false ↦ false ] ≡ true → (are_bytes w ≡ true) × (number w < bound)
     go true h s = (h, ltb-true (number w) bound s)
-    go false h s = absurd (never s)
+    go false h s = absurd (false≢true s)
 
 -- THE LOOP FROM THE LAST BYTE TO THE FIRST
 -- the bytes from i on are packed
@@ -229,7 +227,7 @@ packed-find (w ∷ ws) x r h p = go (is_word w) refl h (λ s. packed-find ws x r
     go : (b : Bool) → is_word w ≡ b → elim b [ true ↦ are_words ws | false ↦ false ] ≡ true → (are_words ws ≡ true → find ws x ≡ find_number (numbers ws) r)
         → find (w ∷ ws) x ≡ find_number (number w ∷ numbers ws) r
     go true k s ih = at (same w x) refl (p.only w k) (ih s)
-    go false k s ih = absurd (never s)
+    go false k s ih = absurd (false≢true s)
 
 -- the keyword that a byte string is, by the number it is packed into
 pub packed-word : (words : Bytes) (ns : List ℕ) (x : Bytes) (r k : ℕ) → Keywords words ns → Packed x r → find_number ns r ≡ k → k ≡ find (words_of words) x

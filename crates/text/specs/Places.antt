@@ -19,6 +19,11 @@ unfoldable pub place_of : ℕ → ℕ → Option Place
 place_of a zero = None
 place_of a (suc n) = Some (record { address = a; length = suc n })
 
+-- as many bytes of it as there are
+unfoldable pub clipped_place : Bytes → Bytes → Option Place → Option Place
+clipped_place c q None = None
+clipped_place c q (Some p) = Some (record { address = p.address; length = length (bytes_at c q p.address p.length) })
+
 -- BYTES
 
 module _ (c q : Bytes) (a n : ℕ) where

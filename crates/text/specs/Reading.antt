@@ -196,3 +196,14 @@ field-word catalog c q a n h = rw (zero-add a, bytes c q a n h)
 field-word statement c q a n h =
     let e : most_bytes + a - most_bytes ≡ a = omega arith in
     rw (bytes-statement c q (most_bytes + a) n (omega arith), e)
+
+-- the same of the statement, by the fields' places
+module _ (t : Bytes) (p l c n : ℕ) (r : Line) (f : Fields t p r) where
+  pub with-one : r.count ≡ 2 → rest (place statement t p l c n) ≡ field most_bytes t (get_or r.starts 1 0) (get_or r.lens 1 0) ∷ []
+  unfolding field_of base_address
+  with-one = rest-one statement t p l c n r f
+
+  pub with-two : r.count ≡ 3
+      → rest (place statement t p l c n) ≡ field most_bytes t (get_or r.starts 1 0) (get_or r.lens 1 0) ∷ field most_bytes t (get_or r.starts 2 0) (get_or r.lens 2 0) ∷ []
+  unfolding field_of base_address
+  with-two = rest-two statement t p l c n r f

@@ -5,7 +5,7 @@ use lib.Ieee.{Float, nan, inf, fin, to_bits, fits, is_nan, binary64}
 use Rattle.rules.specs.Arithmetic.{float_of}
 use Rattle.rules.specs.BuildExpression.{is_null_or_nan}
 use Rattle.rules.specs.Schema as rule
-use Rattle.ints.proofs.Signed.{never}
+use Rattle.std.proofs.lemmas.Bool.{false≢true}
 
 pub back : (x : Float) → T (fits binary64 x) → float_of (to_bits binary64 x) ≡ x
 unfolding float_of
@@ -21,5 +21,5 @@ nan-bits n = sym (nan_bits_above binary64 n) ∙ nan_bits_is binary64 n
 pub only_nan : (x : Float) → is_nan x ≡ true → nan ≡ x
 unfolding is_nan
 only_nan nan e = refl
-only_nan (inf s) e = never e
-only_nan (fin s m d) e = never e
+only_nan (inf s) e = absurd (false≢true e)
+only_nan (fin s m d) e = absurd (false≢true e)

@@ -1,5 +1,5 @@
 -- Every value that an operator gives is held as it is: its bits, if it is a float, are those of its float.
-use Rattle.std.proofs.Common.{◌≡◌, ℕ, ◌^◌, Bool, true, false, ◌&&◌, ◌||◌, T, eqb, ltb, leb, ℤ, pos, negsuc, ◌+ℤ◌, ◌-ℤ◌, ◌*ℤ◌, neg_ℤ, nat_abs, sym, refl, ap, ◌∙◌, arith}
+use Rattle.std.proofs.Common.{◌≡◌, ◌^◌, Bool, true, false, ◌&&◌, ◌||◌, T, eqb, ltb, leb, ℤ, pos, negsuc, ◌+ℤ◌, ◌-ℤ◌, ◌*ℤ◌, neg_ℤ, nat_abs, sym, refl, ap, ◌∙◌, arith}
 use lib.Ieee as Ieee
 use lib.Ieee.Fits.{neg-fits, add-fits, sub-fits, mul-fits, div-fits, rem-fits, of_int-fits}
 use lib.Ieee.{Float, binary64, to_bits, fits}
@@ -159,10 +159,7 @@ unary-any sqrt (text s) = tt
 -- a worked-out value is held as it is
 given : (w : Worked) (u : Value) → Held w → w ≡ gives u → held u ≡ u
 given (gives v) u h e = let f : v ≡ u = cc in ap held (sym f) ∙ h ∙ f
-given (fails k) u h e = let z : ◌≡◌ {A = ℕ} 0 1 = cc in absurd (no z)
-  where
-    no : ◌≡◌ {A = ℕ} 0 1 → ⊥
-    no z = omega arith
+given (fails k) u h e = grind arith
 
 pub binary-gives : (o : Binary) (v w u : Value) → binary_of o v w ≡ gives u → held u ≡ u
 binary-gives o v w u e = given (binary_of o v w) u (binary-any o v w) e

@@ -20,7 +20,7 @@ value_of c q Va.Null = null
 value_of c q (Va.Bool b) = bool b
 value_of c q (Va.Int z) = int z
 value_of c q (Va.Float x) = float (Ieee.to_bits binary64 x)
-value_of c q (Va.Text a n) = text (word_at c q a n)
+value_of c q (Va.Text p) = text (word_at c q p.address p.length)
 
 unfoldable pub worked_of : Bytes → Bytes → Result Value Reason → Worked
 worked_of c q (Ok v) = gives (value_of c q v)

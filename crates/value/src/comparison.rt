@@ -15,7 +15,7 @@ use crate::Value;
 use numbers::refusals::Reason;
 use std::cmp::Ordering;
 use std::num::nearest_i64_to_f64;
-use text::places::{Place, Texts};
+use text::places::Texts;
 
 // How two values compare: their order, which a NaN has with no float; unknown where one is a null; or not at all.
 // An enum, as the rules have it: a Result of two Options is no plainer.
@@ -43,17 +43,7 @@ pub fn compare(texts: &Texts, a: Value, b: Value) -> Compared
             Compared::Ordered(x.partial_cmp(&y))
         }
         (Value::Float(x), Value::Float(y)) => Compared::Ordered(x.partial_cmp(&y)),
-        (Value::Text(s, n), Value::Text(t, m)) => {
-            let x = Place {
-                address: s,
-                length: n,
-            };
-            let y = Place {
-                address: t,
-                length: m,
-            };
-            Compared::Ordered(Some(texts.order_texts(x, y)))
-        }
+        (Value::Text(x), Value::Text(y)) => Compared::Ordered(Some(texts.order_texts(x, y))),
         _ => Compared::Incomparable,
     }
 }

@@ -9,12 +9,14 @@ pub mod logic;
 mod operands;
 pub mod operators;
 
-// A text is an address and a length (text::places).
+use text::places::Place;
+
+// A text is a place in either text.
 #[derive(Clone, Copy, Debug, PartialEq)]
 pub enum Value {
     Null,
     Bool(bool),
     Int(i64),
     Float(f64),
-    Text(u32, u32),
+    Text(Place),
 }

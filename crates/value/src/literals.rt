@@ -7,6 +7,7 @@ ghost use Rattle.value.specs.Values.{value_of, held};
 use crate::Value;
 use numbers::halves::joined;
 use numbers::literals::{Literal, LiteralKind};
+use text::places::Place;
 
 // A literal's value.
 #[tactic(auto, unfolding(numbers::specs::Literals::literal_of, numbers::specs::Values::is_one, crate::specs::Values::value_of, crate::specs::Values::held))]
@@ -19,6 +20,9 @@ pub fn literal(literal: Literal) -> Value
         LiteralKind::Bool => Value::Bool(literal.first == 1),
         LiteralKind::Int => Value::Int(ints::bits::from_bits(n)),
         LiteralKind::Float => Value::Float(crate::bits::from_bits(n)),
-        LiteralKind::Text => Value::Text(literal.first, literal.second),
+        LiteralKind::Text => Value::Text(Place {
+            address: literal.first,
+            length: literal.second,
+        }),
     }
 }

@@ -50,8 +50,8 @@ pub fn like(a: Value, b: Value) -> Result<Value, Reason>
     ensures { (c q : Bytes) → worked_of c q result ≡ plain_of ast.like (value_of c q a) (value_of c q b) }
 {
     match (a, b) {
-        (Value::Text(_, _), Value::Text(_, _)) => Err(Reason::NotWorkedOut),
-        (Value::Null | Value::Text(_, _), Value::Null | Value::Text(_, _)) => Ok(Value::Null),
+        (Value::Text(_), Value::Text(_)) => Err(Reason::NotWorkedOut),
+        (Value::Null | Value::Text(_), Value::Null | Value::Text(_)) => Ok(Value::Null),
         _ => Err(Reason::WrongOperand),
     }
 }

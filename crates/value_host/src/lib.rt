@@ -17,9 +17,6 @@ use numbers::refusals::Reason;
 use text::places::Texts;
 use value::{Value, comparison, literals, operators};
 
-// The number of a text's kind.
-const TEXT: u32 = LiteralKind::Text as u32;
-
 // Document 01's number of a refusal, or 0 and the value's kind and bits.
 #[repr(C)]
 #[derive(Clone, Copy, Debug, PartialEq, Eq)]
@@ -33,19 +30,19 @@ pub struct Answer {
 fn value_at(kind: u32, n: u64) -> Value
     ensures { (c q : Bytes) → value_of c q result ≡ held (value_by c q kind n) }
 {
-    let literal_kind = LiteralKind::of_number(kind);
-    if kind == TEXT {
-        return literals::literal(Literal {
-            kind: literal_kind,
+    let kind = LiteralKind::of_number(kind);
+    match kind {
+        LiteralKind::Text => literals::literal(Literal {
+            kind,
             first: high(n),
             second: low(n),
-        });
+        }),
+        _ => literals::literal(Literal {
+            kind,
+            first: low(n),
+            second: high(n),
+        }),
     }
-    literals::literal(Literal {
-        kind: literal_kind,
-        first: low(n),
-        second: high(n),
-    })
 }
 
 #[tactic(auto, unfolding(crate::specs::Numbers::kind_of, numbers::specs::Literals::kind_number, value::specs::Values::value_of))]
@@ -57,7 +54,7 @@ fn kind_of(v: Value) -> LiteralKind
         Value::Bool(_) => LiteralKind::Bool,
         Value::Int(_) => LiteralKind::Int,
         Value::Float(_) => LiteralKind::Float,
-        Value::Text(_, _) => LiteralKind::Text,
+        Value::Text(_) => LiteralKind::Text,
     }
 }
 
@@ -70,7 +67,7 @@ fn bits_of(v: Value) -> u64
         Value::Bool(b) => u64::from(b),
         Value::Int(x) => ints::bits::to_bits(x),
         Value::Float(x) => value::bits::to_bits(x),
-        Value::Text(a, _) => u64::from(a),
+        Value::Text(place) => u64::from(place.address),
     }
 }
 

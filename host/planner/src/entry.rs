@@ -108,7 +108,7 @@ pub fn planner_plan(catalog: &[u8], statement: &[u8], area: &mut [u32]) -> Outco
 mod linked {
     use super::Outcome;
 
-    // SAFETY of the declarations: they are those of crates/planner/src/lib.rt, a slice as a pointer and a length. The planning
+    // SAFETY of the declarations: they are those of crates/planner_c/src/lib.rt, a slice as a pointer and a length. The planning
     // entry takes all bytes and numbers, reads and writes no further than the slices, and keeps nothing.
     #[allow(unsafe_code)]
     unsafe extern "C" {

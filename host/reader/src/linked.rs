@@ -4,7 +4,7 @@ use texts::{Refusal, Text};
 
 use crate::{Answer, Kind, Read};
 
-/// How many numbers each slice has: the constants of crates/schema and crates/statement, which the library does not export.
+/// How many numbers each slice has: constants of crates/schema, crates/statement and crates/ast, which the library does not export.
 const TABLE_NUMBERS: usize = 16_545;
 const CELL_NUMBERS: usize = 6_144;
 const FROM_NUMBERS: usize = 248;

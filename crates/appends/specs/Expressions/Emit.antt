@@ -40,7 +40,7 @@ emitted-ok (ok b) n xs m e =
       next = ap (λ q. q.1) p;
       root = ap (λ q. pred q.1) p;
     }
-emitted-ok (refused w) n xs m e = absurd (let z : ◌≡◌ {A = ℕ} 0 1 = cc in omega arith)
+emitted-ok (refused w) n xs m e = grind arith
 
 pub emitted-refused : (r : Answer Built) (n : ℕ) (w : Refusal) → emitted n r ≡ refused w → r ≡ refused w
 unfolding emitted ◌>>=◌

@@ -64,7 +64,7 @@ option-ok s (some e) n xs o m h = go (emit s n e) refl h
           adds = adds_one n b.built xs m (b.cells ∙ ap (λ y. y.0) t) (b.next ∙ ap (λ y. y.2) t);
           number = ap some b.root ∙ ap (λ y. y.1) t;
         }
-    go (refused w) q g = absurd (let z : ◌≡◌ {A = ℕ} 0 1 = cc in omega arith)
+    go (refused w) q g = grind arith
 
 pub option-refused : (s : Scope) (e : Option Expr) (n : ℕ) (w : Refusal) → emit_option s n e ≡ refused w
     → build_option s e ≡ refused w

@@ -149,7 +149,7 @@ module _ {A B C : Type 0} (key : B → Built) (mark : B → ℕ → C) (f : A �
             numbers = ap (λ p. p.1) t;
             next = ap (λ p. p.2) t;
           }
-      go (refused w) q g = absurd (let z : ◌≡◌ {A = ℕ} 0 1 = cc in omega arith)
+      go (refused w) q g = grind arith
 
   pub each-refused : (as' : List A) (n : ℕ) (w : Refusal) → emit_each key mark f n as' ≡ refused w
       → each f as' ≡ refused w

@@ -1,6 +1,6 @@
 -- Lists joined: their answers, cells and counts stand one behind the other.
 use Rattle.std.specs.Prelude.{ℕ, ◌+◌, ◌≡◌, refl, List, [], ◌∷◌, ◌++◌, map}
-use Rattle.std.proofs.Common.{arith, add_assoc, add-zero, sym, ap, append_assoc}
+use Rattle.std.proofs.Common.{arith, add_assoc, add-zero, sym, append_assoc}
 use Rattle.rules.specs.Refusals.{Answer, ok, refused, ◌>>=◌}
 use Rattle.rules.specs.Plan.{Built}
 use Rattle.rules.specs.Cells.{built_count, count_all, cells_all, number_first}
@@ -29,10 +29,6 @@ pub each_pure : {A B : Type 0} (f : A → B) (as' : List A) → each (λ a. ok (
 unfolding each ◌>>=◌
 each_pure f [] = refl
 each_pure f (a ∷ as') = rw (each_pure f as')
-
-pub map_same : {B : Type 0} (bs : List B) → map (λ b. b) bs ≡ bs
-map_same [] = refl
-map_same (b ∷ bs) = ap (λ r. b ∷ r) (map_same bs)
 
 pub count-append : (xs ys : List Built) → count_all (xs ++ ys) ≡ count_all xs + count_all ys
 unfolding count_all

@@ -2,13 +2,13 @@
 use Rattle.std.specs.Prelude.{ℕ, ◌+◌, ◌≡◌, refl, List, [], ◌∷◌, map}
 use Rattle.std.proofs.Math.Path.{sym}
 use Rattle.std.proofs.Common.{ap, ◌∙◌}
+use Rattle.std.proofs.lemmas.List.{map-id}
 use Rattle.rules.specs.Refusals.{Refusal, Answer, ok, refused}
 use Rattle.rules.specs.Ast.{Expr}
 use Rattle.rules.specs.Plan.{Built}
 use Rattle.rules.specs.Cells.{Cell, built_count, root, count_all, cells_all, roots, number_first, number_second}
 use Rattle.rules.specs.Scope.{Scope}
 use Rattle.rules.specs.BuildExpression.{build, each}
-use Rattle.appends.specs.Lists.Joined.{map_same}
 use Rattle.appends.specs.Lists.Each.{Entries, numbered, emit_each, each-ok, each-refused}
 
 -- expressions over a scope
@@ -60,9 +60,9 @@ all-ok s es n xs ns m e =
     record {
       built = o.built;
       answer = o.answer;
-      cells = ap (cells_all n) (sym (map_same o.built)) ∙ o.cells;
+      cells = ap (cells_all n) (sym (map-id o.built)) ∙ o.cells;
       numbers = sym (numbered-roots o.built n) ∙ o.numbers;
-      next = ap (λ z. n + count_all z) (sym (map_same o.built)) ∙ o.next;
+      next = ap (λ z. n + count_all z) (sym (map-id o.built)) ∙ o.next;
     }
 
 pub all-refused : (s : Scope) (es : List Expr) (n : ℕ) (w : Refusal) → emit_all s n es ≡ refused w

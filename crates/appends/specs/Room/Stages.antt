@@ -21,7 +21,7 @@ use Rattle.rules.specs.Sizes.{total}
 use Rattle.rules.specs.Count.{argument_cost}
 use Rattle.claims.specs.Answers.{Ensures, then, past, weaken}
 use Rattle.claims.specs.Cases.{tested}
-use Rattle.claims.specs.Lists.{map-append}
+use Rattle.std.proofs.lemmas.List.{map-append}
 use Rattle.claims.specs.Count.Costs.{function-cost}
 use Rattle.appends.specs.Lists.Joined.{count-append}
 use Rattle.appends.specs.Room.Written.{written, written-whole}

@@ -11,7 +11,7 @@ use Rattle.rules.specs.Items.{starred_column, expand_stars, stars_expand, expand
 use Rattle.rules.specs.BuildSelect.{functions_of}
 use Rattle.rules.specs.Sizes.{total}
 use Rattle.claims.specs.Cases.{either_way}
-use Rattle.claims.specs.Lists.{map-append}
+use Rattle.std.proofs.lemmas.List.{map-append}
 
 -- HOW MANY
 mutual
@@ -49,10 +49,10 @@ unfolding collect as_star
 star-collects (star k) l h = refl
 star-collects (column k t n) l h = refl
 star-collects (literal k v) l h = refl
-star-collects (call k n as') l h = absurd (let z : ◌≡◌ {A = ℕ} 0 1 = cc in omega arith)
-star-collects (unary k o a) l h = absurd (let z : ◌≡◌ {A = ℕ} 0 1 = cc in omega arith)
-star-collects (binary k o a b) l h = absurd (let z : ◌≡◌ {A = ℕ} 0 1 = cc in omega arith)
-star-collects (is k a v) l h = absurd (let z : ◌≡◌ {A = ℕ} 0 1 = cc in omega arith)
+star-collects (call k n as') l h = grind arith
+star-collects (unary k o a) l h = grind arith
+star-collects (binary k o a b) l h = grind arith
+star-collects (is k a v) l h = grind arith
 
 starred-collects : (l : ℕ) (a : Label) → collect (starred_column l a).expr ≡ []
 unfolding collect starred_column

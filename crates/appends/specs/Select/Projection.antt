@@ -16,7 +16,7 @@ use Rattle.rules.specs.Scope.{Scope}
 use Rattle.rules.specs.Items.{is_lone}
 use Rattle.rules.specs.Hidden.{HiddenColumn, projected}
 use Rattle.rules.specs.BuildSelect.{item_built, hidden_built, project_items, build_projection}
-use Rattle.claims.specs.Lists.{map-append}
+use Rattle.std.proofs.lemmas.List.{map-append}
 use Rattle.appends.specs.Answers.{bind_ok, bind-refused, ok_same, at_most-passed, at_most-refused}
 use Rattle.appends.specs.Lists.Joined.{each_pure, first-append}
 use Rattle.appends.specs.Lists.Kinds.{emit_firsts, firsts-ok, firsts-refused}

@@ -121,4 +121,4 @@ module _ (c : Catalog) (d : Insert) where
                 lays = l;
                 area = insert-area (P.values vs) xs (values ns ∷ []) z 1 l t o;
               }
-          go (refused w) y h = absurd (let u : ◌≡◌ {A = ℕ} 0 1 = cc in omega arith)
+          go (refused w) y h = grind arith

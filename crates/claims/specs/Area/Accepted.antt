@@ -28,7 +28,7 @@ accepted n c q p = go (ltb n least_area) (ltb most_bytes (length c)) (ltb most_b
     stop r t = refused (record { reason = r; text = t; line = 0 })
 
     refusal : {r : Reason} {t : Text} {A : Type 0} → stop r t ≡ ok p → A
-    refusal e = absurd (let z : ◌≡◌ {A = ℕ} 0 1 = cc in omega arith)
+    refusal e = grind arith
 
     go : (i j k : Bool) → ltb n least_area ≡ i → ltb most_bytes (length c) ≡ j → ltb most_bytes (length q) ≡ k
         → elim i [
@@ -57,7 +57,7 @@ catalog-read c q p = go (read_catalog c) refl
     go : (m : Answer Catalog) → read_catalog c ≡ m → (m >>= λ ts. read_statement q >>= λ s. build_statement ts s) ≡ ok p
         → (ts : Catalog) × (read_catalog c ≡ ok ts)
     go (ok ts) e h = (ts, e)
-    go (refused r) e h = absurd (let z : ◌≡◌ {A = ℕ} 0 1 = cc in omega arith)
+    go (refused r) e h = grind arith
 
 -- Where the texts are read and neither they nor the area are refused, the entry answers what building the statement does.
 pub entry-built : (n : ℕ) (c q : Bytes) (ts : Catalog) (s : Statement) → least_area ≤ n → length c ≤ most_bytes → length q ≤ most_bytes

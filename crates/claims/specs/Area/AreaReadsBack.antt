@@ -86,7 +86,7 @@ table-reads c q ts t h s =
   where
     go : (o : Option Table) → map_option (named_by t.name) o ≡ some t
         → (found o >>= λ u. give (named_by t.name u)) s ≡ some (t, s)
-    go none e = absurd (let z : ◌≡◌ {A = ℕ} 0 1 = cc in omega arith)
+    go none e = grind arith
     go (some u) e = let k : named_by t.name u ≡ t = cc in rw k
 
 -- CELLS

@@ -144,7 +144,7 @@ own-reads c q ts (P.update t n xs) h = record {
 }
 
 -- numbering leaves the kind as it is
-code-kept : (p : Plan Built) → plan_code (number_plan p) ≡ plan_code p
+pub code-kept : (p : Plan Built) → plan_code (number_plan p) ≡ plan_code p
 unfolding plan_code number_plan
 code-kept (P.select n) = refl
 code-kept (P.create n k cs) = refl

@@ -43,7 +43,7 @@ kind-reads es k m s e h = step (code_here es) _ _ (code_reads es k m s e) h
 decoded-first : {A B : Type 0} (g : A → B) (es : List (ℕ × A)) (more : List (ℕ × B)) (k : ℕ) (a : A)
     → decoded es k ≡ some a → decoded (map_second g es ++ more) k ≡ some (g a)
 unfolding decoded map_second
-decoded-first g [] more k a e = absurd (let z : ◌≡◌ {A = ℕ} 0 1 = cc in omega arith)
+decoded-first g [] more k a e = grind arith
 decoded-first {A} {B} g (x ∷ es) more k a e = go (eqb x.0 k) (λ h. decoded-first g es more k a h) e
   where
     go : (b : Bool) → (decoded es k ≡ some a → decoded (map_second g es ++ more) k ≡ some (g a))
@@ -57,12 +57,12 @@ pub kind-first : {A B : Type 0} (f : A → B) (es : List (ℕ × Reading A)) (mo
     (a : A)
     → kind_here es s ≡ some (a, t) → kind_here (map_second (giving f) es ++ more) s ≡ some (f a, t)
 unfolding kind_here code_here number found ◌>>=◌
-kind-first f es more [] t a = λ e. absurd (let z : ◌≡◌ {A = ℕ} 0 1 = cc in omega arith)
+kind-first f es more [] t a = λ e. grind arith
 kind-first {A} f es more (k ∷ s) t a = go (decoded es k) refl
   where
     go : (o : Option (Reading A)) → decoded es k ≡ o → (found o >>= λ m. m) s ≡ some (a, t)
         → kind_here (map_second (giving f) es ++ more) (k ∷ s) ≡ some (f a, t)
-    go none d h = absurd (let z : ◌≡◌ {A = ℕ} 0 1 = cc in omega arith)
+    go none d h = grind arith
     go (some m) d h = kind-reads _ k (giving f m) s (decoded-first (giving f) es more k m d) (giving-reads f m h)
 
 pub position-reads : (a : List ℕ) (n : ℕ) (s : List ℕ) → n + length s ≡ length a → position a n s ≡ some (tt, s)

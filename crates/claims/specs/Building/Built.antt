@@ -1,9 +1,8 @@
 -- What each step of resolving an expression keeps, an accepted one has; and so an aggregate's argument.
 use Rattle.std.specs.Prelude.{ℕ, ◌≡◌, Bool, ◌&&◌, not}
 use Rattle.std.proofs.Math.Path.{refl}
-use Rattle.std.proofs.Common.{sym}
 use Rattle.std.proofs.Math.Bool.{true, false}
-use Rattle.std.proofs.lemmas.Bool.{false≢true}
+use Rattle.std.proofs.lemmas.Bool.{not-false}
 use Rattle.std.proofs.Math.Option.{Option, none, some}
 use Rattle.rules.specs.Refusals.{Answer, ok, ◌>>=◌, refuse, unsupported_star, unknown_function, invalid_is, argument_count, nested_aggregate}
 use Rattle.rules.specs.Lists.{same, named, is_some}
@@ -35,11 +34,6 @@ unfolding found
 when-found l (at i) = refl
 when-found l (missing r) = refusing r l _
 
--- a test that is not false is true
-was-true : (b : Bool) → not b ≡ false → b ≡ true
-was-true true e = refl
-was-true false e = absurd (false≢true (sym e))
-
 module _ {s : Scope} {R : Expr → Built → Type 0} (k : Steps s R) where
   picked : (e : Expr) (m : Answer Built) → (matched s e ≡ none → Ensures m (R e)) → Ensures (or_matched s e m) (R e)
   unfolding or_matched pick_matched
@@ -59,13 +53,13 @@ module _ {s : Scope} {R : Expr → Built → Type 0} (k : Steps s R) where
         then (found l (lookup s q n)) _ _ _ (when-found l (lookup s q n)) λ i e. k.columns l q n i u e
     build-by (literal l v) = picked (literal l v) _ λ u. k.literals l v u
     build-by (call l n as') = picked (call l n as') _ λ u.
-        guarded (not (same n.bytes (bytes "sqrt"))) unknown_function l _ _ λ e. root_by l n as' u (was-true _ e)
+        guarded (not (same n.bytes (bytes "sqrt"))) unknown_function l _ _ λ e. root_by l n as' u (not-false _ e)
     build-by (unary l o a) = picked (unary l o a) _ λ u. then (build s a) _ _ _ (build-by a) λ x g. k.unaries l o a x u g
     build-by (binary l o a b) = picked (binary l o a b) _ λ u.
         then (build s a) _ _ _ (build-by a) λ x g. then (build s b) _ _ _ (build-by b) λ y h. k.binaries l o a b x y u g h
     build-by (is l a v) = picked (is l a v) _ λ u.
         then (build s a) _ _ _ (build-by a) λ x g.
-        guarded (not (is_null_or_nan v)) invalid_is l _ _ λ e. k.tests l a v x u (was-true _ e) g
+        guarded (not (is_null_or_nan v)) invalid_is l _ _ λ e. k.tests l a v x u (not-false _ e) g
 
     root_by : (l : ℕ) (n : Word) (as' : Exprs) → matched s (call l n as') ≡ none → same n.bytes (bytes "sqrt") ≡ true
         → Ensures (build_argument s l as' >>= λ x. ok (P.unary Ast.sqrt x)) (R (call l n as'))

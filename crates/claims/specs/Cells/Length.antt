@@ -21,7 +21,7 @@ count-positive (P.unary o a) = omega arith
 count-positive (P.binary o a b) = omega (arith, added-positive o)
 count-positive (P.is a v) = omega arith
 
-operator-length : (o : Binary) (n x y : ℕ) → length (operator o n x y) ≡ added o
+pub operator-length : (o : Binary) (n x y : ℕ) → length (operator o n x y) ≡ added o
 unfolding operator added
 operator-length (plain o) n x y = refl
 operator-length ge n x y = refl

@@ -1,7 +1,7 @@
 -- With the arguments of the aggregates in it, an accepted expression has at most three cells for each of its expression cells.
-use Rattle.std.specs.Prelude.{ℕ, suc, ◌+◌, ◌*◌, ◌≤◌, ◌≡◌, refl, Bool, true, false, List, [], ◌∷◌, eqb, T}
-use Rattle.std.proofs.Common.{arith, ap, ◌∙◌, eqb→eq}
-use Rattle.rules.specs.Lists.{Bytes, same, named, is_some}
+use Rattle.std.specs.Prelude.{ℕ, suc, ◌+◌, ◌*◌, ◌≤◌, ◌≡◌, refl, Bool, true, false, List, [], ◌∷◌}
+use Rattle.std.proofs.Common.{arith, ap, ◌∙◌}
+use Rattle.rules.specs.Lists.{same, named, is_some}
 use Rattle.rules.specs.Lines.{Word, bytes}
 use Rattle.rules.specs.Ast.{Expr, star, column, literal, call, unary, binary, is, Exprs, nil, cons, size, size_all}
 use Rattle.rules.specs.Views.{as_call}
@@ -10,6 +10,7 @@ use Rattle.rules.specs.BuildExpression.{build}
 use Rattle.rules.specs.BuildAggregate.{aggregates, is_aggregate, collect, collect_all, collect_each}
 use Rattle.rules.specs.Sizes.{total}
 use Rattle.rules.specs.Count.{pick_cost, cost, cost_first, argument_cost}
+use Rattle.numbers.specs.Same.{same_true}
 use Rattle.claims.specs.Answers.{Ensures}
 use Rattle.claims.specs.Cases.{either_way}
 use Rattle.claims.specs.Count.Totals.{total-append}
@@ -46,27 +47,16 @@ mutual
   all-arguments-most s (cons a as') = omega (arith, arguments-most s a, all-arguments-most s as', total-append (argument_cost s) (collect a) (collect_all as'))
 
 -- A FUNCTION THAT IS NO AGGREGATE
-same-eq : (xs ys : Bytes) → same xs ys ≡ true → xs ≡ ys
-unfolding same
-same-eq [] [] h = refl
-same-eq [] (y ∷ ys) h = absurd (let z : ◌≡◌ {A = ℕ} 0 1 = cc in omega arith)
-same-eq (x ∷ xs) [] h = absurd (let z : ◌≡◌ {A = ℕ} 0 1 = cc in omega arith)
-same-eq (x ∷ xs) (y ∷ ys) h = go (eqb x y) (eqb→eq x y) (λ g. same-eq xs ys g) h
-  where
-    go : (b : Bool) → (T b → x ≡ y) → (same xs ys ≡ true → xs ≡ ys) → (elim b [ true ↦ same xs ys | false ↦ false ]) ≡ true → x ∷ xs ≡ y ∷ ys
-    go true k r g = rw (k tt, r g)
-    go false k r g = absurd (let z : ◌≡◌ {A = ℕ} 0 1 = cc in omega arith)
-
 sqrt-plain : is_aggregate (bytes "sqrt") ≡ false
 unfolding is_aggregate aggregates named same bytes is_some
 sqrt-plain = refl
 
 pub collect-sqrt : (l : ℕ) (n : Word) (as' : Exprs) → same n.bytes (bytes "sqrt") ≡ true → collect (call l n as') ≡ collect_all as'
 unfolding collect
-collect-sqrt l n as' h = go (is_aggregate n.bytes) (ap is_aggregate (same-eq n.bytes (bytes "sqrt") h) ∙ sqrt-plain)
+collect-sqrt l n as' h = go (is_aggregate n.bytes) (ap is_aggregate (same_true n.bytes (bytes "sqrt") h) ∙ sqrt-plain)
   where
     go : (b : Bool) → b ≡ false → (elim b [ true ↦ call l n as' ∷ [] | false ↦ collect_all as' ]) ≡ collect_all as'
-    go true q = absurd (let z : ◌≡◌ {A = ℕ} 0 1 = cc in omega arith)
+    go true q = grind arith
     go false q = refl
 
 -- THE EXPRESSION AND THE ARGUMENTS

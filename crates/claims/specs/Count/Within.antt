@@ -10,7 +10,7 @@ use Rattle.claims.specs.Answers.{Ensures, refusing}
 pub none_after : {A : Type 0} (n : ℕ) (as' : List A) → entry_after n as' ≡ none → length as' ≤ n
 unfolding entry_after
 none_after n [] h = omega arith
-none_after zero (a ∷ as') h = absurd (let z : ◌≡◌ {A = ℕ} 0 1 = cc in omega arith)
+none_after zero (a ∷ as') h = grind arith
 none_after (suc n) (a ∷ as') h = omega (arith, none_after n as' h)
 
 pub at-most : {A : Type 0} (n : ℕ) (f : A → ℕ) (as' : List A) → Ensures (at_most n f as') (λ u. length as' ≤ n)

@@ -33,7 +33,7 @@ use Rattle.claims.specs.Numbers32.Own.{own-small}
 
 -- HOW MANY
 -- a node takes as many numbers as it has nodes, at least
-nodes-room : (n : Node ℕ) → nodes n ≤ node_room n
+pub nodes-room : {E : Type 0} (n : Node E) → nodes n ≤ node_room n
 unfolding nodes node_room
 nodes-room (P.scan t a x) = omega arith
 nodes-room (P.values rs) = omega arith

@@ -32,7 +32,7 @@ unfolding map_option named_by Given
 table-limited ts h t = go (get_table ts t.name.bytes) (tables-limited ts t.name.bytes h)
   where
     go : (o : Option Table) → Given LimitedTable o → map_option (named_by t.name) o ≡ some t → LimitedTable t
-    go none g e = absurd (let z : ◌≡◌ {A = ℕ} 0 1 = cc in omega arith)
+    go none g e = grind arith
     go (some u) g e = let k : named_by t.name u ≡ t = cc in rw (← k) g
 
 -- WIDTHS

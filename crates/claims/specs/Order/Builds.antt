@@ -18,11 +18,6 @@ pub builds-none : Builds [] []
 unfolding Builds each
 builds-none = refl
 
--- an accepted answer goes on
-go_on : {A B : Type 0} (m : Answer A) (f : A → Answer B) (a : A) → m ≡ ok a → (m >>= f) ≡ f a
-unfolding ◌>>=◌
-go_on m f a e = rw e
-
 pub builds-one : (u : Use) (x : Built) → build_use u ≡ ok x → Builds (u ∷ []) (x ∷ [])
 unfolding Builds each ◌>>=◌
 builds-one u x e = rw e

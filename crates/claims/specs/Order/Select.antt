@@ -3,6 +3,8 @@ use Rattle.std.specs.Prelude.{ℕ, ◌-◌, ◌≡◌, refl, Bool, true, false, 
 use Rattle.std.proofs.Common.{ap, ◌∙◌}
 use mathlib.Core.List.{List, [], ◌∷◌, ◌++◌, map, append_assoc, append-nil}
 use Rattle.std.proofs.Math.Option.{Option, none, some}
+use Rattle.std.proofs.lemmas.List.{map-append}
+use Rattle.std.proofs.lemmas.Simd.{map-map}
 use Rattle.rules.specs.Refusals.{ok, ◌>>=◌, Reason, refuse_if, at_most, having_without_aggregate, invalid_offset, invalid_limit}
 use Rattle.rules.specs.Limits.{most_columns}
 use Rattle.rules.specs.Lists.{given, is_empty, map_option}
@@ -80,14 +82,6 @@ hidden-builds : (h : HiddenColumn) → build_use (through h.position) ≡ ok (hi
 unfolding build_use hidden_built
 hidden-builds h = refl
 
-map_both : {A B : Type 0} (f : A → B) (xs ys : List A) → map f (xs ++ ys) ≡ map f xs ++ map f ys
-map_both f [] ys = refl
-map_both f (x ∷ xs) ys = ap (λ r. f x ∷ r) (map_both f xs ys)
-
-map-twice : {A B C : Type 0} (f : B → C) (g : A → B) (xs : List A) → map f (map g xs) ≡ map (λ x. f (g x)) xs
-map-twice f g [] = refl
-map-twice f g (x ∷ xs) = ap (λ r. f (g x) ∷ r) (map-twice f g xs)
-
 items-laid : (s : Scope) (us : List Use) (f : Stage) (is' : List Item) (later : List Expr) → StageLaid s us f
     → Ensures (build_projection f is' later) (StageLaid (item_scope s is' later) (us ++ item_uses s is' later))
 unfolding build_projection project_items item_scope item_uses
@@ -108,7 +102,7 @@ items-laid s us f is' later h = rw (← h.scoped) (go (is_lone is'))
         past (at_most (most_columns - length is') (λ (c : HiddenColumn). c.line) cs) _ _ λ u.
         record {
           scoped = refl;
-          builds = unfold expressions in (rw (map_both, map-twice) (builds-append us _ _ _ h.builds (builds-append _ _ _ _ a
+          builds = unfold expressions in (rw (map-append, map-map) (builds-append us _ _ _ h.builds (builds-append _ _ _ _ a
               (all-builds (λ (c : HiddenColumn). through c.position) (λ c. (hidden_built c).0) hidden-builds cs))));
         }
 
@@ -150,7 +144,7 @@ remap-laid us n s h = go (remap_hidden s)
     go (some ts) = unfold expressions in h
 
 -- THE WHOLE
-items-known : (q : Select) (n : Node Built) → Ensures (build_items q n) (λ is'. is' ≡ expanded_items q (labels n))
+pub items-known : (q : Select) (n : Node Built) → Ensures (build_items q n) (λ is'. is' ≡ expanded_items q (labels n))
 unfolding build_items
 items-known q n =
     past (stars_have_columns (plain_star q.items) (column_count n)) _ _ λ u.

@@ -215,4 +215,4 @@ expression-cells t s = go (statement_records (start statement t)) (statement-cou
         let p : r.0 ≡ s = cc in
         let n : r.1.cells ≡ statement_size s = omega (arith, h, ap statement_size p) in
         ap (λ (k : ℕ). ok k) n
-    go (refused r) h e = absurd (let z : ◌≡◌ {A = ℕ} 0 1 = cc in omega arith)
+    go (refused r) h e = grind arith

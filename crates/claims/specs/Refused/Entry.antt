@@ -112,7 +112,7 @@ short-area n c q r e h = go ((entry-refusals n c q).refusal r e)
     never (other l) = refl
 
     limit : r.reason ≡ limit_passed → ⊥
-    limit p = let z : ◌≡◌ {A = ℕ} 0 1 = cc in omega arith
+    limit p = grind arith
 
     go : Cause n c q r → n < least_area
     go (short_of_area a p) = a

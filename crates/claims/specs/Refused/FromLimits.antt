@@ -86,7 +86,7 @@ merge-limit : {X : Type 0} (s : Scope) (f : Source) → (most_columns < width s 
 unfolding merge_into
 merge-limit s f k =
     first (other-if (shares s.tables f.scope.tables) duplicate_table f.line λ e.
-    let z : ◌≡◌ {A = ℕ} 0 1 = cc in omega arith) λ u e.
+    grind arith) λ u e.
     first (limit-if (ltb most_columns (width s + width f.scope)) f.line λ e₁.
     k (ltb-true most_columns _ e₁)) λ v e₂.
     accepted

@@ -16,7 +16,7 @@ use Rattle.rules.specs.Stage.{Stage}
 use Rattle.rules.specs.BuildFrom.{build_from_clause}
 use Rattle.rules.specs.BuildAggregate.{build_function, retain_groups, retain_functions, build_aggregate, aggregated}
 use Rattle.rules.specs.BuildAggregate.{build_groups}
-use Rattle.rules.specs.Items.{plain_star, is_lone, expanded_items, stars_have_columns, build_items}
+use Rattle.rules.specs.Items.{plain_star, is_lone, expanded_items, build_items}
 use Rattle.rules.specs.Hidden.{HiddenColumn, projected}
 use Rattle.rules.specs.BuildSelect.{build_where, later_of, functions_of, item_built, project_items, build_projection}
 use Rattle.rules.specs.BuildSelect.{build_select}
@@ -24,6 +24,7 @@ use Rattle.rules.specs.Order.{from_scope, group_scope, reads_of}
 use Rattle.claims.specs.Answers.{Ensures, ensured, past}
 use Rattle.claims.specs.Widths.Labels.{from-labels}
 use Rattle.claims.specs.Order.From.{from_clause-laid}
+use Rattle.claims.specs.Order.Select.{items-known}
 use Rattle.claims.specs.Refused.Refuses.{Refuses, accepted, first, each-refuses, if-refuses}
 use Rattle.claims.specs.Refused.Expressions.{build-any}
 use Rattle.claims.specs.Refused.Select.{where-among, stars-among, function-among, having-among, order-among}
@@ -45,11 +46,6 @@ pub data Passed (c : Catalog) (q : Select) : Type 0 where
 
 -- SELECT
 -- what each stage gives
-items-are : (q : Select) (n : Node Built) → Ensures (build_items q n) (λ is'. is' ≡ expanded_items q (labels n))
-unfolding build_items
-items-are q n = past (stars_have_columns (plain_star q.items) (column_count n)) _ _ λ u.
-    past (at_most most_columns (λ (i : Item). i.line) (expanded_items q (labels n))) _ _ λ v. refl
-
 where-scope : (f : Stage) (c : Option Clause) → Ensures (build_where f c) (λ w. w.scope ≡ f.scope)
 unfolding build_where
 where-scope f c = past (build_option f.scope (clause_expr c)) _ _ λ x. refl
@@ -112,7 +108,7 @@ module _ (c : Catalog) (q : Select) where
       ensured (build_from_clause c q.from) _ (from-labels c q.from) f e in
       let m : expanded_items q (labels f.node) ≡ (reads_of c q).items = rw (l, s) refl in
       first (items-limit f.node m) λ is' e₁.
-      let i : is' ≡ (reads_of c q).items = ensured (build_items q f.node) _ (items-are q f.node) is' e₁ ∙ m in
+      let i : is' ≡ (reads_of c q).items = ensured (build_items q f.node) _ (items-known q f.node) is' e₁ ∙ m in
       first (no-limit refl (where-among f q.filter)) λ w e₂.
       let t : w.scope ≡ (reads_of c q).from =
       ensured (build_where f q.filter) _ (where-scope f q.filter) w e₂ ∙ s in

@@ -14,7 +14,7 @@ pub record Refuses {A : Type 0} (m : Answer A) (R : Refusal → Type 0) : Type 0
 
 -- ALONG A DO-BLOCK
 pub accepted : {A : Type 0} {a : A} {R : Refusal → Type 0} → Refuses (ok a) R
-accepted = record { refusal = λ r e. absurd (let z : ◌≡◌ {A = ℕ} 0 1 = cc in omega arith) }
+accepted = record { refusal = λ r e. grind arith }
 
 pub refused-with : {A : Type 0} {t : Refusal} {R : Refusal → Type 0} → R t → Refuses {A = A} (refused t) R
 refused-with {A} {t} {R} h = record { refusal = λ r e. let q : t ≡ r = cc in rw (← q) h }

@@ -85,37 +85,37 @@ node_room (P.limit n k) = node_room n + 5
 node_room (P.remap n ts) = node_room n + 3 + length ts
 
 -- LENGTHS OF NUMBERS
-alias-size : (a : Option Word) → length (option_span a) ≡ 2
+pub alias-size : (a : Option Word) → length (option_span a) ≡ 2
 unfolding option_span span
 alias-size none = refl
 alias-size (some w) = refl
 
-rows-size : (rs : List (List ℕ)) → length (row_numbers rs) ≡ rows_room rs
+pub rows-size : (rs : List (List ℕ)) → length (row_numbers rs) ≡ rows_room rs
 unfolding row_numbers rows_room
 rows-size [] = refl
 rows-size (r ∷ rs) = simp length-append (omega (arith, rows-size rs))
 
-functions-size : (fs : List (Aggregate × ℕ)) → length (function_numbers fs) ≡ 2 * length fs
+pub functions-size : (fs : List (Aggregate × ℕ)) → length (function_numbers fs) ≡ 2 * length fs
 unfolding function_numbers
 functions-size [] = refl
 functions-size (f ∷ fs) = omega (arith, functions-size fs)
 
-items-size : (xs : List (ℕ × Option Word)) → length (item_numbers xs) ≡ 3 * length xs
+pub items-size : (xs : List (ℕ × Option Word)) → length (item_numbers xs) ≡ 3 * length xs
 unfolding item_numbers
 items-size [] = refl
 items-size (x ∷ xs) = simp length-append (omega (arith, alias-size x.1, items-size xs))
 
-keys-size : (xs : List (ℕ × Bool)) → length (key_numbers xs) ≡ 2 * length xs
+pub keys-size : (xs : List (ℕ × Bool)) → length (key_numbers xs) ≡ 2 * length xs
 unfolding key_numbers
 keys-size [] = refl
 keys-size (x ∷ xs) = omega (arith, keys-size xs)
 
-sets-size : (xs : List (ℕ × ℕ)) → length (set_numbers xs) ≡ 2 * length xs
+pub sets-size : (xs : List (ℕ × ℕ)) → length (set_numbers xs) ≡ 2 * length xs
 unfolding set_numbers
 sets-size [] = refl
 sets-size (x ∷ xs) = omega (arith, sets-size xs)
 
-mapping-size : (m : Mapping) → length (mapping_numbers m) ≡ 2
+pub mapping-size : (m : Mapping) → length (mapping_numbers m) ≡ 2
 unfolding mapping_numbers
 mapping-size m = go m.column m.value
   where
@@ -138,7 +138,7 @@ is-size a (int n) = refl
 is-size a (float b) = refl
 is-size a (text w) = refl
 
-cell-size : (c : Cell) → length (cell_numbers c) ≡ 4
+pub cell-size : (c : Cell) → length (cell_numbers c) ≡ 4
 unfolding cell_numbers
 cell-size (constant v) = value-size v
 cell-size (column i) = refl
@@ -151,7 +151,7 @@ unfolding default_numbers
 default-size none = refl
 default-size (some v) = value-size v
 
-made-size : (c : Made) → length (made_numbers c) ≡ 12
+pub made-size : (c : Made) → length (made_numbers c) ≡ 12
 unfolding made_numbers span
 made-size c = simp length-append (omega (arith, alias-size c.reference, default-size c.default))
 
@@ -168,6 +168,9 @@ cells-room p = concat-size cell_numbers 4 cell-size (plan_cells p)
 
 pub made-room : (cs : List Made) → length (concat (map made_numbers cs)) ≡ 12 * length cs
 made-room cs = concat-size made_numbers 12 made-size cs
+
+pub mappings-room : (ms : List Mapping) → length (concat (map mapping_numbers ms)) ≡ 2 * length ms
+mappings-room ms = concat-size mapping_numbers 2 mapping-size ms
 
 -- RECORDS
 -- the numbers of some records
@@ -210,12 +213,12 @@ records-room (P.remap n ts) i =
     last-room (records i n) _ _ (3 + length ts) (records-room n i) (simp length-map (omega arith)) ∙ omega arith
 
 -- NUMBERING leaves every length as it is
-roots-size : (i : ℕ) (xs : List Built) → length (roots i xs) ≡ length xs
+pub roots-size : (i : ℕ) (xs : List Built) → length (roots i xs) ≡ length xs
 unfolding roots
 roots-size i [] = refl
 roots-size i (x ∷ xs) = ap suc (roots-size (i + built_count x) xs)
 
-first-size : {B : Type 0} (i : ℕ) (xs : List (Built × B)) → length (number_first i xs) ≡ length xs
+pub first-size : {B : Type 0} (i : ℕ) (xs : List (Built × B)) → length (number_first i xs) ≡ length xs
 unfolding number_first
 first-size i [] = refl
 first-size i (x ∷ xs) = ap suc (first-size (i + built_count x.0) xs)
@@ -282,7 +285,7 @@ own_room (P.drop n y) = 3
 map-size : (m : Option (List Mapping)) → length (map_numbers m) ≡ map_room m
 unfolding map_numbers map_room
 map-size none = refl
-map-size (some m) = omega (arith, concat-size mapping_numbers 2 mapping-size m)
+map-size (some m) = omega (arith, mappings-room m)
 
 own-part : (p : Plan Built) → length (own_numbers (number_plan p)) ≡ own_room p
 unfolding own_numbers number_plan own_room span

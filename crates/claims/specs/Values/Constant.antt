@@ -79,8 +79,8 @@ two l f a b {x} {y} h g = lineless-then (evaluate a) _ (λ v. y and_then λ w. f
 built-steps : Steps empty (λ e x. lineless (evaluate e) ≡ evaluate_built (desugar x))
 unfolding matched empty match_at lookup is_empty evaluate desugar evaluate_built unary_of
 built-steps = record {
-  matches = λ e i u. absurd (let z : ◌≡◌ {A = ℕ} 0 1 = cc in omega arith);
-  columns = λ l t n i u f. absurd (let z : ◌≡◌ {A = ℕ} 0 1 = cc in omega arith);
+  matches = λ e i u. grind arith;
+  columns = λ l t n i u f. grind arith;
   literals = λ l v u. unfold lineless in refl;
   roots = λ l n a x u e h. one l (λ v. root_of v) a h;
   unaries = λ l o a x u h. one l (λ v. unary_of o v) a h;

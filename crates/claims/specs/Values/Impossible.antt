@@ -50,8 +50,8 @@ is-outcome (text t) w e = absurd (false≢true e)
 refusal-steps : Steps empty (λ e x. Refuses (evaluate e) Valued)
 unfolding matched empty match_at evaluate lookup is_empty
 refusal-steps = record {
-  matches = λ e i u. absurd (let z : ◌≡◌ {A = ℕ} 0 1 = cc in omega arith);
-  columns = λ l q n i u f. absurd (let z : ◌≡◌ {A = ℕ} 0 1 = cc in omega arith);
+  matches = λ e i u. grind arith;
+  columns = λ l q n i u f. grind arith;
   literals = λ l v u. accepted;
   roots = λ l n a x u e h. first h λ v p. worked-refused l _ (root-outcome Any any-kept v);
   unaries = λ l o a x u h. first h λ v p. worked-refused l _ (unary-outcome Any any-kept o v tt);

@@ -96,7 +96,7 @@ rising-split n k i h =
     rw (rising-is n i, rising-is k i, rising-is (n - suc k) (i + k + 1), add-one)
     (ap (tabulate some i) e ∙ tabulate-append some k (suc (n - suc k)) i)
 
-length-rising : (n i : ℕ) → length (rising i n) ≡ n
+pub length-rising : (n i : ℕ) → length (rising i n) ≡ n
 length-rising n i = rw (rising-is n i) (length-tabulate some n i)
 
 -- a swap has a target for each of a + b columns

@@ -2,11 +2,14 @@
 use Rattle.entries.specs.HeadKinds.{head-missing, head-unfit, head-fit}
 use Rattle.entries.proofs.entry_head.Goals as goal
 
+pub fields_head-requires : goal.fields_head-requires
+fields_head-requires c = record { text = c.args.t.now; position = c.args.at.position; is = c.requires }
+
 pub returns-then-packed-keyword : goal.returns-then-packed-keyword
 returns-then-packed-keyword c = head-missing _ _ _ _ c.requires.fields c.args.kind (rw c.field.ensures at c.packed.ensures) c.keyword.ensures _ c.if-packed-keyword.true
 
 pub returns-in-Some : goal.returns-in-Some
-returns-in-Some c = head-fit _ _ _ _ c.requires.fields c.args.kind (rw c.field.ensures at c.packed.ensures) c.keyword.ensures _ _ c.if-packed-keyword.false c.in-Some.ensures
+returns-in-Some c = head-fit _ _ _ _ c.requires.fields c.args.kind (rw c.field.ensures at c.packed.ensures) c.keyword.ensures _ _ c.if-packed-keyword.false (c.in-Some.ensures _ c.requires)
 
 pub returns-in-None : goal.returns-in-None
-returns-in-None c = rw c.at.ensures (head-unfit _ _ _ _ c.requires.fields c.args.kind (rw c.field.ensures at c.packed.ensures) c.keyword.ensures _ c.if-packed-keyword.false c.in-None.ensures)
+returns-in-None c = rw c.at.ensures (head-unfit _ _ _ _ c.requires.fields c.args.kind (rw c.field.ensures at c.packed.ensures) c.keyword.ensures _ c.if-packed-keyword.false (c.in-None.ensures _ c.requires))

@@ -6,13 +6,13 @@ use Rattle.entries.specs.HeadRecords.{field_at, item-plain, item-named, item-no}
 use Rattle.entries.proofs.item.Goals as goal
 
 pub returns-then-f-eq1 : goal.returns-then-f-eq1
-returns-then-f-eq1 c = item-plain _ _ _ c.requires _ c.if-f-eq1.true (ap Some c.plain.ensures)
+returns-then-f-eq1 c = λ t p l. item-plain _ _ _ l _ c.if-f-eq1.true (ap Some c.plain.ensures)
 
 pub returns-then-f-ne2 : goal.returns-then-f-ne2
-returns-then-f-ne2 c = item-no _ _ _ c.requires _ c.if-f-eq1.false c.if-f-ne2.true refl
+returns-then-f-ne2 c = λ t p l. item-no _ _ _ l _ c.if-f-eq1.false c.if-f-ne2.true refl
 
 pub name_head-requires : goal.name_head-requires
-name_head-requires c = record { fact_1 = field_at _ _ _ c.requires 1 (omega (arith, c.if-f-ne2.false)); fact_2 = omega arith }
+name_head-requires c = record { place = let i = field_at _ _ _ c.requires.is 1 (omega (arith, c.if-f-ne2.false)) in (omega (arith, i.short, i.inside), omega (arith, i.short, i.inside)); few = omega arith }
 
 pub returns : goal.returns
-returns c = item-named _ _ _ c.requires _ c.if-f-ne2.false c.name_head.ensures
+returns c = λ t p l. item-named _ _ _ l _ c.if-f-ne2.false (c.name_head.ensures _ (field_at _ _ _ l 1 (omega arith)))

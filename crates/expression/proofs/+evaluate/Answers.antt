@@ -6,7 +6,8 @@ use borrow.Author.Tests.{eqb-false}
 use Rattle.ast.specs.Operands.{operands-inside}
 use Rattle.ast.specs.Row.{number_of}
 use Rattle.ast.specs.declared.row.Kind.TheVariants as K
-use Rattle.ast.proofs.KindNumbers.{same-kinds, one-kind, not-true}
+use Rattle.std.proofs.lemmas.Bool.{not-true}
+use Rattle.ast.proofs.KindNumbers.{same-kinds, one-kind}
 use Rattle.expression.proofs.Rows.{by_row, left, right, left-refused, right-refused, taken}
 use Rattle.expression.proofs.+evaluate.Goals as goal
 
@@ -23,9 +24,9 @@ pub returns-in_err-a : goal.returns-in_err-a
 returns-in_err-a t c = let p = err_from_is_err_and c.from_residual.result c.from_residual.ensures.1 in
     rw (p.1, p.2) (left-refused _ _ _ _ _ _ refl (λ e. c.if-operands-eq0.false (c.operands.ensures ∙ e)) (taken _ _ _ _ _ c.in_err-a.was c.evaluate.ensures))
 
-pub first_operand-requires-clause-fact_2 : goal.first_operand-requires-clause-fact_2
+pub first_operand-requires-clause-not_binary : goal.first_operand-requires-clause-not_binary
 unfolding number_of
-first_operand-requires-clause-fact_2 t c = eqb-false _ _ (sym (same-kinds _ K.Binary c.kind_of.ensures refl) ∙ not-true _ (sym c.ne.ensures ∙ c.if-ne.true))
+first_operand-requires-clause-not_binary t c = eqb-false _ _ (sym (same-kinds _ K.Binary c.kind_of.ensures refl) ∙ not-true _ (sym c.ne.ensures ∙ c.if-ne.true))
 
 pub returns-then-ne : goal.returns-then-ne
 returns-then-ne t c =

@@ -5,5 +5,5 @@ use Rattle.expression.proofs.both_operands.Goals as goal
 
 pub returns : goal.returns
 unfolding answered
-returns c = λ f h k. binary-row f _ _ _ _ _ _ _ c.at.ensures h _ k _ _ c.requires c.binary_operator-operator.ensures
+returns c = λ f h k. binary-row f _ _ _ _ _ _ _ c.line.ensures h _ k _ _ c.requires c.binary_operator-operator.ensures
     c.binary-w.ensures (c.worked_at.ensures _ _)

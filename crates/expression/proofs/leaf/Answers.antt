@@ -13,12 +13,12 @@ use Rattle.expression.proofs.leaf.Goals as goal
 pub returns-in-Column : goal.returns-in-Column
 unfolding answered reason_of map_answer refuse
 returns-in-Column c = λ f t q. rw (leaf-name f t q _ _ _ c.kind_of.ensures c.in-Column.is, c.at.ensures)
-    (ap (refuse constant_only) c.at-line.ensures)
+    (ap (refuse constant_only) c.line-line.ensures)
 
 pub returns-in-Call : goal.returns-in-Call
 unfolding answered reason_of evaluate evaluate_root map_answer refuse number_of
 returns-in-Call c = λ f t q. rw (tree-none f t q _ _ (kind_is c.kind_of.ensures c.in-Call.is) c.requires, c.at-in-Call.ensures)
-    (ap (refuse unknown_function) c.at-line.ensures)
+    (ap (refuse unknown_function) c.line-line.ensures)
 
 pub returns-in-Literal : goal.returns-in-Literal
 unfolding answered evaluate map_answer number_of
@@ -31,4 +31,4 @@ returns-in_default c = λ f t q. rw (
   leaf-star f t q _ _ c.kind_of.result c.kind_of.ensures c.requires (search) (search) (search) (search),
   c.at-in_default.ensures,
 )
-    (ap (refuse unsupported_star) c.at-line.ensures)
+    (ap (refuse unsupported_star) c.line-line.ensures)

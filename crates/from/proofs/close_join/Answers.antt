@@ -9,8 +9,8 @@ returns-in_err-end c = let p = err_from_is_err_and c.from_residual.result c.from
 
 pub returns-then-join : goal.returns-then-join
 unfolding option_number
-returns-then-join c = predicate-closed _ _ _ _ _ _ _ _ c.if-join.true _ _ _ c.in_ok-end.ensures c.requires.fact_2.1 _ c.sides-s.ensures c.put_join.ensures
+returns-then-join c = predicate-closed _ _ _ _ _ _ _ _ c.if-join.true _ _ _ c.in_ok-end.ensures c.requires.room.1 _ c.sides-s.ensures c.put_join.ensures
 
 pub returns : goal.returns
 unfolding option_number
-returns c = bare-closed _ _ _ _ _ _ _ _ c.if-join.false c.requires.fact_1 _ c.sides-s.ensures _ c.put_join-2.ensures
+returns c = bare-closed _ _ _ _ _ _ _ _ c.if-join.false c.requires.position _ c.sides-s.ensures _ c.put_join-2.ensures

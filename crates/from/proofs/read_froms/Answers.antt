@@ -6,7 +6,7 @@ use Rattle.from.specs.Runs.{froms-begin, froms-end, froms-stopped, froms-moved, 
 use Rattle.from.proofs.read_froms.Goals as goal
 
 pub loop-cells-init : goal.loop-cells-init
-loop-cells-init c = froms-begin c.requires.fact_1 c.requires.fact_2.0 c.requires.fact_2.1
+loop-cells-init c = froms-begin c.requires.position c.requires.room.0 c.requires.room.1
 
 pub loop-cells-smaller : goal.loop-cells-smaller
 loop-cells-smaller c = let m = froms-moved c.loop-cells.invariant (sym (c.from_stands.ensures _ _ _) ∙ c.loop-cells-test.true) _ _ _ c.in_ok-froms.ensures in omega (arith, m.0, m.1)

@@ -6,7 +6,7 @@ use Rattle.from.specs.Loop.{loop-begin}
 use Rattle.from.proofs.read_joins.Goals as goal
 
 pub loop-x-init : goal.loop-x-init
-loop-x-init c = (refl, loop-begin _ c.requires.fact_1 c.requires.fact_2)
+loop-x-init c = (refl, loop-begin _ c.requires.ready c.requires.stack_room)
 
 pub loop-x-smaller : goal.loop-x-smaller
 loop-x-smaller c = (turn_on _ _ _ _ _ _ (rw c.in-Some.is at (c.in_ok-x.ensures _ c.loop-x.invariant.1))).falls

@@ -6,6 +6,6 @@ use Rattle.plan_listing.proofs.list_plan.Goals as goal
 pub returns : goal.returns
 returns c = record {
   listed = rw (planned-shown c.args.texts.now.catalog.now c.args.texts.now.statement.now c.args.area.now (search rules)
-      c.planner_plan-outcome.ensures) at c.list_outcome.ensures;
-  area-is = c.planner_plan-outcome.ensures.area-is;
+      c.plan-planned.ensures) at c.list_outcome.ensures;
+  area-is = c.plan-planned.ensures.area-is;
 }

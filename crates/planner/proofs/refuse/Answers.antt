@@ -3,4 +3,4 @@ use Rattle.planner.specs.Outcomes.{refused-told}
 use Rattle.planner.proofs.refuse.Goals as goal
 
 pub returns : goal.returns
-returns c = refused-told _ c.from.ensures c.clear.ensures
+returns c = refused-told _ c.clear.ensures

@@ -15,7 +15,7 @@ listing-shown : (c q a : List ℕ) {area : List ℕ} {o : Outcome} → Answers (
 listing-shown c q a h l = planned-shown c q a l h
 
 pub print-printed-requires : goal.print-printed-requires
-print-printed-requires g c = listing-shown _ _ _ c.planner_plan-outcome.ensures (search rules)
+print-printed-requires g c = listing-shown _ _ _ c.plan-planned.ensures (search rules)
 
 pub returns-clause-shown : goal.returns-clause-shown
-returns-clause-shown g c = subst (Appends _ _) (fault-shown _ _ _ c.planner_plan-outcome.ensures (search rules)) (rw c.in_ok-context-2.ensures at c.show_record-shown.ensures)
+returns-clause-shown g c = subst (Appends _ _) (fault-shown _ _ _ c.plan-planned.ensures (search rules)) (rw c.in_ok-context-2.ensures at c.show_record-shown.ensures)

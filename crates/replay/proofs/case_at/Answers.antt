@@ -1,5 +1,5 @@
 -- `case_at`: by its record, and whether its listing is its answer.
-use Rattle.std.proofs.Common.{arith, ap, sym, ◌∙◌, length, length-take}
+use Rattle.std.proofs.Common.{arith, sym, ◌∙◌}
 use Rattle.replay.specs.Cases.{no_record, answer-long, case-fits, case-whole}
 use Rattle.replay.proofs.case_at.Goals as goal
 
@@ -17,9 +17,6 @@ overflow_add-answer c = let h = case-fits _ _ _ (sym c.record_at.ensures ∙ c.i
 
 pub overflow_add-result : goal.overflow_add-result
 overflow_add-result c = let h = case-fits _ _ _ (sym c.record_at.ensures ∙ c.in_ok-record.was) in omega arith
-
-pub agrees-agrees-requires : goal.agrees-agrees-requires
-agrees-agrees-requires c = omega (arith, simp length-take at (ap length c.part-3.ensures), c.if-record-ge-WINDOW.false)
 
 pub returns : goal.returns
 returns c = case-whole _ _ _ (sym c.record_at.ensures ∙ c.in_ok-record.was) c.if-record-ge-WINDOW.false c.agrees-agrees.ensures c.part.ensures

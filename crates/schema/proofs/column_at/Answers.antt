@@ -1,15 +1,15 @@
--- `column_at`: the columns from here on give what all of the table give.
-use Rattle.schema.specs.Search.{column-begin, column-hit, column-miss, column-end}
+-- `column_at`: the first column of the name.
+use Rattle.std.proofs.Common.{rules, tests}
+use Rattle.std.proofs.lemmas.Iterator.{first_from_Range}
+use Rattle.std.specs.Prelude.{◌≡◌, ◌+◌, true, false}
+use Rattle.rules.specs.Places.{bytes_at}
+use Rattle.schema.specs.Search.{column_named, column-first}
 use Rattle.schema.proofs.column_at.Goals as goal
 
-pub loop-j-init : goal.loop-j-init
-loop-j-init c = column-begin _ _ _ _ _ _ _ c.number-first.ensures c.number-count.ensures
-
-pub returns-then-same_bytes : goal.returns-then-same_bytes
-returns-then-same_bytes c = column-hit c.loop-j.invariant c.loop-j-test.true c.number.ensures c.number-in-loop-j.ensures c.same_bytes.ensures c.if-same_bytes.true
-
-pub loop-j-preserved : goal.loop-j-preserved
-loop-j-preserved c = column-miss c.loop-j.invariant c.loop-j-test.true c.number.ensures c.number-in-loop-j.ensures c.same_bytes.ensures c.if-same_bytes.false
-
 pub returns : goal.returns
-returns c = column-end c.loop-j.invariant c.loop-j-test.false
+unfolding column_named
+returns c = let named = column_named c.args.texts.now.catalog.now c.args.texts.now.statement.now c.args.tables.now
+    (bytes_at c.args.texts.now.catalog.now c.args.texts.now.statement.now c.args.name.address c.args.name.length) in
+    column-first _ _ _ _ _ _ _ c.number.ensures c.number-count.ensures _
+    (first_from_Range _ _ _ c.find.result (λ k. named (c.number.result + k) ≡ true) (λ k. named (c.number.result + k) ≡ false) c.find.ensures.ran
+    (λ x q k. search (rules, tests)) (λ x q k. search (rules, tests)))

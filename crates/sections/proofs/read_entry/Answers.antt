@@ -18,7 +18,7 @@ returns-then-most-run c = rw c.at.ensures (entry-limit c.requires c.args.run.las
 pub read_expressions-requires : goal.read_expressions-requires
 read_expressions-requires c =
     let next = entry_next c.requires c.args.run.last c.entry_head.ensures (c.in_ok-h.was ∙ ap Ok c.in-Some.is) (omega (arith, c.if-most-run.false, c.room_of-most.ensures.1)) c.fields-f.ensures.next in
-    record { fact_1 = rw c.behind.ensures next.0; fact_2 = next.1 }
+    record { position = rw c.behind.ensures next.0; room = next.1 }
 
 pub put_entry-requires : goal.put_entry-requires
 put_entry-requires c = entry-room c.requires (omega (arith, c.if-most-run.false, c.room_of-most.ensures.1)) c.entry_start-i.ensures.0

@@ -12,7 +12,7 @@ pub returns-in_default : goal.returns-in_default
 returns-in_default c = rw c.at-in_default.ensures (wrong_first _ c.in_default.ensures (omega (arith, c.if-statement.false)) _ _ _)
 
 pub read_behind-requires : goal.read_behind-requires
-read_behind-requires c = record { fact_1 = rw c.first_fields-line.ensures.next (second-line _ _ c.in-Some.ensures (omega (arith, c.if-statement.false))); fact_2 = record { rows = search rules; from-rows = search rules; numbers = search rules } }
+read_behind-requires c = record { position = rw c.first_fields-line.ensures.next (second-line _ _ c.in-Some.ensures (omega (arith, c.if-statement.false))); room = record { rows = search rules; from-rows = search rules; numbers = search rules } }
 
 pub returns-in_err-behind : goal.returns-in_err-behind
 returns-in_err-behind c = let p = err_from_is_err_and c.from_residual.result c.from_residual.ensures.1 in rw (p.1, p.2) (statement-refused _ _ c.in-Some.ensures (omega (arith, c.if-statement.false)) _ _ c.args.parts.now _ _ c.put_first.ensures (omega arith) _ c.first_fields-line.ensures.next _ c.in_err-behind.ensures)

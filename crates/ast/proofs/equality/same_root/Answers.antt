@@ -1,12 +1,13 @@
 -- `equality::same_root`, by the kind of the two rows.
 use native.Mathlib.Omega.{arith}
-use mathlib.Core.Path.{sym, ap, ◌∙◌}
+use mathlib.Core.Path.{sym, ◌∙◌}
 use mathlib.Core.Bool.{and-true, and-false}
 use mathlib.Core.Logic.{⊎_elim}
 use borrow.Author.Tests.{eqb-false, eq-eqb, ne_eqb}
 use Rattle.numbers.proofs.OperatorCodes.{same-unary, same-binary}
 use Rattle.ast.specs.Row.{number_of, row-literal}
-use Rattle.ast.proofs.KindNumbers.{same-kinds, one-kind, not-true}
+use Rattle.std.proofs.lemmas.Bool.{not-true}
+use Rattle.ast.proofs.KindNumbers.{same-kinds, both-kinds}
 use Rattle.ast.proofs.Roots.{roots-apart, roots-column, roots-qualified, roots-call, roots-unary, roots-binary, roots-is, roots-literal, roots-star}
 use Rattle.ast.proofs.equality.same_root.Goals as goal
 
@@ -15,23 +16,20 @@ returns-then-ne c = sym (roots-apart _ _ _ _ _ (eqb-false _ _ (sym (same-kinds _
 
 pub returns-in-Star : goal.returns-in-Star
 unfolding number_of
-returns-in-Star c = let h = one-kind _ _ c.kind_of-kind.ensures c.kind_of.ensures (sym c.ne.ensures ∙ c.if-ne.false) in
-    let k = sym c.kind_of-kind.ensures ∙ ap number_of c.in-Star.is in
-    sym (roots-star _ _ _ _ _ 1 k (sym h ∙ k)
+returns-in-Star c = let k = both-kinds _ _ c.kind_of-kind.ensures c.kind_of.ensures c.ne.ensures c.if-ne.false c.in-Star.is in
+    sym (roots-star _ _ _ _ _ 1 k.0 k.1
     (λ e. omega (arith, e)) (λ e. omega (arith, e)) (λ e. omega (arith, e)) (λ e. omega (arith, e)) (λ e. omega (arith, e)) (λ e. omega (arith, e)) (λ e. omega (arith, e)))
 
 pub returns-in-Column : goal.returns-in-Column
 unfolding number_of
-returns-in-Column c = let h = one-kind _ _ c.kind_of-kind.ensures c.kind_of.ensures (sym c.ne.ensures ∙ c.if-ne.false) in
-    let k = sym c.kind_of-kind.ensures ∙ ap number_of c.in-Column.is in
-    cc (roots-column _ _ _ _ _ k (sym h ∙ k))
+returns-in-Column c = let k = both-kinds _ _ c.kind_of-kind.ensures c.kind_of.ensures c.ne.ensures c.if-ne.false c.in-Column.is in
+    cc (roots-column _ _ _ _ _ k.0 k.1)
 
 pub returns-then-same_bytes : goal.returns-then-same_bytes
 unfolding number_of
-returns-then-same_bytes c = let h = one-kind _ _ c.kind_of-kind.ensures c.kind_of.ensures (sym c.ne.ensures ∙ c.if-ne.false) in
-    let k = sym c.kind_of-kind.ensures ∙ ap number_of c.in-Qualified.is in
+returns-then-same_bytes c = let k = both-kinds _ _ c.kind_of-kind.ensures c.kind_of.ensures c.ne.ensures c.if-ne.false c.in-Qualified.is in
     rw (
-      roots-qualified _ _ _ _ _ k (sym h ∙ k),
+      roots-qualified _ _ _ _ _ k.0 k.1,
       ← c.qualifier.ensures.address,
       ← c.qualifier.ensures.length,
       ← c.qualifier-in-Qualified.ensures.address,
@@ -42,10 +40,9 @@ returns-then-same_bytes c = let h = one-kind _ _ c.kind_of-kind.ensures c.kind_o
 
 pub returns-else-same_bytes : goal.returns-else-same_bytes
 unfolding number_of
-returns-else-same_bytes c = let h = one-kind _ _ c.kind_of-kind.ensures c.kind_of.ensures (sym c.ne.ensures ∙ c.if-ne.false) in
-    let k = sym c.kind_of-kind.ensures ∙ ap number_of c.in-Qualified.is in
+returns-else-same_bytes c = let k = both-kinds _ _ c.kind_of-kind.ensures c.kind_of.ensures c.ne.ensures c.if-ne.false c.in-Qualified.is in
     rw (
-      roots-qualified _ _ _ _ _ k (sym h ∙ k),
+      roots-qualified _ _ _ _ _ k.0 k.1,
       ← c.qualifier.ensures.address,
       ← c.qualifier.ensures.length,
       ← c.qualifier-in-Qualified.ensures.address,
@@ -56,30 +53,25 @@ returns-else-same_bytes c = let h = one-kind _ _ c.kind_of-kind.ensures c.kind_o
 
 pub returns-then-arguments : goal.returns-then-arguments
 unfolding number_of
-returns-then-arguments c = let h = one-kind _ _ c.kind_of-kind.ensures c.kind_of.ensures (sym c.ne.ensures ∙ c.if-ne.false) in
-    let k = sym c.kind_of-kind.ensures ∙ ap number_of c.in-Call.is in
-    rw (roots-call _ _ _ _ _ k (sym h ∙ k), ← c.arguments.ensures, ← c.arguments-in-Call.ensures, eq-eqb _ _ c.if-arguments.true, and-true) cc
+returns-then-arguments c = let k = both-kinds _ _ c.kind_of-kind.ensures c.kind_of.ensures c.ne.ensures c.if-ne.false c.in-Call.is in
+    rw (roots-call _ _ _ _ _ k.0 k.1, ← c.arguments.ensures, ← c.arguments-in-Call.ensures, eq-eqb _ _ c.if-arguments.true, and-true) cc
 
 pub returns-else-arguments : goal.returns-else-arguments
 unfolding number_of
-returns-else-arguments c = let h = one-kind _ _ c.kind_of-kind.ensures c.kind_of.ensures (sym c.ne.ensures ∙ c.if-ne.false) in
-    let k = sym c.kind_of-kind.ensures ∙ ap number_of c.in-Call.is in
-    rw (roots-call _ _ _ _ _ k (sym h ∙ k), ← c.arguments.ensures, ← c.arguments-in-Call.ensures, ne_eqb c.arguments.result c.arguments-in-Call.result c.if-arguments.false, and-false)
+returns-else-arguments c = let k = both-kinds _ _ c.kind_of-kind.ensures c.kind_of.ensures c.ne.ensures c.if-ne.false c.in-Call.is in
+    rw (roots-call _ _ _ _ _ k.0 k.1, ← c.arguments.ensures, ← c.arguments-in-Call.ensures, ne_eqb c.arguments.result c.arguments-in-Call.result c.if-arguments.false, and-false)
 
 pub returns-in-Unary : goal.returns-in-Unary
 unfolding number_of
-returns-in-Unary c = let h = one-kind _ _ c.kind_of-kind.ensures c.kind_of.ensures (sym c.ne.ensures ∙ c.if-ne.false) in
-    let k = sym c.kind_of-kind.ensures ∙ ap number_of c.in-Unary.is in
-    cc (roots-unary _ _ _ _ _ k (sym h ∙ k), same-unary c.unary_operator.result c.unary_operator-in-Unary.result)
+returns-in-Unary c = let k = both-kinds _ _ c.kind_of-kind.ensures c.kind_of.ensures c.ne.ensures c.if-ne.false c.in-Unary.is in
+    cc (roots-unary _ _ _ _ _ k.0 k.1, same-unary c.unary_operator.result c.unary_operator-in-Unary.result)
 
 pub returns-in-Binary : goal.returns-in-Binary
 unfolding number_of
-returns-in-Binary c = let h = one-kind _ _ c.kind_of-kind.ensures c.kind_of.ensures (sym c.ne.ensures ∙ c.if-ne.false) in
-    let k = sym c.kind_of-kind.ensures ∙ ap number_of c.in-Binary.is in
-    cc (roots-binary _ _ _ _ _ k (sym h ∙ k), same-binary c.binary_operator.result c.binary_operator-in-Binary.result)
+returns-in-Binary c = let k = both-kinds _ _ c.kind_of-kind.ensures c.kind_of.ensures c.ne.ensures c.if-ne.false c.in-Binary.is in
+    cc (roots-binary _ _ _ _ _ k.0 k.1, same-binary c.binary_operator.result c.binary_operator-in-Binary.result)
 
 pub returns-in-Is : goal.returns-in-Is
 unfolding number_of
-returns-in-Is c = let h = one-kind _ _ c.kind_of-kind.ensures c.kind_of.ensures (sym c.ne.ensures ∙ c.if-ne.false) in
-    ⊎_elim (λ e. let k = sym c.kind_of-kind.ensures ∙ ap number_of e in c.same_value.ensures ∙ rw (row-literal _ _ _ _ c.literal.ensures, row-literal _ _ _ _ c.literal-in-Is.ensures) (sym (roots-is _ _ _ _ _ k (sym h ∙ k))))
-    (λ e. let k = sym c.kind_of-kind.ensures ∙ ap number_of e in c.same_value.ensures ∙ rw (row-literal _ _ _ _ c.literal.ensures, row-literal _ _ _ _ c.literal-in-Is.ensures) (sym (roots-literal _ _ _ _ _ k (sym h ∙ k)))) c.in-Is.is
+returns-in-Is c = ⊎_elim (λ e. let k = both-kinds _ _ c.kind_of-kind.ensures c.kind_of.ensures c.ne.ensures c.if-ne.false e in c.same_value.ensures ∙ rw (row-literal _ _ _ _ c.literal.ensures, row-literal _ _ _ _ c.literal-in-Is.ensures) (sym (roots-is _ _ _ _ _ k.0 k.1)))
+    (λ e. let k = both-kinds _ _ c.kind_of-kind.ensures c.kind_of.ensures c.ne.ensures c.if-ne.false e in c.same_value.ensures ∙ rw (row-literal _ _ _ _ c.literal.ensures, row-literal _ _ _ _ c.literal-in-Is.ensures) (sym (roots-literal _ _ _ _ _ k.0 k.1))) c.in-Is.is

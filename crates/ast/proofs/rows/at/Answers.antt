@@ -12,9 +12,6 @@ returns-then-k-lt8 c = refl
 pub returns-then-table-r : goal.returns-then-table-r
 returns-then-table-r c = sym (outside _ _ _ (omega arith))
 
-pub returns-then-table-i : goal.returns-then-table-i
-returns-then-table-i c = sym (outside _ _ _ c.if-table-i.true)
-
 pub returns : goal.returns
 unfolding at
-returns c = refl
+returns c = c.number.ensures

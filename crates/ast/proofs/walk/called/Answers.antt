@@ -4,7 +4,8 @@ use borrow.Author.Tests.{eqb-false}
 use Rattle.ast.specs.Aggregates.{named_of}
 use Rattle.ast.specs.Row.{number_of}
 use Rattle.ast.specs.declared.row.Kind.TheVariants as K
-use Rattle.ast.proofs.KindNumbers.{same-kinds, one-kind, not-true}
+use Rattle.std.proofs.lemmas.Bool.{not-true}
+use Rattle.ast.proofs.KindNumbers.{same-kinds, one-kind}
 use Rattle.ast.specs.Called.{called-none, called-some}
 use Rattle.ast.proofs.walk.called.Goals as goal
 

@@ -10,7 +10,7 @@ pub push-requires : goal.push-requires
 push-requires c = row_room _ _ _ _ c.loop-i.invariant c.loop-i-test.true
 
 pub loop-i-preserved : goal.loop-i-preserved
-loop-i-preserved c = row_put _ _ _ _ c.loop-i.invariant c.loop-i-test.true c.entry_at.ensures c.first_row.ensures c.push.ensures
+loop-i-preserved c = row_put _ _ _ _ c.loop-i.invariant c.loop-i-test.true c.entry_at.ensures c.expr_row.ensures c.push.ensures
 
 pub returns : goal.returns
 returns c = rows_end _ _ _ _ c.loop-i.invariant c.loop-i-test.false

@@ -7,11 +7,11 @@ loop-k-init c = keys-begin c.requires
 
 pub visit_rows-requires : goal.visit_rows-requires
 visit_rows-requires c = keys-fits c.requires c.loop-k.invariant _ c.count-total.ensures c.loop-k-test.true
-    c.entry_at-e.ensures c.first_row.ensures
+    c.entry_at-e.ensures c.expr_row.ensures
 
 pub loop-k-preserved : goal.loop-k-preserved
 loop-k-preserved c = keys-more c.requires c.loop-k.invariant _ c.count-total.ensures c.loop-k-test.true
-    c.entry_at-e.ensures c.first_row.ensures
+    c.entry_at-e.ensures c.expr_row.ensures
     c.visit_rows.ensures
 
 pub returns : goal.returns

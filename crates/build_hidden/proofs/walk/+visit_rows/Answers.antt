@@ -22,9 +22,9 @@ returns-then-left-eq0 t c = visiting-end (visiting-begin _ _ _ c.push.ensures
 pub overflow_add-p : goal.overflow_add-p
 overflow_add-p t c = omega (arith, operands-inside _ _ (λ e. c.if-left-eq0.false (c.operands-left.ensures ∙ e)))
 
-pub loop-i-init : goal.loop-i-init
+pub loop-init : goal.loop-init
 unfolding number_of
-loop-i-init t c = (
+loop-init t c = (
   omega arith,
   operands-inside _ _ (λ e. c.if-left-eq0.false (c.operands-left.ensures ∙ e)),
   let z : c.operands-left.result - 0 ≡ c.operands-left.result = omega arith in
@@ -33,21 +33,21 @@ loop-i-init t c = (
 
 pub visit_rows-answer-requires : goal.visit_rows-answer-requires
 visit_rows-answer-requires t c = (
-  omega (arith, c, c.loop-i.invariant.0, c.loop-i.invariant.1),
-  visiting-fits c.loop-i.invariant.2 c.requires (omega (arith, c.loop-i-test.true)),
+  omega (arith, c, c.loop.invariant.0, c.loop.invariant.1),
+  visiting-fits c.loop.invariant.2 c.requires (omega (arith, c.loop-test.true)),
 )
 
 pub returns-then-answer-any : goal.returns-then-answer-any
-returns-then-answer-any t c = visiting-stop c.loop-i.invariant.2 (omega (arith, c.loop-i-test.true))
+returns-then-answer-any t c = visiting-stop c.loop.invariant.2 (omega (arith, c.loop-test.true))
     c.visit_rows-answer.ensures c.if-answer-any.true
 
-pub loop-i-preserved : goal.loop-i-preserved
-loop-i-preserved t c = let z : c.operands-left.result - (c.loop-i.i + 1) ≡ c.operands-left.result - c.loop-i.i - 1 = omega arith in rw (z, c.next-p.ensures) (
+pub loop-preserved : goal.loop-preserved
+loop-preserved t c = let z : c.operands-left.result - (c.loop.counter + 1) ≡ c.operands-left.result - c.loop.counter - 1 = omega arith in rw (z, c.next-p.ensures) (
   omega arith,
-  c.loop-i.invariant.1,
-  visiting-more c.loop-i.invariant.2 (omega (arith, c.loop-i-test.true))
+  c.loop.invariant.1,
+  visiting-more c.loop.invariant.2 (omega (arith, c.loop-test.true))
       c.visit_rows-answer.ensures c.if-answer-any.false,
 )
 
 pub returns : goal.returns
-returns t c = visiting-end c.loop-i.invariant.2 (omega (arith, c.loop-i-test.false))
+returns t c = visiting-end c.loop.invariant.2 (omega (arith, c.loop-test.false))

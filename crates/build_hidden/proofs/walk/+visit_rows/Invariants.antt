@@ -9,7 +9,7 @@ use Rattle.build_hidden.proofs.walk.+visit_rows.Given as goal
 abbrev pub decreases-visit_rows : goal.decreases-visit_rows
 decreases-visit_rows l = length l.table.now - l.r
 
-abbrev pub invariant-loop-i : goal.invariant-loop-i
-invariant-loop-i l =
+abbrev pub invariant-loop : goal.invariant-loop
+invariant-loop l =
     (l.r < l.p) × (row_size * l.r < length l.table)
-    × Visiting l.table l.r l.any l.fn.rows (l.left - l.i) l.p l.rows
+    × Visiting l.table l.r l.any l.fn.rows (l.left - l.counter) l.p l.rows

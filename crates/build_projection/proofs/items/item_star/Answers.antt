@@ -3,7 +3,7 @@ use Rattle.build_projection.specs.Items.{sought-is, sought-not}
 use Rattle.build_projection.proofs.items.item_star.Goals as goal
 
 pub returns-then-not-expand : goal.returns-then-not-expand
-returns-then-not-expand c = λ d q. sought-not _ c.if-not-expand.true _
+returns-then-not-expand c = λ ps k h d q. sought-not _ c.if-not-expand.true _
 
 pub returns : goal.returns
-returns c = sought-is _ _ _ _ c.entry_at-e.ensures _ _ c.first_row.ensures c.star_at.ensures _ c.if-not-expand.false
+returns c = λ ps k h. sought-is _ _ _ _ h _ _ c.expr_row.ensures c.star_at.ensures _ c.if-not-expand.false

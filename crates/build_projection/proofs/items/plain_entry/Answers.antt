@@ -6,4 +6,4 @@ pub returns-in-Some : goal.returns-in-Some
 returns-in-Some c = plain-aliased _ _ _ _ c.entry_at-e.ensures c.in-Some.is
 
 pub returns-in-None : goal.returns-in-None
-returns-in-None c = plain-free _ _ _ _ c.entry_at-e.ensures _ _ c.first_row.ensures c.star_at.ensures c.in-None.is
+returns-in-None c = plain-free _ _ _ _ c.entry_at-e.ensures _ _ c.expr_row.ensures c.star_at.ensures c.in-None.is

@@ -3,7 +3,8 @@ use mathlib.Core.Path.{refl}
 use Rattle.rules.specs.Refusals.{no_primary_key, multiple_primary_keys}
 use Rattle.numbers.specs.Reasons.{named}
 use Rattle.build_statement.specs.Ends.{not-planned}
-use Rattle.build_statement.specs.Columns.{no_key, second_key, one_key, plans-same}
+use Rattle.build_statement.specs.Plans.{plans-same}
+use Rattle.build_statement.specs.Columns.{no_key, second_key, one_key}
 use Rattle.build_statement.proofs.create.build_create_table.Goals as goal
 
 pub returns-in_default : goal.returns-in_default

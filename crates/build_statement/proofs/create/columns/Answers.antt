@@ -19,7 +19,7 @@ column-requires c = omega (
 
 pub returns-in_err-column : goal.returns-in_err-column
 returns-in_err-column c = rw (exit c.from_residual.result c.from_residual.ensures.1) (so-far-stop c.args.exprs.now.texts.catalog.now c.args.exprs.now.texts.statement.now c.args.exprs.now.table.now c.args.parts.now c.loop-i.invariant _
-    c.entry_at-e.ensures
+    c.entry_at-e.ensures _ c.new_column-new.ensures
     (omega (
       arith,
       c.loop-i-test.true,
@@ -29,7 +29,7 @@ returns-in_err-column c = rw (exit c.from_residual.result c.from_residual.ensure
 
 pub loop-i-preserved : goal.loop-i-preserved
 loop-i-preserved c = so-far-step c.args.exprs.now.texts.catalog.now c.args.exprs.now.texts.statement.now c.args.exprs.now.table.now c.args.parts.now c.loop-i.invariant _
-    c.entry_at-e.ensures
+    c.entry_at-e.ensures _ c.new_column-new.ensures
     (omega (
       arith,
       c.loop-i-test.true,

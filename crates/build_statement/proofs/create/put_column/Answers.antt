@@ -5,7 +5,7 @@ use Rattle.build_statement.proofs.create.put_column.Goals as goal
 
 pub returns : goal.returns
 unfolding made_of
-returns c = λ d. c.column.ensures (made_of c.args.texts.now.catalog.now c.args.texts.now.statement.now c.args.e c.args.nullable d)
+returns c = λ d. c.column.ensures (made_of c.args.texts.now.catalog.now c.args.texts.now.statement.now c.args.e c.args.new c.args.nullable d)
     (name-span c.args.texts.now.catalog.now c.args.texts.now.statement.now c.args.e c.name_or.ensures c.clipped-name.ensures.address c.clipped-name.ensures.length)
     refl refl (sym c.is_unique-unique.ensures) (sym (c.is_indexed-index.ensures c.args.texts.now.catalog.now c.args.texts.now.statement.now))
-    (reference-span c.args.texts.now.catalog.now c.args.texts.now.statement.now c.args.e.column.reference c.reference-reference.ensures)
+    (reference-span c.args.texts.now.catalog.now c.args.texts.now.statement.now c.args.new.reference c.reference-reference.ensures)

@@ -1,7 +1,7 @@
 -- `create::reference`: none, or its name's place.
 use mathlib.Core.Path.{◌∙◌}
 use Rattle.std.specs.Prelude.{Some}
-use Rattle.build_statement.specs.Create.{clipped_place}
+use Rattle.text.specs.Places.{clipped_place}
 use Rattle.build_statement.proofs.create.reference.Goals as goal
 
 pub returns-in_err-name : goal.returns-in_err-name

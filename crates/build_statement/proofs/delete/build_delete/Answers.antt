@@ -1,7 +1,7 @@
 -- `delete::build_delete`: the table and its filter, and the end.
 use Rattle.plan.specs.Emits.{exit}
 use Rattle.build_statement.specs.Kinds.{free-kept}
-use Rattle.build_statement.specs.Deletes.{delete-target, delete-refused, delete-most, delete-planned}
+use Rattle.build_statement.specs.Deletes.{delete-target, delete-refused, delete-most, delete-root, delete-planned}
 use Rattle.build_statement.proofs.delete.build_delete.Goals as goal
 
 pub build_target-requires : goal.build_target-requires
@@ -15,6 +15,7 @@ pub end_delete-requires : goal.end_delete-requires
 end_delete-requires c = record {
   free = free-kept c.requires.free c.build_target.auto.area;
   few_cells = delete-most c.args.exprs.now.texts.catalog.now c.args.exprs.now.texts.statement.now c.args.tables.now c.args.exprs.now.table.now c.args.parts.now c.requires c.build_target.ensures _ c.in_ok-target.was;
+  root_behind = delete-root c.args.exprs.now.texts.catalog.now c.args.exprs.now.texts.statement.now c.args.tables.now c.args.exprs.now.table.now c.args.parts.now c.requires c.build_target.ensures _ c.in_ok-target.was;
 }
 
 pub returns : goal.returns

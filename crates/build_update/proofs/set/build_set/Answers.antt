@@ -1,12 +1,14 @@
 -- `set::build_set`: the default, or the expression.
+use mathlib.Core.Path.{sym, ◌∙◌}
+use Rattle.sections.specs.Expressions.{given-row, no-row}
 use Rattle.build_update.specs.Sets.{values-none, values-some, value_room}
 use Rattle.build_update.proofs.set.build_set.Goals as goal
 
-pub returns-then-e-eq0 : goal.returns-then-e-eq0
-returns-then-e-eq0 c = values-none c.if-e-eq0.true c.build_default.ensures
+pub returns-in_default : goal.returns-in_default
+returns-in_default c = values-none (no-row _ (sym c.in_default.is ∙ c.first_row.ensures)) c.build_default.ensures
 
 pub build_expression-requires : goal.build_expression-requires
-build_expression-requires c = value_room _ _ _ c.args.e c.requires _ c.if-e-eq0.false c.first_row-r.ensures
+build_expression-requires c = let g = given-row _ (sym c.in-Some.is ∙ c.first_row.ensures) in value_room _ _ _ c.args.e c.requires _ g.0 g.1
 
 pub returns : goal.returns
-returns c = values-some _ c.if-e-eq0.false c.first_row-r.ensures c.build_expression.ensures
+returns c = let g = given-row _ (sym c.in-Some.is ∙ c.first_row.ensures) in values-some _ g.0 g.1 c.build_expression.ensures

@@ -1,7 +1,7 @@
 -- `update::build_update`: the table and its filter, and the plan behind it.
 use Rattle.plan.specs.Emits.{exit}
 use Rattle.build_statement.specs.Kinds.{free-kept}
-use Rattle.build_update.specs.Updates.{update-target, update-refused, update-few-sets, update-planned}
+use Rattle.build_update.specs.Updates.{update-target, update-refused, update-few-sets, update-root, update-planned}
 use Rattle.build_update.proofs.update.build_update.Goals as goal
 
 pub build_target-requires : goal.build_target-requires
@@ -15,8 +15,9 @@ pub end_update-requires : goal.end_update-requires
 end_update-requires c = record {
   free = free-kept c.requires.free c.build_target.auto.area;
   few_sets = update-few-sets c.args.exprs.now.texts.catalog.now c.args.exprs.now.texts.statement.now c.args.tables.now c.args.exprs.now.table.now c.args.parts.now c.requires c.build_target.ensures _ c.in_ok-target.was;
+  root_behind = update-root c.args.exprs.now.texts.catalog.now c.args.exprs.now.texts.statement.now c.args.tables.now c.args.exprs.now.table.now c.args.parts.now c.requires c.build_target.ensures _ c.in_ok-target.was;
 }
 
 pub returns : goal.returns
 returns c = update-planned c.args.exprs.now.texts.catalog.now c.args.exprs.now.texts.statement.now c.args.tables.now c.args.exprs.now.table.now c.args.parts.now c.requires c.build_target.ensures _ c.in_ok-target.was
-    (λ h. rw (c.view-view.ensures.labels, c.view-view.ensures.matches, c.view-view.ensures.tables) at (c.end_update.ensures h))
+    c.end_update.ensures

@@ -11,5 +11,5 @@ returns-then-is_null_or_nan c = λ t q. guard_passed _ _ _ (is-literal t q _ _ (
 
 pub returns : goal.returns
 unfolding reason_of
-returns c = λ t q. rw c.at-2.ensures (guard-refused _ InvalidIs _ _ (is-literal t q _ _ (c.is_null_or_nan.ensures t q) c.literal.ensures
-    ∙ c.if-is_null_or_nan.false) c.at.ensures)
+returns c = λ t q. rw c.at.ensures (guard-refused _ InvalidIs _ _ (is-literal t q _ _ (c.is_null_or_nan.ensures t q) c.literal.ensures
+    ∙ c.if-is_null_or_nan.false) c.line.ensures)

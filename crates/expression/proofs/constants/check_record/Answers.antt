@@ -11,7 +11,7 @@ use Rattle.expression.proofs.constants.check_record.Goals as goal
 
 pub returns-in-Column : goal.returns-in-Column
 unfolding answered reason_of
-returns-in-Column c = λ f h. rw c.at.ensures (ap (refuse constant_only) c.at-line.ensures
+returns-in-Column c = λ f h. rw c.at.ensures (ap (refuse constant_only) c.line-line.ensures
     ∙ sym (record-name f _ _ _ _ c.kind_of.ensures c.in-Column.is))
 
 pub returns-in-Call : goal.returns-in-Call
@@ -34,5 +34,5 @@ returns-in-Literal c = λ f h. sym (record-literal f _ _ _ _ (kind_is c.kind_of.
 
 pub returns-in-Star : goal.returns-in-Star
 unfolding answered reason_of number_of
-returns-in-Star c = λ f h. rw c.at-in-Star.ensures (ap (refuse unsupported_star) c.at-line.ensures
+returns-in-Star c = λ f h. rw c.at-in-Star.ensures (ap (refuse unsupported_star) c.line-line.ensures
     ∙ sym (record-star f _ _ _ _ (kind_is c.kind_of.ensures c.in-Star.is)))

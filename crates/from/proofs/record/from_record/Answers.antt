@@ -7,9 +7,12 @@ use Rattle.text.specs.Lines.{field}
 use Rattle.from.specs.Fields.{row_as, no_row, row_next, at_from, join-two, join-not, no-from}
 use Rattle.from.proofs.record.from_record.Goals as goal
 
+pub table_record-requires : goal.table_record-requires
+table_record-requires c = record { text = c.args.t.now; position = c.args.p; is = record { short = c.requires.0; within = c.requires.1; fields = c.fields-f.ensures } }
+
 pub returns-then-equal : goal.returns-then-equal
 unfolding bytes
-returns-then-equal c = λ l d k. row_next c.fields-f.ensures.next (row_as _ (at_from _ _ l d k _ c.fields-f.ensures (sym (rw c.field-word.ensures at c.equal.ensures) ∙ c.if-equal.true)) (c.table_record.ensures l d k))
+returns-then-equal c = λ l d k. row_next c.fields-f.ensures.next (row_as _ (at_from _ _ l d k _ c.fields-f.ensures (sym (rw c.field-word.ensures at c.equal.ensures) ∙ c.if-equal.true)) (c.table_record.ensures _ _ l d k (record { short = c.requires.0; within = c.requires.1; fields = c.fields-f.ensures })))
 
 pub returns-then-not-equal : goal.returns-then-not-equal
 unfolding bytes

@@ -1,13 +1,13 @@
 -- `column`: a name, or none.
-use mathlib.Core.Path.{refl, sym, ◌∙◌}
+use mathlib.Core.Path.{refl}
 use Rattle.ast.specs.Row.{number_of}
 use Rattle.read_expression.specs.RowOf.{no_row}
 use Rattle.read_expression.specs.Heads.{column-none, column-some}
 use Rattle.read_expression.proofs.heads.column.Goals as goal
 
-pub returns-then-not-is_name : goal.returns-then-not-is_name
-returns-then-not-is_name c = no_row (column-none _ _ _ c.requires (sym c.is_name.ensures ∙ c.if-not-is_name.true))
+pub returns-in_err-name : goal.returns-in_err-name
+returns-in_err-name c = λ t i. rw c.from_residual.ensures (no_row (column-none _ _ _ i c.in_err-name.ensures))
 
 pub returns : goal.returns
 unfolding number_of
-returns c = column-some _ _ _ c.requires _ (sym c.is_name.ensures ∙ c.if-not-is_name.false) (rw c.address.ensures refl) refl
+returns c = λ t i. column-some _ _ _ i _ c.in_ok-name.ensures.0 (rw c.in_ok-name.ensures.1 refl) refl

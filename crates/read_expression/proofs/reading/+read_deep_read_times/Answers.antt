@@ -10,6 +10,9 @@ use Rattle.read_expression.proofs.Rows.{rows-length}
 use Rattle.read_expression.proofs.ExpressionRuns.{loop-start, loop-length, loop-end, loop-refused, loop-on, no_record, no_room, too-deep, operands-position, operands-no-more, deep-done, deep_is, leaf-done}
 use Rattle.read_expression.proofs.reading.+read_deep_read_times.Goals as goal
 
+pub read_deep-head-requires : goal.read_deep-head-requires
+read_deep-head-requires t c = record { short = c.requires.0.short; within = c.requires.0.within; fields = c.fields-f.ensures }
+
 pub read_deep-returns-in_default : goal.read_deep-returns-in_default
 read_deep-returns-in_default t c = λ k. rw c.at.ensures (no_record _ _ _ k _ _ c.in_default.ensures)
 
@@ -29,7 +32,7 @@ pub read_deep-returns-in_err-behind : goal.read_deep-returns-in_err-behind
 read_deep-returns-in_err-behind t c = λ k. let p = err_from_is_err_and c.from_residual.result c.from_residual.ensures.1 in rw (p.1, p.2) (operands-no-more _ _ _ k _ _ c.in-Some.ensures (omega arith) c.if-depth-eq0.false c.fields-f.ensures.next _ _ (c.in_err-behind.ensures k))
 
 pub read_deep-read_is-requires : goal.read_deep-read_is-requires
-read_deep-read_is-requires t c = let w = given-done _ _ _ _ _ _ 0 _ (c.in_ok-behind.ensures 0) in record { fact_1 = w.position; fact_2 = (omega (arith, w.more), rows-length w.holds ∙ c.requires.1.1) }
+read_deep-read_is-requires t c = let w = given-done _ _ _ _ _ _ 0 _ (c.in_ok-behind.ensures 0) in record { position = w.position; room = (omega (arith, w.more), rows-length w.holds ∙ c.requires.1.1) }
 
 pub read_deep-returns-in-Is : goal.read_deep-returns-in-Is
 read_deep-returns-in-Is t c = λ k. deep_is _ _ _ k c.in-Some.ensures _ (omega arith) c.if-depth-eq0.false c.fields-f.ensures.next _ _ _ _ _ (c.in_ok-behind.ensures k) c.in-Is.is _ _ (c.read_is.ensures k)

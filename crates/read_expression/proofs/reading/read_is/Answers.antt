@@ -8,4 +8,4 @@ returns-in_default c = λ k. rw c.at.ensures (is-row-wrong _ _ _ k c.literal_at.
 
 pub returns : goal.returns
 unfolding number_of
-returns c = λ k. rw c.behind.ensures (is_row _ _ _ k c.literal_at.ensures _ _ _ _ c.requires.fact_1 c.in-Some.is c.fields-f.ensures.next c.from.ensures c.put_row.ensures)
+returns c = λ k. rw c.behind.ensures (is_row _ _ _ k c.literal_at.ensures _ _ _ _ c.requires.position c.in-Some.is c.fields-f.ensures.next c.from.ensures c.put_row.ensures)

@@ -17,7 +17,7 @@ pub returns-then-index-ge-MOST_TABLE_COLUMNS : goal.returns-then-index-ge-MOST_T
 returns-then-index-ge-MOST_TABLE_COLUMNS c = rw c.at.ensures (column-limit c.requires c.column_record.ensures (c.in_ok-c.was ∙ ap Ok c.in-Some.is) c.if-index-ge-MOST_TABLE_COLUMNS.true)
 
 pub default_record-requires : goal.default_record-requires
-default_record-requires c = record { fact_1 = column-next c.requires c.column_record.ensures (c.in_ok-c.was ∙ ap Ok c.in-Some.is); fact_2 = c.fields-f.ensures }
+default_record-requires c = record { position = column-next c.requires c.column_record.ensures (c.in_ok-c.was ∙ ap Ok c.in-Some.is); fields = c.fields-f.ensures }
 
 pub returns-in_default-default_record : goal.returns-in_default-default_record
 returns-in_default-default_record c = rw c.at-in_default-default_record.ensures (column-default c.requires c.column_record.ensures (c.in_ok-c.was ∙ ap Ok c.in-Some.is) c.if-index-ge-MOST_TABLE_COLUMNS.false _ c.default_record.ensures c.in_default-default_record.is)

@@ -5,8 +5,8 @@ use lib.ListN.{length}
 use Rattle.schema.specs.TableRuns.{TableLoop}
 use Rattle.schema.proofs.read.read_tables.Given as goal
 
-abbrev pub invariant-loop-p : goal.invariant-loop-p
-invariant-loop-p l = (length l.tables ≡ length l.initial.tables) × TableLoop l.catalog l.p l.line l.n l.first l.tables
+abbrev pub invariant-loop-at : goal.invariant-loop-at
+invariant-loop-at l = (length l.tables ≡ length l.initial.tables) × TableLoop l.catalog l.at.position l.at.line l.n l.first l.tables
 
-abbrev pub decreases-loop-p : goal.decreases-loop-p
-decreases-loop-p l = length l.catalog - l.p
+abbrev pub decreases-loop-at : goal.decreases-loop-at
+decreases-loop-at l = length l.catalog - l.at.position

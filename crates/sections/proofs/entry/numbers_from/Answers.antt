@@ -1,10 +1,9 @@
 -- `entry::numbers_from`: its numbers.
-use Rattle.numbers.specs.Values.{is_one}
 use Rattle.sections.specs.Access.{numbers_from}
 use Rattle.sections.proofs.entry.numbers_from.Goals as goal
 
 pub returns : goal.returns
-unfolding numbers_from is_one
+unfolding numbers_from
 returns c = rw (
   c.number.ensures,
   c.number-2.ensures,
@@ -12,6 +11,4 @@ returns c = rw (
   c.of_numbers.ensures,
   c.number-4.ensures,
   c.number-5.ensures,
-  c.number-6.ensures,
-  c.column_from.ensures,
 )

@@ -14,6 +14,6 @@ returns-then-count-eq0 c = let args = c.args in
 
 pub returns : goal.returns
 returns c = let args = c.args in
-    clause-by args.parts.now (number_of args.kind) _ _ _ c.entry_at-e.ensures c.first_row.ensures
+    clause-by args.parts.now (number_of args.kind) _ _ _ c.entry_at-e.ensures c.expr_row.ensures
     (c.count.ensures [] [] [] ∙ section-count [] [] [] args.parts.now (number_of args.kind))
     (omega arith)

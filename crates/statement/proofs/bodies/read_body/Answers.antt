@@ -11,11 +11,11 @@ returns-in-Select c = λ n y. rw c.in-Select.is c.read_select.ensures
 
 pub returns-in-Create : goal.returns-in-Create
 unfolding head_of coded
-returns-in-Create c = λ n y. rw c.in-Create.is (create-read _ _ _ _ _ _ _ _ (c.read_section.ensures 0) n)
+returns-in-Create c = λ n y. rw c.in-Create.is (create-read _ _ _ _ _ _ _ _ (rw c.second_line-at.ensures at (c.read_section.ensures 0)) n)
 
 pub returns-in-Delete : goal.returns-in-Delete
 unfolding head_of coded
-returns-in-Delete c = λ n y. rw c.in-Delete.is (delete-read _ _ _ _ _ _ _ _ (c.read_section-in-Delete.ensures 0) n)
+returns-in-Delete c = λ n y. rw c.in-Delete.is (delete-read _ _ _ _ _ _ _ _ (rw c.second_line-at.ensures at (c.read_section-in-Delete.ensures 0)) n)
 
 pub returns-in-Insert : goal.returns-in-Insert
 unfolding head_of coded
@@ -27,7 +27,7 @@ returns-in-Update c = λ n y. rw c.in-Update.is (c.read_update.ensures n _)
 
 pub returns-in-Drop : goal.returns-in-Drop
 unfolding head_of coded
-returns-in-Drop c = λ n y. elim c.in-Drop.is [
-  | inl e ↦ rw e (drop-read _ _ _ _ _ c.requires.fact_1 n y)
-  | inr e ↦ rw e (other-read _ _ _ _ _ c.requires.fact_1)
-]
+returns-in-Drop c = λ n y. rw c.second_line-at.ensures (elim c.in-Drop.is [
+  | inl e ↦ rw e (drop-read _ _ _ _ _ c.requires.position n y)
+  | inr e ↦ rw e (other-read _ _ _ _ _ c.requires.position)
+])

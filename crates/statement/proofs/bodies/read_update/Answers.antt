@@ -4,11 +4,14 @@ use Rattle.read_expression.specs.Given.{given-done}
 use Rattle.statement.specs.BodyReads.{update-refused, update-read}
 use Rattle.statement.proofs.bodies.read_update.Goals as goal
 
-pub read_section-requires-clause-fact_1 : goal.read_section-requires-clause-fact_1
-read_section-requires-clause-fact_1 c = (given-done _ _ _ _ _ _ _ _ (c.in_ok-sets.ensures 0)).position
+pub read_some-requires-clause-position : goal.read_some-requires-clause-position
+read_some-requires-clause-position c = rw c.second_line-at.ensures c.requires.position
+
+pub read_section-requires-clause-position : goal.read_section-requires-clause-position
+read_section-requires-clause-position c = (given-done _ _ _ _ _ _ _ _ (rw c.second_line-at.ensures at (c.in_ok-sets.ensures 0))).position
 
 pub returns-in_err-sets : goal.returns-in_err-sets
-returns-in_err-sets c = λ n froms. let p = err_from_is_err_and c.from_residual.result c.from_residual.ensures.1 in rw (p.1, p.2) (update-refused _ n _ _ _ froms _ _ _ (c.in_err-sets.ensures 0))
+returns-in_err-sets c = λ n froms. let p = err_from_is_err_and c.from_residual.result c.from_residual.ensures.1 in rw (p.1, p.2) (update-refused _ n _ _ _ froms _ _ _ (rw c.second_line-at.ensures at (c.in_err-sets.ensures 0)))
 
 pub returns : goal.returns
-returns c = λ n froms. update-read _ n _ _ _ froms _ _ _ _ _ _ (c.in_ok-sets.ensures 0) (c.read_section.ensures 0)
+returns c = λ n froms. update-read _ n _ _ _ froms _ _ _ _ _ _ (rw c.second_line-at.ensures at (c.in_ok-sets.ensures 0)) (c.read_section.ensures 0)

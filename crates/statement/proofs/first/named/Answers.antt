@@ -5,7 +5,7 @@ use Rattle.statement.proofs.first.named.Goals as goal
 
 pub returns-in_err-name : goal.returns-in_err-name
 unfolding first_said
-returns-in_err-name c b = rw c.from_residual.ensures (sym (named_none _ _ _ c.requires.fact_1 _ c.requires.fact_2 c.in_err-name.ensures))
+returns-in_err-name c b t i = rw c.from_residual.ensures (sym (named_none _ _ _ i _ c.requires.one_name c.in_err-name.ensures))
 
 pub returns : goal.returns
-returns c b = named_some _ _ _ c.requires.fact_1 b _ c.in_ok-name.ensures.1 _ c.requires.fact_2 c.in_ok-name.ensures.0
+returns c b t i = named_some _ _ _ i b _ c.in_ok-name.ensures.1 _ c.requires.one_name c.in_ok-name.ensures.0

@@ -1,18 +1,20 @@
--- `functions`: the fields of the parts counted are put.
-use Rattle.listing.specs.Fields.{fields-none, fields-same}
-use Rattle.listing.specs.Lines.{each, listed, fields-more, fields-all}
-use Rattle.std.proofs.Common.{ap}
+-- `functions`: the fields of the parts before those left are put.
+use Rattle.std.proofs.Common.{◌∷◌, [], arith, ap, ◌∙◌}
+use Rattle.std.specs.Slice.Iter.{chunks_exact_rest, chunks_exact_size}
+use Rattle.listing.specs.Parts.{parts-begin, parts-more, parts-all, two-only}
 use Rattle.listing.specs.Nodes.{function_fields, functions_fields}
 use Rattle.listing.proofs.put.Writer.functions.Goals as goal
 
-pub loop-i-init : goal.loop-i-init
-unfolding listed
-loop-i-init c = fields-none
+pub loop-function-init : goal.loop-function-init
+loop-function-init c =
+    let i = c.into_iter-function-iterator.ensures.into_iter_gives in
+    parts-begin _ _ (ap chunks_exact_size i ∙ c.chunks_exact-function-items.ensures.size) (ap chunks_exact_rest i ∙ c.chunks_exact-function-items.ensures.rest)
 
-pub loop-i-preserved : goal.loop-i-preserved
+pub loop-function-preserved : goal.loop-function-preserved
 unfolding function_fields
-loop-i-preserved c = fields-more _ c.loop-i.invariant (fields-same c.function.ensures (λ d q. ap (function_fields 0) c.tail.ensures))
+loop-function-preserved c = parts-more _ _ c.in-Some.function c.loop-function.invariant (rw c.in-Some.is at c.next.ensures.steps) (omega arith)
+    (λ d q u t h. two-only (λ a b. function_fields 0 (a ∷ b ∷ [])) u t h) c.function.ensures
 
 pub returns : goal.returns
-unfolding each functions_fields
-returns c = fields-all _ c.loop-i.invariant c.loop-i.auto.i-end c.loop-i-test.false
+unfolding function_fields functions_fields
+returns c = parts-all _ _ c.loop-function.invariant (rw c.in-None.is at c.next.ensures.steps)

@@ -1,5 +1,5 @@
 -- `integer`: by the highest of the 64 bits.
-use Rattle.std.proofs.Common.{rules, sym, ap, [], ◌∷◌}
+use Rattle.std.proofs.Common.{◌≡◌, ◌<◌, ◌+◌, ◌-◌, ◌^◌, arith, rules, sym, ap, [], ◌∷◌}
 use Rattle.listing.specs.Put.{puts-then}
 use Rattle.listing.specs.Fields.{field, fields-same}
 use Rattle.listing.specs.Decimals.{integer-below, integer-above}
@@ -9,5 +9,8 @@ pub returns-then-n-lt9223372036854775808 : goal.returns-then-n-lt922337203685477
 returns-then-n-lt9223372036854775808 c = fields-same c.long.ensures (λ d q. ap (λ b. b ∷ []) (sym (integer-below c.args.n c.if-n-lt9223372036854775808.true)))
 
 pub returns : goal.returns
-returns c = fields-same (field c.byte.ensures (puts-then c.byte-2.ensures c.decimal.ensures))
-    (λ d q. ap (λ b. b ∷ []) (sym (integer-above c.args.n c.if-n-lt9223372036854775808.false (search rules))))
+returns c =
+    let l : c.args.n < 2 ^ 64 = search rules in
+    let e : c.wrapping_neg.result ≡ 2 ^ 64 - 1 - c.args.n + 1 = omega (arith, c.wrapping_neg.ensures, c.if-n-lt9223372036854775808.false, l) in
+    fields-same (field c.byte.ensures (puts-then c.byte-2.ensures c.decimal.ensures))
+    (λ d q. ap (λ b. b ∷ []) (rw e (sym (integer-above c.args.n c.if-n-lt9223372036854775808.false l))))

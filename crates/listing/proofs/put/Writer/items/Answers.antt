@@ -1,18 +1,20 @@
--- `items`: the fields of the parts counted are put.
-use Rattle.listing.specs.Fields.{fields-none, fields-same}
-use Rattle.listing.specs.Lines.{each, listed, fields-more, fields-all}
-use Rattle.std.proofs.Common.{ap}
+-- `items`: the fields of the parts before those left are put.
+use Rattle.std.proofs.Common.{◌∷◌, [], arith, ap, ◌∙◌}
+use Rattle.std.specs.Slice.Iter.{chunks_exact_rest, chunks_exact_size}
+use Rattle.listing.specs.Parts.{parts-begin, parts-more, parts-all, three-only}
 use Rattle.listing.specs.Nodes.{item_fields, items_fields}
 use Rattle.listing.proofs.put.Writer.items.Goals as goal
 
-pub loop-i-init : goal.loop-i-init
-unfolding listed
-loop-i-init c = fields-none
+pub loop-item-init : goal.loop-item-init
+loop-item-init c =
+    let i = c.into_iter-item-iterator.ensures.into_iter_gives in
+    parts-begin _ _ (ap chunks_exact_size i ∙ c.chunks_exact-item-items.ensures.size) (ap chunks_exact_rest i ∙ c.chunks_exact-item-items.ensures.rest)
 
-pub loop-i-preserved : goal.loop-i-preserved
+pub loop-item-preserved : goal.loop-item-preserved
 unfolding item_fields
-loop-i-preserved c = fields-more _ c.loop-i.invariant (fields-same c.item.ensures (λ d q. ap (item_fields d q 0) c.tail.ensures))
+loop-item-preserved c = parts-more _ _ c.in-Some.item c.loop-item.invariant (rw c.in-Some.is at c.next.ensures.steps) (omega arith)
+    (λ d q u t h. three-only (λ a b x. item_fields d q 0 (a ∷ b ∷ x ∷ [])) u t h) c.item.ensures
 
 pub returns : goal.returns
-unfolding each items_fields
-returns c = fields-all _ c.loop-i.invariant c.loop-i.auto.i-end c.loop-i-test.false
+unfolding item_fields items_fields
+returns c = parts-all _ _ c.loop-item.invariant (rw c.in-None.is at c.next.ensures.steps)

@@ -1,9 +1,7 @@
--- `items`: the fields of the parts counted are put.
-use Rattle.std.proofs.Common.{drop, ◌*◌}
-use Rattle.listing.specs.Fields.{FieldsIn}
-use Rattle.listing.specs.Lines.{listed}
+-- `items`: the fields of the parts before those left are put.
+use Rattle.listing.specs.Parts.{PartLoop}
 use Rattle.listing.specs.Nodes.{item_fields}
 use Rattle.listing.proofs.put.Writer.items.Given as goal
 
-abbrev pub invariant-loop-i : goal.invariant-loop-i
-invariant-loop-i l = FieldsIn l.fn.self l.self (λ d q. listed l.i (λ j. item_fields d q j (drop (j * 3) l.s)))
+abbrev pub invariant-loop-item : goal.invariant-loop-item
+invariant-loop-item l = PartLoop l.fn.self l.self 3 (λ d q. item_fields d q 0) l.s l.item-iterator

@@ -1,18 +1,20 @@
--- `keys`: the fields of the parts counted are put.
-use Rattle.listing.specs.Fields.{fields-none, fields-same}
-use Rattle.listing.specs.Lines.{each, listed, fields-more, fields-all}
-use Rattle.std.proofs.Common.{ap}
+-- `keys`: the fields of the parts before those left are put.
+use Rattle.std.proofs.Common.{◌∷◌, [], arith, ap, ◌∙◌}
+use Rattle.std.specs.Slice.Iter.{chunks_exact_rest, chunks_exact_size}
+use Rattle.listing.specs.Parts.{parts-begin, parts-more, parts-all, two-only}
 use Rattle.listing.specs.Nodes.{key_fields, keys_fields}
 use Rattle.listing.proofs.put.Writer.keys.Goals as goal
 
-pub loop-i-init : goal.loop-i-init
-unfolding listed
-loop-i-init c = fields-none
+pub loop-key-init : goal.loop-key-init
+loop-key-init c =
+    let i = c.into_iter-key-iterator.ensures.into_iter_gives in
+    parts-begin _ _ (ap chunks_exact_size i ∙ c.chunks_exact-key-items.ensures.size) (ap chunks_exact_rest i ∙ c.chunks_exact-key-items.ensures.rest)
 
-pub loop-i-preserved : goal.loop-i-preserved
+pub loop-key-preserved : goal.loop-key-preserved
 unfolding key_fields
-loop-i-preserved c = fields-more _ c.loop-i.invariant (fields-same c.key.ensures (λ d q. ap (key_fields 0) c.tail.ensures))
+loop-key-preserved c = parts-more _ _ c.in-Some.key c.loop-key.invariant (rw c.in-Some.is at c.next.ensures.steps) (omega arith)
+    (λ d q u t h. two-only (λ a b. key_fields 0 (a ∷ b ∷ [])) u t h) c.key.ensures
 
 pub returns : goal.returns
-unfolding each keys_fields
-returns c = fields-all _ c.loop-i.invariant c.loop-i.auto.i-end c.loop-i-test.false
+unfolding key_fields keys_fields
+returns c = parts-all _ _ c.loop-key.invariant (rw c.in-None.is at c.next.ensures.steps)

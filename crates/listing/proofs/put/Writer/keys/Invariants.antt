@@ -1,9 +1,7 @@
--- `keys`: the fields of the parts counted are put.
-use Rattle.std.proofs.Common.{drop, ◌*◌}
-use Rattle.listing.specs.Fields.{FieldsIn}
-use Rattle.listing.specs.Lines.{listed}
+-- `keys`: the fields of the parts before those left are put.
+use Rattle.listing.specs.Parts.{PartLoop}
 use Rattle.listing.specs.Nodes.{key_fields}
 use Rattle.listing.proofs.put.Writer.keys.Given as goal
 
-abbrev pub invariant-loop-i : goal.invariant-loop-i
-invariant-loop-i l = FieldsIn l.fn.self l.self (λ d q. listed l.i (λ j. key_fields j (drop (j * 2) l.s)))
+abbrev pub invariant-loop-key : goal.invariant-loop-key
+invariant-loop-key l = PartLoop l.fn.self l.self 2 (λ d q. key_fields 0) l.s l.key-iterator

@@ -1,14 +1,8 @@
--- `reference`: by whether there is one.
-use Rattle.std.proofs.Common.{sym, ◌∙◌}
-use Rattle.listing.specs.Fields.{fields-same, fields-none}
-use Rattle.listing.specs.Own.{reference-none, reference-some}
-use Rattle.listing.specs.Places.{some-length, some-place}
+-- `reference`: there may be none.
+use Rattle.listing.specs.Fields.{fields-none}
+use Rattle.listing.specs.Places.{reference_of}
 use Rattle.listing.proofs.put.Writer.reference.Goals as goal
 
-pub returns-in-Some : goal.returns-in-Some
-returns-in-Some c = let e = some-place c.args.address c.args.length _ (sym c.of_numbers.ensures ∙ c.in-Some.is) in
-    fields-same c.place.ensures (λ d q. rw e.1 (reference-some _ _ _ _ e.0))
-
 pub returns-in_default : goal.returns-in_default
-returns-in_default c = fields-same fields-none
-    (λ d q. reference-none _ _ _ _ (some-length c.args.address _ (sym c.of_numbers.ensures ∙ c.in_default.is)))
+unfolding reference_of
+returns-in_default c = rw c.in_default.is fields-none
