@@ -1,4 +1,4 @@
-// An expression that may be missing (planner.rs, build_option): a join's predicate, the filter of a DELETE or an UPDATE.
+// An expression that may be missing (the rules' build_option): a join's predicate, the filter of a DELETE or an UPDATE.
 ghost use Rattle.std.specs.Prelude.{ℕ, ◌*◌};
 ghost use Rattle.rules.specs.Sizes.{option_size};
 ghost use Rattle.plan.specs.Cells.{Room};
