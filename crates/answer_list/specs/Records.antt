@@ -2,7 +2,7 @@
 -- the text that is printed of them.
 use Prim.Native.Nat.{ℕ, zero, suc, ◌+◌, ◌-◌, ◌≤◌, ◌<◌, min}
 use Rattle.std.proofs.Common.{sym, ◌∙◌, le-leb, leb-true}
-use Rattle.std.specs.Prelude.{◌≡◌, Bool, List, [], ◌∷◌, leb, length, take, drop, get_or, Some, None}
+use Rattle.std.specs.Prelude.{◌≡◌, Bool, List, [], ◌∷◌, leb, length, take, drop, Some, None}
 use Rattle.std.specs.declared.option.Option as Rust
 use Rattle.std.proofs.Math.Path.{refl, ap}
 use Rattle.std.proofs.Math.Bool.{true, false}
@@ -12,7 +12,8 @@ use Rattle.std.proofs.lemmas.Option.{none-some}
 use Rattle.rules.specs.Lists.{Bytes, same, map_option}
 use Rattle.rules.specs.Lines.{bytes, decimal}
 use Rattle.rules.specs.Lines as rules
-use Rattle.text.specs.Lines.{line_end, field, fields_from, line_of, kept_fields, Fields}
+use Rattle.text.specs.Lines.{nth_field, line_end, field, fields_from, line_of, kept_fields, Fields}
+use Rattle.text.specs.declared.Field.{Field}
 use Rattle.text.specs.declared.Line.{Line}
 use Rattle.answer_list.specs.declared.Record.{Record}
 
@@ -58,11 +59,11 @@ unfolding sized
 too_long t e a b d h = sym (rw (sized, lt-leb (a + b + d) (length t - e) h))
 
 -- THE LINE
-module _ (t : Bytes) (st ln : List ℕ) where
+module _ (t : Bytes) (fs : List Field) where
   abbrev pub word : ℕ → Bytes
-  word i = take (get_or ln i 0) (drop (get_or st i 0) t)
+  word i = take (nth_field fs i).length (drop (nth_field fs i).start t)
 
-  not-four : (n : ℕ) → (n ≡ 4 → ⊥) → counts (fields_from 0 t st ln 0 n) ≡ none
+  not-four : (n : ℕ) → (n ≡ 4 → ⊥) → counts (fields_from 0 t fs 0 n) ≡ none
   unfolding counts fields_from
   not-four zero h = refl
   not-four (suc zero) h = refl
@@ -72,47 +73,47 @@ module _ (t : Bytes) (st ln : List ℕ) where
   not-four (suc (suc (suc (suc (suc n))))) h = refl
 
   four : (n : ℕ) → n ≡ 4
-      → counts (fields_from 0 t st ln 0 n) ≡ three (same (word 0) (bytes "case")) (count (word 1)) (count (word 2)) (count (word 3))
+      → counts (fields_from 0 t fs 0 n) ≡ three (same (word 0) (bytes "case")) (count (word 1)) (count (word 2)) (count (word 3))
   unfolding counts fields_from field
   four n e = rw e
 
 module _ (t : Bytes) (p : ℕ) (r : Line) (f : Fields t p r) where
-  record-line : sized t r.next (counts (fields_from 0 t r.starts r.lens 0 r.count)) ≡ record_at t p
+  record-line : sized t r.next (counts (fields_from 0 t r.fields 0 r.count)) ≡ record_at t p
   unfolding record_at line_of
   record-line = rw f.next (ap (λ l. sized t (line_end t p) (counts l)) (f.fields 0))
 
   pub other-line : (r.count ≡ 4 → ⊥) → None ≡ record_at t p
   unfolding sized
-  other-line h = ap (sized t r.next) (sym (not-four t r.starts r.lens r.count h)) ∙ record-line
+  other-line h = ap (sized t r.next) (sym (not-four t r.fields r.count h)) ∙ record-line
 
   module _ (n : r.count ≡ 4) where
-    pub record-four : (k : Bool) (x y z : Option ℕ) → k ≡ same (word t r.starts r.lens 0) (bytes "case")
-        → x ≡ count (word t r.starts r.lens 1) → y ≡ count (word t r.starts r.lens 2)
-        → z ≡ count (word t r.starts r.lens 3) → sized t r.next (three k x y z) ≡ record_at t p
+    pub record-four : (k : Bool) (x y z : Option ℕ) → k ≡ same (word t r.fields 0) (bytes "case")
+        → x ≡ count (word t r.fields 1) → y ≡ count (word t r.fields 2)
+        → z ≡ count (word t r.fields 3) → sized t r.next (three k x y z) ≡ record_at t p
     record-four k x y z e g h i =
-        ap (sized t r.next) (rw (e, g, h, i) (sym (four t r.starts r.lens r.count n))) ∙ record-line
+        ap (sized t r.next) (rw (e, g, h, i) (sym (four t r.fields r.count n))) ∙ record-line
 
-    module _ (k : Bool) (e : k ≡ same (word t r.starts r.lens 0) (bytes "case")) where
+    module _ (k : Bool) (e : k ≡ same (word t r.fields 0) (bytes "case")) where
       pub other_word : k ≡ false → None ≡ record_at t p
       unfolding sized three
       other_word o = record-four false _ _ _ (sym o ∙ e) refl refl refl
 
       module _ (o : k ≡ true) where
-        pub no-first : none ≡ count (word t r.starts r.lens 1) → None ≡ record_at t p
+        pub no-first : none ≡ count (word t r.fields 1) → None ≡ record_at t p
         unfolding sized three
         no-first g = record-four true none _ _ (sym o ∙ e) g refl refl
 
-        module _ (a : ℕ) (g : some a ≡ count (word t r.starts r.lens 1)) where
-          pub no_second : none ≡ count (word t r.starts r.lens 2) → None ≡ record_at t p
+        module _ (a : ℕ) (g : some a ≡ count (word t r.fields 1)) where
+          pub no_second : none ≡ count (word t r.fields 2) → None ≡ record_at t p
           unfolding sized three
           no_second h = record-four true (some a) none _ (sym o ∙ e) g h refl
 
-          module _ (b : ℕ) (h : some b ≡ count (word t r.starts r.lens 2)) where
-            pub no_third : none ≡ count (word t r.starts r.lens 3) → None ≡ record_at t p
+          module _ (b : ℕ) (h : some b ≡ count (word t r.fields 2)) where
+            pub no_third : none ≡ count (word t r.fields 3) → None ≡ record_at t p
             unfolding sized three
             no_third i = record-four true (some a) (some b) none (sym o ∙ e) g h i
 
-            pub counted : (d : ℕ) → some d ≡ count (word t r.starts r.lens 3) → sized t r.next (some (a, b, d)) ≡ record_at t p
+            pub counted : (d : ℕ) → some d ≡ count (word t r.fields 3) → sized t r.next (some (a, b, d)) ≡ record_at t p
             unfolding three
             counted d i = record-four true (some a) (some b) (some d) (sym o ∙ e) g h i
 

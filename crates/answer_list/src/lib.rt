@@ -8,7 +8,8 @@ ghost use Rattle.answer_list.specs.Records.{sized, record_at};
 use text::{decimal, equal, fields};
 
 // A record: where its catalog starts, and how many bytes its catalog, its statement and its answer have, which stand there
-// one behind the other. Numbers, as the line has them: slices would be taken apart where the next record is sought.
+// one behind the other. Numbers, as the line has them: as slices they would be four splits in `whole` and the end as a field, to
+// save the two sums in `replay`.
 #[derive(Clone, Copy, Debug, PartialEq, Eq)]
 pub struct Record {
     pub start: usize,

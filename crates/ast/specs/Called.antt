@@ -1,19 +1,24 @@
--- Which aggregate function an expression calls, if any, by the record at a row.
-use Rattle.std.specs.Prelude.{ℕ, ◌≡◌, refl, List}
+-- Which function an expression calls: an aggregate, if any, or `sqrt`, by the record at a row.
+use Rattle.std.specs.Prelude.{ℕ, ◌≡◌, refl, Bool, ◌&&◌, eqb, List}
 use Rattle.std.proofs.Common.{sym, ap, ◌∙◌}
 use Rattle.std.proofs.Math.Option.{Option, none, some}
-use Rattle.rules.specs.Lists.{Bytes, named, is_some}
+use Rattle.rules.specs.Lists.{Bytes, same, named, is_some}
+use Rattle.rules.specs.Lines.{bytes}
 use Rattle.rules.specs.Places.{bytes_at, word_at}
 use Rattle.rules.specs.Ast.{Expr, star, column, literal, call, unary, binary, is}
 use Rattle.rules.specs.Views.{as_call}
 use Rattle.rules.specs.Plan.{Aggregate}
 use Rattle.rules.specs.BuildAggregate.{aggregates, is_aggregate}
-use Rattle.ast.specs.Table.{arguments_at, tree_at}
+use Rattle.ast.specs.Table.{at, arguments_at, tree_at}
 use Rattle.ast.specs.Operands.{kind_of, kind_at, kind-at, tree-at}
 use Rattle.ast.specs.Row as row
 use Rattle.ast.specs.Row.{line_at, row_name, first_operand, number_of, call-row}
 use Rattle.ast.specs.Walk.{is_aggregate_call}
 use Rattle.ast.specs.declared.row.Kind.TheVariants as K
+
+-- whether the call at row r is `sqrt` of one argument
+unfoldable pub is_root_call : Bytes → Bytes → List ℕ → ℕ → Bool
+is_root_call c q t r = eqb (at t r 3) 1 && same (bytes_at c q (at t r 4) (at t r 5)) (bytes "sqrt")
 
 -- the aggregate that an expression calls
 unfoldable pub called_of : Expr → Option Aggregate

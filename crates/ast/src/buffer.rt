@@ -27,7 +27,7 @@ impl<'r> Rows<'r> {
         self.used += 1;
     }
 
-    // None where there is no room.
+    // None where there is no room. (`Option<()>`, which a caller hands on as it is: a Result would have an error of one value.)
     pub fn try_push(&mut self, r: usize) -> Option<()>
         ensures { ListedWithin (r ∷ []) self.old result self.new }
     {

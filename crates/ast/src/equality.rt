@@ -25,16 +25,7 @@ pub fn same_value(texts: &Texts, a: Literal, b: Literal) -> bool
         LiteralKind::Null => true,
         LiteralKind::Bool => (a.first == 1) == (b.first == 1),
         LiteralKind::Int | LiteralKind::Float => a.first == b.first && a.second == b.second,
-        LiteralKind::Text => texts.same_bytes(
-            Place {
-                address: a.first,
-                length: a.second,
-            },
-            Place {
-                address: b.first,
-                length: b.second,
-            },
-        ),
+        LiteralKind::Text => texts.same_bytes(Place::of_literal(a), Place::of_literal(b)),
     }
 }
 
@@ -68,7 +59,7 @@ fn same_root(exprs: &Expressions, i: usize, j: usize) -> bool
     }
 }
 
-// Whether the trees at two rows are equal, root first. An operand stands behind its record, so what is left of the table falls.
+// Whether the trees at two rows are equal, root first.
 fn same_trees(exprs: &Expressions, i: usize, j: usize) -> bool
     ensures { result ≡ equal (tree_in exprs.now i) (tree_in exprs.now j) }
 {

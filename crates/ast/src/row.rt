@@ -6,8 +6,8 @@ ghost use Rattle.ast.specs.Table.{unary_at, binary_at};
 ghost use Rattle.ast.specs.Operands.{kind_at};
 ghost use Rattle.ast.specs.Row as row;
 
-use crate::rows::at;
-use numbers::literals::{Literal, LiteralKind};
+use crate::rows::{at, place_at};
+use numbers::literals::Literal;
 use numbers::operators::{Binary, Unary};
 use text::places::Place;
 
@@ -59,10 +59,7 @@ pub fn name(table: &[u32], r: usize) -> Place
     ensures address { result.address ≡ row.name_address table.now r }
     ensures length { result.length ≡ row.name_length table.now r }
 {
-    Place {
-        address: at(table, r, 4),
-        length: at(table, r, 5),
-    }
+    place_at(table, r, 4)
 }
 
 // The place of the table's name that qualifies a column.
@@ -70,10 +67,7 @@ pub fn qualifier(table: &[u32], r: usize) -> Place
     ensures address { result.address ≡ row.qualifier_address table.now r }
     ensures length { result.length ≡ row.qualifier_length table.now r }
 {
-    Place {
-        address: at(table, r, 6),
-        length: at(table, r, 7),
-    }
+    place_at(table, r, 6)
 }
 
 // How many arguments a call has.
@@ -100,9 +94,5 @@ pub fn binary_operator(table: &[u32], r: usize) -> Binary
 pub fn literal(table: &[u32], r: usize) -> Literal
     ensures { result ≡ row.literal_at table.now r }
 {
-    Literal {
-        kind: LiteralKind::of_number(at(table, r, 3)),
-        first: at(table, r, 4),
-        second: at(table, r, 5),
-    }
+    Literal::of_numbers(at(table, r, 3), at(table, r, 4), at(table, r, 5))
 }

@@ -1,11 +1,12 @@
 // The rows of the table: a record's numbers, its kind, its operands. A row's number is a usize: with it no sum overflows
 // whatever the table holds, since a row outside the table has 0 rows.
-ghost use Rattle.std.specs.Prelude.{◌≡◌, ◌+◌};
+ghost use Rattle.std.specs.Prelude.{◌≡◌, ◌+◌, ◌<◌};
 ghost use Rattle.ast.specs.Table.{at, rows_at};
 ghost use Rattle.ast.specs.Operands.{operands_at};
 
 use crate::row::{Kind, kind_of};
 use numbers::number;
+use text::places::Place;
 
 // Numbers a row.
 pub const ROW_SIZE: usize = 8;
@@ -30,6 +31,17 @@ pub fn at(table: &[u32], r: usize, k: u32) -> u32
         return 0;
     }
     number(table, ROW_SIZE * r + k as usize)
+}
+
+// The place whose address is the number at place k of row r, and its length the one behind that.
+pub fn place_at(table: &[u32], r: usize, k: u32) -> Place
+    requires { k < 8 }
+    ensures { result ≡ record { address = at table.now r k; length = at table.now r (k + 1) } }
+{
+    Place {
+        address: at(table, r, k),
+        length: at(table, r, k + 1),
+    }
 }
 
 // How many operands it has: the first stands at the next row, each other behind the rows of the one before.

@@ -1,8 +1,8 @@
-// Walks over the expressions of the table (ast.rs, walk, contains, collect), for the aggregate functions.
+// The calls of functions, and walks over the expressions of the table (ast.rs, walk, contains, collect), for the aggregate functions.
 ghost use Rattle.std.specs.Prelude.{◌≡◌};
 ghost use Rattle.rules.specs.BuildAggregate.{walk_free, contains};
 ghost use Rattle.ast.specs.Aggregates.{named_of};
-ghost use Rattle.ast.specs.Called.{called_of};
+ghost use Rattle.ast.specs.Called.{called_of, is_root_call};
 ghost use Rattle.ast.specs.Table.{root_at};
 ghost use Rattle.ast.specs.Expressions.{tree_in};
 ghost use Rattle.ast.specs.Walk.{is_aggregate_call};
@@ -12,7 +12,7 @@ ghost use Rattle.ast.specs.Listed.{ListedWithin};
 use crate::Expressions;
 use crate::aggregates::aggregate_named;
 use crate::buffer::Rows;
-use crate::row::{Kind, kind_of, name};
+use crate::row::{Kind, arguments, kind_of, name};
 use crate::rows::{next, operands};
 use numbers::aggregates::Aggregate;
 
@@ -34,10 +34,18 @@ pub fn is_aggregate_call(exprs: &Expressions, r: usize) -> bool
     called(exprs, r).is_some()
 }
 
+// Whether the record at a row, which is a call, is one of `sqrt` with one argument.
+#[tactic(auto, unfolding(crate::specs::Called::is_root_call, rules::specs::Lines::bytes))]
+pub fn is_root_call(exprs: &Expressions, r: usize) -> bool
+    ensures { result ≡ is_root_call exprs.now.texts.catalog.now exprs.now.texts.statement.now exprs.now.table.now r }
+{
+    arguments(exprs.table, r) == 1 && exprs.texts.holds_at(name(exprs.table, r), b"sqrt")
+}
+
 // `walk` by a visitor that is false at an aggregate: whether it comes to the end. An operator's operands are walked until
 // one walk answers false, a function's arguments until one answers true.
-// (Each walk over operands has a loop of its own: one for all would take a closure that calls the walk again, with that contract and
-// its measure, to share three lines.)
+// (Each walk over operands has a loop of two lines more than its body: an iterator over their rows is no plainer, as
+// `successors(Some(r + 1), |p| Some(next(exprs.table, *p))).take(operands)` or as a struct of our own with three fields and a `next`.)
 pub fn walk_free(exprs: &Expressions, r: usize) -> bool
     ensures { result ≡ walk_free (tree_in exprs.now r) }
 {

@@ -1,6 +1,7 @@
 -- One aggregate function: which one a record calls, and what its argument appends or is refused for.
 use Prim.Native.Nat.{ℕ, zero, suc, ◌+◌, ◌*◌, ◌<◌}
 use Rattle.std.proofs.Common.{arith, add-one, sym, ◌∙◌, eqb-true}
+use denote.Enum.Bare.{sameb}
 use Rattle.std.specs.Prelude as std
 use Rattle.std.specs.Prelude.{◌≡◌, Bool, true, false, ◌&&◌, List, [], ◌∷◌, length, eqb, Ok, Err}
 use Rattle.std.proofs.Math.Path.{refl, ap}
@@ -30,6 +31,7 @@ use Rattle.ast.specs.Row.{line_at, row_name, first_operand}
 use Rattle.ast.specs.Aggregates.{named_of}
 use Rattle.ast.specs.Called.{called_of, called-none, call-tree}
 use Rattle.numbers.specs.Aggregates.{aggregate_of}
+use Rattle.numbers.specs.contracts.aggregates.Aggregate.{the_type}
 use Rattle.numbers.specs.declared.aggregates.Aggregate as A
 use Rattle.numbers.specs.declared.aggregates.Aggregate.TheVariants as AV
 use Rattle.plan.specs.Cells.{Room, room-less, Puts}
@@ -92,17 +94,24 @@ star-kind (is l a v) = refl
 kind-of : (c q : Bytes) (t : List ℕ) (r : ℕ) → kind_of (tree_at c q t r) ≡ kind_at t r
 kind-of c q t r = ap kind_of (tree-at c q t r) ∙ kind-at (tree_at c q t) c q t r
 
-pub starred-not : (a : A.Aggregate) (e : Expr) → (a ≡ AV.Count → ⊥) → false ≡ starred (aggregate_of a) e
+-- a star where the aggregate is `count`
+pub starred-count : (a : A.Aggregate) (c q : Bytes) (t : List ℕ) (r : ℕ) → sameb the_type a AV.Count ≡ true
+    → eqb (kind_at t r) 1 ≡ starred (aggregate_of a) (tree_at c q t r)
 unfolding starred is_count aggregate_of
-starred-not AV.Avg e h = refl
-starred-not AV.Count e h = absurd (h refl)
-starred-not AV.Max e h = refl
-starred-not AV.Min e h = refl
-starred-not AV.Sum e h = refl
+starred-count AV.Avg c q t r h = absurd (false≢true h)
+starred-count AV.Count c q t r h = rw (star-kind (tree_at c q t r), kind-of c q t r)
+starred-count AV.Max c q t r h = absurd (false≢true h)
+starred-count AV.Min c q t r h = absurd (false≢true h)
+starred-count AV.Sum c q t r h = absurd (false≢true h)
 
-pub starred-kind : (c q : Bytes) (t : List ℕ) (r : ℕ) → eqb (kind_at t r) 1 ≡ starred count (tree_at c q t r)
-unfolding starred is_count
-starred-kind c q t r = rw (star-kind (tree_at c q t r), kind-of c q t r)
+-- none where it is another
+pub starred-other : (a : A.Aggregate) (e : Expr) → sameb the_type a AV.Count ≡ false → false ≡ starred (aggregate_of a) e
+unfolding starred is_count aggregate_of
+starred-other AV.Avg e h = refl
+starred-other AV.Count e h = absurd (false≢true (sym h))
+starred-other AV.Max e h = refl
+starred-other AV.Min e h = refl
+starred-other AV.Sum e h = refl
 
 counted-star : (s : Scope) (n : ℕ) (g : Aggregate) (e : Expr) → starred g e ≡ true
     → emit_operand s n g e ≡ ok (C.constant (bool true) ∷ [], n + 1)

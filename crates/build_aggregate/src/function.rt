@@ -28,10 +28,7 @@ const TRUE: Literal = Literal {
 fn takes_star(table: &[u32], r: usize, aggregate: Aggregate) -> bool
     ensures { (c q : Bytes) → result ≡ starred (aggregate_of aggregate) (tree_at c q table.now r) }
 {
-    match aggregate {
-        Aggregate::Count => row::kind_of(table, r) == Kind::Star,
-        _ => false,
-    }
+    aggregate == Aggregate::Count && row::kind_of(table, r) == Kind::Star
 }
 
 // The argument at row r: the constant true for the star of `count`.

@@ -1,10 +1,11 @@
 // The groups and the functions of an aggregate node, by the rows of their expressions: cells in the area, and numbers in
 // the node's record.
-ghost use Rattle.std.specs.Prelude.{◌+◌, ◌*◌, ◌≤◌, length};
+ghost use Rattle.std.specs.Prelude.{◌*◌, length};
 ghost use Rattle.rules.specs.Ast.{size};
 ghost use Rattle.rules.specs.Sizes.{total};
 ghost use Rattle.ast.specs.Expressions.{tree_in};
 ghost use Rattle.plan.specs.Layout.{function_size};
+ghost use Rattle.plan.specs.Pushed.{NodeRoom};
 ghost use Rattle.plan.specs.Cells.{Room};
 ghost use Rattle.build_aggregate.specs.Entries.{Adds, AddsAll};
 ghost use Rattle.build_aggregate.specs.Kinds.{groups_listing, functions_listing};
@@ -28,7 +29,7 @@ fn add_group(
     cell: u32,
 ) -> Result<u32, Refusal>
     requires room { Room cell (3 * size (tree_in exprs.now r)) area.old }
-    requires nodes_room { nodes.old.used + 1 ≤ length nodes.old.numbers.now }
+    requires nodes_room { NodeRoom 1 nodes.old }
     ensures { Adds (groups_listing exprs.now.texts.catalog.now exprs.now.texts.statement.now exprs.now.table.now
         scope.now.labels.now scope.now.matches.now scope.now.tables.now)
         (tree_in exprs.now r)
@@ -49,7 +50,7 @@ fn add_function(
     cell: u32,
 ) -> Result<u32, Refusal>
     requires room { Room cell (3 * size (tree_in exprs.now r)) area.old }
-    requires nodes_room { nodes.old.used + function_size ≤ length nodes.old.numbers.now }
+    requires nodes_room { NodeRoom function_size nodes.old }
     ensures { Adds (functions_listing exprs.now.texts.catalog.now exprs.now.texts.statement.now exprs.now.table.now
         scope.now.labels.now scope.now.matches.now scope.now.tables.now)
         (tree_in exprs.now r)
@@ -73,7 +74,7 @@ pub fn build_groups(
     cell: u32,
 ) -> Result<u32, Refusal>
     requires room { Room cell (3 * total (λ r. size (tree_in exprs.now r)) rows.now) area.old }
-    requires nodes_room { nodes.old.used + length rows.now ≤ length nodes.old.numbers.now }
+    requires nodes_room { NodeRoom (length rows.now) nodes.old }
     ensures { AddsAll (groups_listing exprs.now.texts.catalog.now exprs.now.texts.statement.now exprs.now.table.now
         scope.now.labels.now scope.now.matches.now scope.now.tables.now)
         (tree_in exprs.now) rows.now
@@ -97,7 +98,7 @@ pub fn build_functions(
     cell: u32,
 ) -> Result<u32, Refusal>
     requires room { Room cell (3 * total (λ r. size (tree_in exprs.now r)) rows.now) area.old }
-    requires nodes_room { nodes.old.used + function_size * length rows.now ≤ length nodes.old.numbers.now }
+    requires nodes_room { NodeRoom (function_size * length rows.now) nodes.old }
     ensures { AddsAll (functions_listing exprs.now.texts.catalog.now exprs.now.texts.statement.now exprs.now.table.now
         scope.now.labels.now scope.now.matches.now scope.now.tables.now)
         (tree_in exprs.now) rows.now

@@ -18,7 +18,8 @@ use Rattle.appends.specs.Lists.Each.{after, after_none}
 use Rattle.appends.specs.Lists.Kinds.{emit_firsts}
 use Rattle.appends.specs.Lists.Entry.{key_step, key-refused}
 use Rattle.appends.specs.Lists.Loops.{firsts-step, firsts-stop, firsts-done}
-use Rattle.ast.specs.Table.{table_size, tree_at}
+use Rattle.ast.specs.Table.{tree_at}
+use Rattle.sections.specs.Expressions.{outside_row}
 use Rattle.sections.specs.Layout.{section_at}
 use Rattle.sections.specs.Access.{order_kind, numbers_at, descends, after-drop}
 use Rattle.sections.specs.Expressions.{expr_row}
@@ -173,12 +174,12 @@ module _ (c q : Bytes) (t parts : List ℕ) {i x : ℕ} (e : x ≡ length (secti
 
 module _ {c q : Bytes} {t parts xs ms ts : List ℕ} {n : ℕ} {area₀ : List ℕ} {nodes₀ : Nodes} {i p : ℕ} {area : List ℕ} {nodes : Nodes}
     (u : Putting c q t parts xs ms ts n area₀ nodes₀ i p area nodes) where
-  module _ (size_is : length t ≡ table_size) (l : i < length (keys_at c q t parts)) (e : Entry)
+  module _ (size_is : length t ≤ outside_row) (l : i < length (keys_at c q t parts)) (e : Entry)
       (g : e ≡ numbers_at parts order_kind i) (d : Bool) (y : d ≡ descends parts i) where
     key_here_lem : drop i (keys_at c q t parts) ≡ key_of c q t e d ∷ drop (suc i) (keys_at c q t parts)
     key_here_lem = after-drop i (keys_at c q t parts) (key_of c q t e d)
         (key-at c q t parts order_kind i e g
-        (omega (arith, l, map-length to_key (section_at c q t parts order_kind))) (omega (arith, size_is)) d y)
+        (omega (arith, l, map-length to_key (section_at c q t parts order_kind))) size_is d y)
 
     size-here : keys_size (drop i (keys_at c q t parts))
         ≡ size (tree_at c q t (expr_row e)) + keys_size (drop (suc i) (keys_at c q t parts))

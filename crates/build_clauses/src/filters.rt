@@ -59,8 +59,8 @@ pub fn build_where(
     build_filter(exprs, clause.row, scope, area, nodes, at)
 }
 
-// HAVING, which wants a group or an aggregate. (It does not end in build_where, whose contract says that a stage is made: HAVING
-// makes a node.)
+// HAVING, which wants a group or an aggregate. (A function for both clauses would be given HAVING's test as a flag, to save `let else`
+// and the last line.)
 pub fn build_having(
     exprs: &Expressions,
     clause: Option<Clause>,

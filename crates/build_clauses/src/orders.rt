@@ -1,11 +1,11 @@
 // ORDER: the cells of its keys, and an order behind the node before it.
-ghost use Rattle.std.specs.Prelude.{◌≡◌, ◌+◌, ◌*◌, ◌≤◌, length};
+ghost use Rattle.std.specs.Prelude.{◌+◌, ◌*◌, length};
 ghost use Rattle.rules.specs.Ast.{size};
 ghost use Rattle.rules.specs.Sizes.{keys_size};
-ghost use Rattle.ast.specs.Table.{table_size};
 ghost use Rattle.ast.specs.Expressions.{tree_in};
 ghost use Rattle.sections.specs.Expressions.{expr_row};
 ghost use Rattle.plan.specs.Layout.{source_head, key_size};
+ghost use Rattle.plan.specs.Pushed.{NodeRoom};
 ghost use Rattle.plan.specs.Cells.{Room};
 ghost use Rattle.build_clauses.specs.Follows.{Follows};
 ghost use Rattle.build_clauses.specs.Keys.{keys_at, KeyPut, KeysPut};
@@ -33,7 +33,7 @@ fn put_key(
     cell: u32,
 ) -> Result<u32, Refusal>
     requires room { Room cell (3 * size (tree_in exprs.now (expr_row e))) area.old }
-    requires nodes_room { nodes.old.used + key_size ≤ length nodes.old.numbers.now }
+    requires nodes_room { NodeRoom key_size nodes.old }
     ensures { KeyPut exprs.now.texts.catalog.now exprs.now.texts.statement.now exprs.now.table.now
         scope.now.labels.now scope.now.matches.now scope.now.tables.now
         e descending cell area.old nodes.old area.new nodes.new result }
@@ -53,12 +53,10 @@ fn put_keys(
     nodes: &mut Nodes,
     cell: u32,
 ) -> Result<u32, Refusal>
-    requires cells_len { length exprs.now.table.now ≡ table_size }
     requires room { Room cell (3 * keys_size (keys_at exprs.now.texts.catalog.now exprs.now.texts.statement.now
         exprs.now.table.now parts.now)) area.old }
-    requires nodes_room { nodes.old.used + key_size * length (keys_at exprs.now.texts.catalog.now
-        exprs.now.texts.statement.now exprs.now.table.now parts.now)
-        ≤ length nodes.old.numbers.now }
+    requires nodes_room { NodeRoom (key_size * length (keys_at exprs.now.texts.catalog.now
+        exprs.now.texts.statement.now exprs.now.table.now parts.now)) nodes.old }
     ensures { KeysPut exprs.now.texts.catalog.now exprs.now.texts.statement.now exprs.now.table.now parts.now
         scope.now.labels.now scope.now.matches.now scope.now.tables.now
         cell area.old nodes.old area.new nodes.new result }
@@ -81,7 +79,6 @@ pub fn build_order(
     nodes: &mut Nodes,
     at: Step,
 ) -> Result<Step, Refusal>
-    requires cells_len { length exprs.now.table.now ≡ table_size }
     requires room { Room at.cell (3 * keys_size (keys_at exprs.now.texts.catalog.now exprs.now.texts.statement.now
         exprs.now.table.now parts.now)) area.old }
     requires follows { Follows (source_head + key_size * length (keys_at exprs.now.texts.catalog.now

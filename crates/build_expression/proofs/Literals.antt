@@ -1,18 +1,15 @@
--- A literal and a name by the numbers that were read from their row.
+-- A literal by the numbers that were read from its row.
 use mathlib.Core.Path.{◌≡◌, sym, ap, ◌∙◌}
 use mathlib.Core.Bool.{Bool}
 use mathlib.Core.List.{List, [], ◌∷◌}
 use Prim.Native.Nat.{ℕ}
-use Rattle.rules.specs.Lists.{Bytes, same}
-use Rattle.rules.specs.Lines.{bytes}
-use Rattle.rules.specs.Places.{bytes_at, word_at}
+use Rattle.rules.specs.Lists.{Bytes}
 use Rattle.rules.specs.BuildExpression.{is_null_or_nan}
 use Rattle.rules.specs.Cells as C
 use Rattle.numbers.specs.Literals.{literal_value}
 use Rattle.numbers.specs.declared.literals.Literal.{Literal}
-use Rattle.ast.specs.Row.{literal_at, row_literal, row-literal, name_address, name_length}
+use Rattle.ast.specs.Row.{literal_at, row_literal, row-literal}
 use Rattle.plan.specs.Cells.{Puts}
-use Rattle.build_expression.specs.Calls.{sqrt_named}
 
 module _ (c q : Bytes) (t : List ℕ) (r : ℕ) {l : Literal} (h : l ≡ literal_at t r) where
   -- whether `is` takes it
@@ -27,8 +24,3 @@ module _ (c q : Bytes) (t : List ℕ) (r : ℕ) {l : Literal} (h : l ≡ literal
   pub is-cell : {n x : ℕ} {area area' : List ℕ} → Puts n (C.is x (literal_value c q l) ∷ []) area area'
       → Puts n (C.is x (row_literal c q t r) ∷ []) area area'
   is-cell p = rw (row-literal c q t r h) at p
-
-pub sqrt-name : (c q : Bytes) (t : List ℕ) (r a n : ℕ) (x : Bool) → a ≡ name_address t r → n ≡ name_length t r
-    → x ≡ same (bytes_at c q a n) (bytes "sqrt") → x ≡ sqrt_named c q t r
-unfolding word_at
-sqrt-name c q t r a n x ha hn h = h ∙ (λ i. same (bytes_at c q (ha i) (hn i)) (bytes "sqrt"))

@@ -30,7 +30,8 @@ use Rattle.numbers.specs.declared.operators.Unary.TheVariants as U
 use Rattle.numbers.specs.declared.refusals.Reason.TheVariants as Re
 use Rattle.plan.specs.Emits.{Written, Emits, accepts, refuses, emits-same}
 use Rattle.build_expression.specs.Rows.{column_step, literal_step, column-is, unary-is, root_is, is-is, binary-is}
-use Rattle.build_expression.specs.Calls.{root_of, is-root, no-root, one_argument, call-unknown}
+use Rattle.ast.specs.Called.{is_root_call}
+use Rattle.build_expression.specs.Calls.{is-root, no-root, one_argument, call-unknown}
 use Rattle.build_expression.specs.Builds.{scope_at, Builds, Unmatched, unmatched, Operates, BeginsAs, Begins}
 use Rattle.numbers.specs.declared.refusals.Refusal.{Refusal}
 use Rattle.build_expression.specs.declared.Begun.{Begun}
@@ -162,7 +163,7 @@ module _ (c q : Bytes) (t xs ms ts : List ℕ) (r n : ℕ) (area area' : List �
 
     -- CALLS
     module _ (kind : kind_at t r ≡ 4) where
-      pub begins-root : root_of c q t r ≡ true → area' ≡ area
+      pub begins-root : is_root_call c q t r ≡ true → area' ≡ area
           → Begins c q t xs ms ts r n area area' (Ok (B.Operands (O.Unary U.SquareRoot)))
       unfolding BeginsAs Operates unary_operator size size_all
       begins-root e g =
@@ -180,7 +181,7 @@ module _ (c q : Bytes) (t xs ms ts : List ℕ) (r n : ℕ) (area area' : List �
             );
           }
 
-      pub begins-unknown : (l : ℕ) → root_of c q t r ≡ false → l ≡ line_at t r → length area' ≡ length area
+      pub begins-unknown : (l : ℕ) → is_root_call c q t r ≡ false → l ≡ line_at t r → length area' ≡ length area
           → Begins c q t xs ms ts r n area area' (Err (record { reason = Re.UnknownFunction; line = l }))
       unfolding named
       begins-unknown l e f g = whole _ _ (call-tree c q t r kind) (λ h. refuses unknown_function (line_at t r) Re.UnknownFunction l g refl f

@@ -9,7 +9,8 @@ use Rattle.rules.specs.Refusals.{ok}
 use Rattle.rules.specs.Lists.{Bytes, concat}
 use Rattle.rules.specs.Ast.{Expr, size}
 use Rattle.rules.specs.Cells.{Cell}
-use Rattle.rules.specs.Area.{option_number}
+use Rattle.rules.specs.Places.{word_at}
+use Rattle.rules.specs.Area.{option_number, span, option_span}
 use Rattle.rules.specs.Scope.{Scope}
 use Rattle.rules.specs.Sizes.{option_size}
 use Rattle.appends.specs.Area.{cells_numbers}
@@ -17,6 +18,9 @@ use Rattle.appends.specs.Expressions.Emit.{emit}
 use Rattle.appends.specs.Expressions.Option.{emit_option, option-none, option-step, option-stop}
 use Rattle.numbers.specs.Options.{option_of}
 use Rattle.numbers.specs.declared.refusals.Refusal.{Refusal}
+use Rattle.text.specs.Places.{option_numbers, clipped_place}
+use Rattle.text.specs.declared.places.Place.{Place}
+use Rattle.ast.specs.Names.{option_name}
 use Rattle.ast.specs.Table.{tree_at}
 use Rattle.plan.specs.Layout.{cells_end}
 use Rattle.plan.specs.Cells.{Room}
@@ -97,9 +101,16 @@ module _ (c q : Bytes) (t : List ℕ) {f : std.Option ℕ} where
             };
           }
 
--- what a closure that gives the row of each gives of one that may be missing
-pub rows-mapped : {A : Type 0} (row : A → ℕ) (o : std.Option A) (f : std.Option ℕ) {Q : A → ℕ → Type 0}
-    → MatchOption o (f ≡ std.None) (λ x. IsSomeAnd f (Q x)) → ((x : A) (r : ℕ) → Q x r → r ≡ row x) → f ≡ option_map row o
-rows-mapped row std.None f h g = h
-rows-mapped row (std.Some x) std.None h g = absurd h
-rows-mapped row (std.Some x) (std.Some r) h g = ap std.Some (g x r h)
+-- what a closure that gives a value of each gives of one that may be missing
+pub option-mapped : {A B : Type 0} (v : A → B) (o : std.Option A) (f : std.Option B) {Q : A → B → Type 0}
+    → MatchOption o (f ≡ std.None) (λ x. IsSomeAnd f (Q x)) → ((x : A) (y : B) → Q x y → y ≡ v x) → f ≡ option_map v o
+option-mapped v std.None f h g = h
+option-mapped v (std.Some x) std.None h g = absurd h
+option-mapped v (std.Some x) (std.Some y) h g = ap std.Some (g x y h)
+
+-- the numbers of a name that may be missing, cut to its text
+pub clipped-span : (c q : Bytes) (o : std.Option Place) {f : std.Option Place} → f ≡ clipped_place c q o
+    → option_span (option_name c q o) ≡ option_numbers f
+unfolding option_span span word_at option_name clipped_place
+clipped-span c q std.None e = rw e
+clipped-span c q (std.Some x) e = rw e

@@ -5,31 +5,21 @@ ghost use Rattle.rules.specs.Scope as rules;
 ghost use Rattle.ast.specs.Operands.{kind_at};
 ghost use Rattle.ast.specs.Row.{line_at, row_name, row_literal};
 ghost use Rattle.scope.specs.Scopes.{scope_from};
-ghost use Rattle.scope.specs.Lookup.{found_of, qualifier_of};
+ghost use Rattle.scope.specs.Lookup.{qualifier_of};
 ghost use Rattle.plan.specs.Cells.{Room};
 ghost use Rattle.plan.specs.Emits.{Emits};
 ghost use Rattle.build_expression.specs.Rows.{column_step, literal_step};
 ghost use Rattle.build_expression.specs.Builds.{Builds, Unmatched, Begins};
-ghost use Rattle.build_expression.specs.Calls.{root_of};
 
 use crate::{Begun, Operator};
 use ast::row::Kind;
+use ast::walk::is_root_call;
 use ast::{Expressions, row};
 use numbers::operators::Unary;
 use numbers::refusals::{Reason, Refusal};
 use plan::cells;
 use scope::view::View;
 use text::places::Place;
-
-// A column that was looked up, in a record at a line.
-fn found(f: Result<u32, Reason>, line: u32, area: &mut [u32], n: u32) -> Result<u32, Refusal>
-    requires { Room n 1 area.old }
-    ensures { Emits (column_step n line (found_of f)) n area.old area.new result }
-{
-    let i = f.map_err(|reason| reason.at(line))?;
-    cells::column(area, n, i);
-    Ok(n + 1)
-}
 
 // The column record at row r, under a qualifier.
 fn column(
@@ -49,8 +39,10 @@ fn column(
         (row_name exprs.now.texts.catalog.now exprs.now.texts.statement.now exprs.now.table.now r)))
         n area.old area.new result }
 {
-    let f = scope.lookup(&exprs.texts, qualifier, row::name(exprs.table, r));
-    found(f, row::line(exprs.table, r), area, n)
+    let found = scope.lookup(&exprs.texts, qualifier, row::name(exprs.table, r));
+    let i = found.map_err(|reason| reason.at(row::line(exprs.table, r)))?;
+    cells::column(area, n, i);
+    Ok(n + 1)
 }
 
 // A column record with a qualifier that is matched to no column.
@@ -73,16 +65,6 @@ pub fn qualified(
     column(exprs, r, scope, Some(qualifier), area, n)
 }
 
-// Whether the call at row r is of `sqrt` with one argument.
-fn is_root(exprs: &Expressions, r: usize) -> bool
-    ensures { result ≡ root_of exprs.now.texts.catalog.now exprs.now.texts.statement.now exprs.now.table.now r }
-{
-    if row::arguments(exprs.table, r) != 1 {
-        return false;
-    }
-    exprs.texts.holds_at(row::name(exprs.table, r), b"sqrt")
-}
-
 // The literal record at row r.
 fn literal(exprs: &Expressions, r: usize, area: &mut [u32], n: u32) -> u32
     requires { Room n 1 area.old }
@@ -102,7 +84,7 @@ fn call(exprs: &Expressions, r: usize) -> Result<Begun, Refusal>
         → Unmatched exprs.now.texts.catalog.now exprs.now.texts.statement.now exprs.now.table.now ms r
         → Begins exprs.now.texts.catalog.now exprs.now.texts.statement.now exprs.now.table.now xs ms ts r n area area result }
 {
-    if is_root(exprs, r) {
+    if is_root_call(exprs, r) {
         return Ok(Begun::Operands(Operator::Unary(Unary::SquareRoot)));
     }
     Err(Reason::UnknownFunction.at(row::line(exprs.table, r)))

@@ -50,12 +50,12 @@ fn build_tree(
         Begun::Whole(next) => Ok(next),
         Begun::Operands(operator) => {
             let left = r + 1;
-            let right = rows::next(exprs.table, left);
             let m = build_tree(exprs, left, scope, area, n)?;
             match operator {
                 Operator::Unary(unary) => Ok(operators::unary(area, m, unary)),
                 Operator::Is => operators::is(exprs.table, r, area, m),
                 Operator::Binary => {
+                    let right = rows::next(exprs.table, left);
                     let k = build_tree(exprs, right, scope, area, m)?;
                     Ok(operators::binary(exprs.table, r, area, m, k))
                 }
@@ -93,10 +93,8 @@ pub fn build_item(
         scope.now.labels.now scope.now.matches.now scope.now.tables.now
         r n area.old area.new result }
 {
-    if scope.matches.len() == 0 {
-        if kind_of(exprs.table, r) == Kind::Qualified {
-            return leaves::qualified(exprs, r, scope, area, n);
-        }
+    if scope.matches.is_empty() && kind_of(exprs.table, r) == Kind::Qualified {
+        return leaves::qualified(exprs, r, scope, area, n);
     }
     build_tree(exprs, r, scope, area, n)
 }

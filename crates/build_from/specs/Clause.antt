@@ -36,7 +36,7 @@ use Rattle.plan.specs.Pushed.{Kept, Pushed}
 use Rattle.plan.specs.declared.nodes.Nodes.{Nodes}
 use Rattle.plan.specs.Cells.{Room}
 use Rattle.plan.specs.Steps.{RefusedWith, stands_one, Standing}
-use Rattle.build_from.specs.declared.Source.{Source}
+use Rattle.stage.specs.declared.Stage.{Stage}
 
 -- ROOM
 -- the catalog's numbers ts stand for tables that were read, the items fs are of the statement that was, and there is room
@@ -72,7 +72,7 @@ clause-room {c} {q} {ts} {fs} d h e a n l z =
 -- THE CONTRACT
 -- accepted: the clause's scope, and its node from the first cell on, whose labels are the scope's
 pub record ClauseAccepted (c q : Bytes) (ts cells : List ℕ) (fs : List From) (area : List ℕ) (nodes : Nodes)
-    (area' : List ℕ) (nodes' : Nodes) (x : Source) : Type 0 where
+    (area' : List ℕ) (nodes' : Nodes) (x : Stage) : Type 0 where
   pub valid : Valid x.scope
   pub plain : Plain x.scope
   pub count : x.scope.count ≤ most_from_tables
@@ -85,7 +85,7 @@ pub record ClauseAccepted (c q : Bytes) (ts cells : List ℕ) (fs : List From) (
   pub qualified : All IsQualified (columns_of c q (table_numbers x.scope) (labels_of x.scope))
 
 pub record ClauseBuilds (c q : Bytes) (ts cells : List ℕ) (fs : List From) (area : List ℕ) (nodes : Nodes)
-    (area' : List ℕ) (nodes' : Nodes) (r : Result Source Refusal) : Type 0 where
+    (area' : List ℕ) (nodes' : Nodes) (r : Result Stage Refusal) : Type 0 where
   pub kept : length area' ≡ length area
   pub kept-nodes : Kept nodes nodes'
   pub is : MatchResult r (ClauseAccepted c q ts cells fs area nodes area' nodes')
@@ -106,7 +106,7 @@ module _ (c q : Bytes) (ts cells : List ℕ) (fs : List From) (s : Scope) (d : N
 pub clause-none : (c q : Bytes) (ts cells area : List ℕ) {nodes nodes' : Nodes} {s : Scope} → New s → nodes.used ≡ 0
     → Pushed (record_numbers (values ([] ∷ []))) nodes nodes'
     → ClauseBuilds c q ts cells [] area nodes area nodes'
-    (Ok (record { scope = s; line = 0; at = record { cell = 0; node = 1 } }))
+    (Ok (record { scope = s; at = record { cell = 0; node = 1 } }))
 unfolding cells_numbers concat
 clause-none c q ts cells area {s = x} s z a =
     let o = from-none (catalog_at c q ts) 0 0 in

@@ -298,9 +298,8 @@ module _ {c q : Bytes} {cells froms : List ℕ} {r : ℕ} {a b : Source} {area :
           → Pushed (record_numbers (remap b.at.node (swapped a.scope.width b.scope.width))) nodes' nodes''
           → Swapped s a.scope.width b.scope.width s' → l ≡ line_at froms r
           → Joins c q cells froms r a b area nodes area' nodes''
-          (Ok (record { scope = s'; line = l; at = record { cell = p.cell; node = b.at.node + 2 } }))
+          (Ok (record { scope = s'; line = l; at = record { cell = p.cell; node = b.at.node + 1 + 1 } }))
       join-swapped n w y el =
-          let o : b.at.node + 2 ≡ b.at.node + 1 + 1 = omega arith in
           record {
             kept = (over (Ok p) d).kept;
             kept-nodes = kept-on j.kept w.kept;
@@ -310,7 +309,7 @@ module _ {c q : Bytes} {cells froms : List ℕ} {r : ℕ} {a b : Source} {area :
               count = y.count ∙ g.is.count;
               more = omega arith;
               few = omega (arith, join-in-use, h.few, w.appended.next, remap-size b.at.node (swapped a.scope.width b.scope.width));
-              laid = λ cat f f' i area₀ nodes₀ e. rw (y.is (tree_at c q cells) c q, el, o)
+              laid = λ cat f f' i area₀ nodes₀ e. rw (y.is (tree_at c q cells) c q, el)
                   (laid-swapped cat f f' i area₀ nodes₀ e (sym n) w);
             };
           }

@@ -14,7 +14,7 @@ use Rattle.rules.specs.Cells.{Cell}
 use Rattle.rules.specs.Nodes.{NodeRecord, join}
 use Rattle.rules.specs.Area.{record_numbers}
 use Rattle.rules.specs.Scope as rules
-use Rattle.rules.specs.Stage.{Stage}
+use Rattle.rules.specs.Stage as stages
 use Rattle.rules.specs.BuildFrom.{merge_into, build_from, build_later_items}
 use Rattle.rules.specs.Sizes.{from_size}
 use Rattle.claims.specs.Reading.Limits.{from_tables}
@@ -28,6 +28,7 @@ use Rattle.ast.specs.Table.{tree_at}
 use Rattle.schema.specs.Layout.{catalog_at}
 use Rattle.scope.specs.Scopes.{scope_of, Valid, Plain}
 use Rattle.scope.specs.declared.Scope.{Scope}
+use Rattle.stage.specs.declared.Stage.{Stage}
 use Rattle.plan.specs.Layout.{join_size}
 use Rattle.plan.specs.Pushed.{Kept, kept-on, Pushed}
 use Rattle.plan.specs.declared.nodes.Nodes.{Nodes}
@@ -41,7 +42,7 @@ use Rattle.build_from.specs.declared.Source.{Source}
 
 -- THE RULE
 -- one item behind a node with scope s
-abbrev pub later_item : Catalog → From → rules.Scope → Node Built → Answer Stage
+abbrev pub later_item : Catalog → From → rules.Scope → Node Built → Answer stages.Stage
 later_item cat f s d = build_later_items cat (f ∷ []) (stage_of d s)
 
 -- one answer after another, and a third behind both
@@ -58,7 +59,7 @@ then-third k (ok a) y z = then-last k (y a) (z a)
 then-third k (refused w) y z = refl
 
 -- the items behind it stand on what it leaves
-module _ (cat : Catalog) (f : From) (fs : List From) (r : Stage) where
+module _ (cat : Catalog) (f : From) (fs : List From) (r : stages.Stage) where
   later-behind : build_later_items cat (f ∷ fs) r ≡ (build_later_items cat (f ∷ []) r >>= build_later_items cat fs)
   unfolding build_later_items
   later-behind = then-third (build_later_items cat fs) (build_from cat f) (merge_into r.scope)
@@ -68,13 +69,13 @@ module _ (cat : Catalog) (f : From) (fs : List From) (r : Stage) where
       → build_later_items cat (f ∷ fs) r ≡ refused w
   later-stops w e = later-behind ∙ bind-refused _ _ w e
 
-  pub later-goes : (t : Stage) → build_later_items cat (f ∷ []) r ≡ ok t
+  pub later-goes : (t : stages.Stage) → build_later_items cat (f ∷ []) r ≡ ok t
       → build_later_items cat (f ∷ fs) r ≡ build_later_items cat fs t
   later-goes t e = later-behind ∙ bind_ok _ _ t e
 
 -- THE CONTRACT
 -- the clause a so far, and room for the item f and the join behind it
-pub record LaterRoom (c q : Bytes) (ts : List ℕ) (f : From) (a : Source) (area : List ℕ) (nodes : Nodes) : Type 0 where
+pub record LaterRoom (c q : Bytes) (ts : List ℕ) (f : From) (a : Stage) (area : List ℕ) (nodes : Nodes) : Type 0 where
   pub valid : Valid a.scope
   pub plain : Plain a.scope
   pub some : 0 < a.at.node
@@ -82,8 +83,8 @@ pub record LaterRoom (c q : Bytes) (ts : List ℕ) (f : From) (a : Source) (area
   pub item : ItemRoom c q ts f a.at area nodes
   pub numbers : nodes.used + table_room * from_tables f ≤ length nodes.numbers.now
 
-pub record LaterAccepted (c q : Bytes) (ts cells : List ℕ) (f : From) (a : Source) (area : List ℕ) (nodes : Nodes)
-    (area' : List ℕ) (nodes' : Nodes) (x : Source) : Type 0 where
+pub record LaterAccepted (c q : Bytes) (ts cells : List ℕ) (f : From) (a : Stage) (area : List ℕ) (nodes : Nodes)
+    (area' : List ℕ) (nodes' : Nodes) (x : Stage) : Type 0 where
   pub valid : Valid x.scope
   pub plain : Plain x.scope
   pub count : x.scope.count ≡ a.scope.count + from_tables f
@@ -95,15 +96,15 @@ pub record LaterAccepted (c q : Bytes) (ts cells : List ℕ) (f : From) (a : Sou
       (later_item (catalog_at c q ts) f (scope_of (tree_at c q cells) c q a.scope))
       a.at.cell a.at.node area nodes x.at.cell x.at.node area' nodes'
 
-pub record LaterBuilds (c q : Bytes) (ts cells : List ℕ) (f : From) (a : Source) (area : List ℕ) (nodes : Nodes)
-    (area' : List ℕ) (nodes' : Nodes) (r : Result Source code.Refusal) : Type 0 where
+pub record LaterBuilds (c q : Bytes) (ts cells : List ℕ) (f : From) (a : Stage) (area : List ℕ) (nodes : Nodes)
+    (area' : List ℕ) (nodes' : Nodes) (r : Result Stage code.Refusal) : Type 0 where
   pub kept : length area' ≡ length area
   pub kept-nodes : Kept nodes nodes'
   pub is : MatchResult r (LaterAccepted c q ts cells f a area nodes area' nodes')
       (StoppedWith (later_item (catalog_at c q ts) f (scope_of (tree_at c q cells) c q a.scope)) a.at.cell a.at.node)
 
 -- THE RETURNS
-module _ {c q : Bytes} {ts : List ℕ} {f : From} {a : Source} {area : List ℕ} {nodes : Nodes}
+module _ {c q : Bytes} {ts : List ℕ} {f : From} {a : Stage} {area : List ℕ} {nodes : Nodes}
     (h : LaterRoom c q ts f a area nodes) where
   pub later-unbuilt : {cells area₁ : List ℕ} {nodes₁ : Nodes} {w : code.Refusal} → Builds c q ts cells f a.at area nodes area₁ nodes₁ (Err w)
       → LaterBuilds c q ts cells f a area nodes area₁ nodes₁ (Err w)
@@ -181,7 +182,7 @@ module _ {c q : Bytes} {ts : List ℕ} {f : From} {a : Source} {area : List ℕ}
               }
 
       pub later-joined : LaterBuilds c q ts cells f a area nodes area₁ nodes'
-          (Ok (record { scope = s; line = b.line; at = record { cell = b.at.cell; node = b.at.node + 1 } }))
+          (Ok (record { scope = s; at = record { cell = b.at.cell; node = b.at.node + 1 } }))
       later-joined = record {
         kept = d.kept;
         kept-nodes = kept-on d.kept-nodes j.kept;

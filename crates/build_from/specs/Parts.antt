@@ -34,10 +34,11 @@ use Rattle.build_from.specs.Items.{laid_cells, laid-numbers}
 use Rattle.build_from.specs.Later.{later-stops, later-goes, LaterRoom, LaterBuilds}
 use Rattle.build_from.specs.Clause.{ClauseRoom, ClauseBuilds, clause-labels, clause-qualified}
 use Rattle.build_from.specs.declared.Source.{Source}
+use Rattle.stage.specs.declared.Stage.{Stage}
 
 -- the clause a without the items gs that are left: what stands, and room for those
 pub record PartAccepted (c q : Bytes) (ts cells : List ℕ) (fs gs : List From) (area₀ : List ℕ) (nodes₀ : Nodes)
-    (area : List ℕ) (nodes : Nodes) (a : Source) : Type 0 where
+    (area : List ℕ) (nodes : Nodes) (a : Stage) : Type 0 where
   pub valid : Valid a.scope
   pub plain : Plain a.scope
   pub some : 0 < a.at.node
@@ -54,6 +55,10 @@ pub record PartAccepted (c q : Bytes) (ts cells : List ℕ) (fs gs : List From) 
 -- nothing is built
 abbrev pub start : Step
 start = record { cell = 0; node = 0 }
+
+-- the clause of one item
+abbrev pub staged : Source → Stage
+staged a = record { scope = a.scope; at = a.at }
 
 -- the first item
 module _ {c q : Bytes} {ts : List ℕ} {fs : List From} {f : From} {gs : List From} {area₀ : List ℕ} {nodes₀ : Nodes}
@@ -84,7 +89,7 @@ module _ {c q : Bytes} {ts : List ℕ} {fs : List From} {f : From} {gs : List Fr
   }
 
   first-built : {cells area : List ℕ} {nodes : Nodes} {a : Source} → Builds c q ts cells f start area₀ nodes₀ area nodes (Ok a)
-      → PartAccepted c q ts cells fs gs area₀ nodes₀ area nodes a
+      → PartAccepted c q ts cells fs gs area₀ nodes₀ area nodes (staged a)
   unfolding All total
   first-built {cells} {a = a} d =
       let o = d.is in
@@ -119,7 +124,7 @@ module _ {c q : Bytes} {ts : List ℕ} {fs : List From} {f : From} {gs : List Fr
 
 -- a later one
 module _ {c q : Bytes} {ts cells : List ℕ} {fs gs : List From} {f : From} {gs' : List From}
-    {area₀ : List ℕ} {nodes₀ : Nodes} {area : List ℕ} {nodes : Nodes} {a : Source}
+    {area₀ : List ℕ} {nodes₀ : Nodes} {area : List ℕ} {nodes : Nodes} {a : Stage}
     (h : ClauseRoom c q ts fs area₀ nodes₀) (e : gs ≡ f ∷ gs')
     (p : PartAccepted c q ts cells fs gs area₀ nodes₀ area nodes a) where
   abbrev part : PartAccepted c q ts cells fs (f ∷ gs') area₀ nodes₀ area nodes a
@@ -155,7 +160,7 @@ module _ {c q : Bytes} {ts cells : List ℕ} {fs gs : List From} {f : From} {gs'
         (λ w i. part.is ∙ later-stops (catalog_at c q ts) f gs' _ w i);
   }
 
-  next_built : {area' : List ℕ} {nodes' : Nodes} {x : Source} → LaterBuilds c q ts cells f a area nodes area' nodes' (Ok x)
+  next_built : {area' : List ℕ} {nodes' : Nodes} {x : Stage} → LaterBuilds c q ts cells f a area nodes area' nodes' (Ok x)
       → PartAccepted c q ts cells fs gs' area₀ nodes₀ area' nodes' x
   unfolding All total
   next_built {x = x} d =
@@ -181,7 +186,7 @@ module _ {c q : Bytes} {ts cells : List ℕ} {fs gs : List From} {f : From} {gs'
 
 -- the whole: nothing is left
 pub part-whole : {c q : Bytes} {ts cells : List ℕ} {fs gs : List From} {area₀ : List ℕ} {nodes₀ : Nodes}
-    {area : List ℕ} {nodes : Nodes} {a : Source}
+    {area : List ℕ} {nodes : Nodes} {a : Stage}
     → PartAccepted c q ts cells fs gs area₀ nodes₀ area nodes a → gs ≡ []
     → ClauseBuilds c q ts cells fs area₀ nodes₀ area nodes (Ok a)
 part-whole {c} {q} {ts} {cells} {fs} {a = a} o e =
@@ -222,7 +227,7 @@ module _ (c q : Bytes) (ts cells froms : List ℕ) (n : ℕ) {area₀ : List ℕ
   items = froms_at c q cells froms n
 
   -- none
-  pub clause-empty : {nodes : Nodes} {x : Source} → j ≡ 0
+  pub clause-empty : {nodes : Nodes} {x : Stage} → j ≡ 0
       → ((b p : Bytes) (us xs ys : List ℕ) → ClauseBuilds b p us xs [] ys nodes₀ ys nodes (Ok x))
       → ClauseBuilds c q ts cells items area₀ nodes₀ area₀ nodes (Ok x)
   clause-empty z k = rw (nil_from_length items (froms-count c q cells froms n ∙ sym e ∙ z)) (k c q ts cells area₀)
@@ -244,11 +249,11 @@ module _ (c q : Bytes) (ts cells froms : List ℕ) (n : ℕ) {area₀ : List ℕ
 
     pub clause-first : {area : List ℕ} {nodes : Nodes} {a : Source}
         → Builds c q ts cells (from_at c q cells froms r) start area₀ nodes₀ area nodes (Ok a)
-        → PartAccepted c q ts cells items (drop 1 items) area₀ nodes₀ area nodes a
+        → PartAccepted c q ts cells items (drop 1 items) area₀ nodes₀ area nodes (staged a)
     clause-first d = first-built h (item-at 0 (omega (arith, z)) g) d
 
   -- item i, or none
-  module _ {i : ℕ} {area : List ℕ} {nodes : Nodes} {a : Source}
+  module _ {i : ℕ} {area : List ℕ} {nodes : Nodes} {a : Stage}
       (p : PartAccepted c q ts cells items (drop i items) area₀ nodes₀ area nodes a) where
     module _ (l : i < j) {r : ℕ} (g : r ≡ get_or (roots_at froms n) i 0) where
       pub clause-next-room : LaterRoom c q ts (from_at c q cells froms r) a area nodes
@@ -259,7 +264,7 @@ module _ (c q : Bytes) (ts cells froms : List ℕ) (n : ℕ) {area₀ : List ℕ
           → ClauseBuilds c q ts cells items area₀ nodes₀ area' nodes' (Err w)
       clause-next-refused d = next-refused h (item-at i l g) p d
 
-      pub clause-next : {area' : List ℕ} {nodes' : Nodes} {x : Source}
+      pub clause-next : {area' : List ℕ} {nodes' : Nodes} {x : Stage}
           → LaterBuilds c q ts cells (from_at c q cells froms r) a area nodes area' nodes' (Ok x)
           → PartAccepted c q ts cells items (drop (i + 1) items) area₀ nodes₀ area' nodes' x
       clause-next d = next_built h (item-at i l g) p d

@@ -22,19 +22,23 @@ rising-next i (suc n) =
     let z : i + suc n ≡ i + 1 + n = omega arith in
     ap (λ l. some i ∷ l) (rising-next (i + 1) n ∙ rw z)
 
--- j targets are pushed
-pub record Pushing (i j : ℕ) (s t : Nodes) : Type 0 where
-  pub is : Pushed (map option_number (rising i j)) s t
+-- the targets from i on before m are pushed
+pub record Pushing (i m : ℕ) (s t : Nodes) : Type 0 where
+  pub is : Pushed (map option_number (rising i (m - i))) s t
 
-pub pushing-begin : (i : ℕ) (s : Nodes) → s.used ≤ length s.numbers.now → Pushing i 0 s s
+pub pushing-begin : (i : ℕ) (s : Nodes) → s.used ≤ length s.numbers.now → Pushing i i s s
 unfolding rising
-pushing-begin i s h = record { is = pushed-none s h }
+pushing-begin i s h = let z : i - i ≡ 0 = omega arith in record { is = rw z (pushed-none s h) }
 
-pub pushing-more : {i j : ℕ} {s t u : Nodes} → Pushing i j s t → Pushed ((i + j + 1) ∷ []) t u → Pushing i (j + 1) s u
+pub pushing-more : {i m : ℕ} {s t u : Nodes} → i ≤ m → Pushing i m s t → Pushed ((m + 1) ∷ []) t u → Pushing i (m + 1) s u
 unfolding option_number
-pushing-more {i} {j} p a = record {
-  is = rw (add-one j, rising-next i j) (targets-on (rising i j) (some (i + j) ∷ []) p.is a);
-}
+pushing-more {i} {m} l p a =
+    let z : m + 1 - i ≡ suc (m - i) = omega (arith, l) in
+    let y : i + (m - i) ≡ m = omega (arith, l) in
+    record { is = rw (z, rising-next i (m - i), y) (targets-on (rising i (m - i)) (some m ∷ []) p.is a) }
+
+pub pushing-end : {i m : ℕ} (n : ℕ) {s t : Nodes} → m ≡ i + n → Pushing i m s t → Pushed (map option_number (rising i n)) s t
+pushing-end {i} {m} n e p = let z : m - i ≡ n = omega (arith, e) in rw z at p.is
 
 pub rising-end : (i n : ℕ) {s t : Nodes} → Pushed (map option_number (rising i n)) s t → t.used ≡ s.used + n
 rising-end i n {s} a =

@@ -5,6 +5,7 @@ use Rattle.std.proofs.Math.Path.{refl, sym}
 use mathlib.Core.Logic.{◌⊎◌, inl, inr}
 use Rattle.std.proofs.Math.Bool.{true, false}
 use Rattle.std.proofs.lemmas.Bool.{false≢true}
+use denote.Enum.Bare.{sameb}
 use Rattle.rules.specs.Lists.{Bytes}
 use Rattle.rules.specs.Ast.{Join, cross, inner, left, right, From}
 use Rattle.rules.specs.Ast as Ast
@@ -13,6 +14,7 @@ use Rattle.from.specs.Layout.{left_at, from_at}
 use Rattle.from.specs.Roots.{left_by, first-most}
 use Rattle.from.specs.Access.{line_at, kind_at, row_of, left_side, right_side, join-behind}
 use Rattle.from.proofs.RowKinds.{from-kind}
+use Rattle.from.specs.contracts.row.Kind.{the_type}
 use Rattle.from.specs.declared.row.Kind.{Kind}
 use Rattle.from.specs.declared.row.Kind.TheVariants as K
 use Rattle.build_from.specs.Tables.{table_row}
@@ -99,21 +101,23 @@ in-order (inr (inl e)) = (rw e, rw e)
 in-order (inr (inr e)) = (rw e, rw e)
 
 -- by a kind of join
-pub plain-kind : {k : Kind} → (k ≡ K.Table) ⊎ ((k ≡ K.Cross) ⊎ (k ≡ K.Inner))
-    → false ≡ outer_kind k
-plain-kind (inl e) = rw e
-plain-kind (inr (inl e)) = rw e
-plain-kind (inr (inr e)) = rw e
+pub plain-kind : (k : Kind) → (k ≡ K.Left → ⊥) → (k ≡ K.Right → ⊥) → false ≡ outer_kind k
+plain-kind K.Table f g = refl
+plain-kind K.Cross f g = refl
+plain-kind K.Inner f g = refl
+plain-kind K.Left f g = absurd (f refl)
+plain-kind K.Right f g = absurd (g refl)
 
 pub outer-joins : {k : Kind} → (k ≡ K.Left) ⊎ (k ≡ K.Right) → true ≡ outer_kind k
 outer-joins (inl e) = rw e
 outer-joins (inr e) = rw e
 
-pub not-right : {k : Kind} → (k ≡ K.Table) ⊎ ((k ≡ K.Cross) ⊎ ((k ≡ K.Inner) ⊎ (k ≡ K.Left))) → false ≡ right_kind k
-not-right (inl e) = rw e
-not-right (inr (inl e)) = rw e
-not-right (inr (inr (inl e))) = rw e
-not-right (inr (inr (inr e))) = rw e
+pub one-right : (k : Kind) → sameb the_type k K.Right ≡ right_kind k
+one-right K.Table = refl
+one-right K.Cross = refl
+one-right K.Inner = refl
+one-right K.Left = refl
+one-right K.Right = refl
 
 module _ (froms : List ℕ) (r : ℕ) {k : Kind} (e : k ≡ kind_at froms r) where
   pub behind : is_join k ≡ true → 1 ≤ r

@@ -19,8 +19,9 @@ use Rattle.appends.specs.Area.{cells_numbers}
 use Rattle.appends.specs.From.Merge.{table-found, table-unknown, table_step, table-refused}
 use Rattle.numbers.specs.Reasons.{named}
 use Rattle.numbers.specs.declared.refusals.Reason.TheVariants.{UnknownTable}
+use Rattle.numbers.specs.declared.refusals.Refusal.{Refusal}
 use Rattle.ast.specs.Table.{tree_at}
-use Rattle.text.specs.Places.{place_of, option_numbers}
+use Rattle.text.specs.Places.{place_of, option_numbers, clipped_place}
 use Rattle.text.specs.declared.places.Place.{Place}
 use Rattle.ast.specs.Names.{name_at, option_name, name-place}
 use Rattle.schema.specs.Layout.{table_at, catalog_at}
@@ -40,6 +41,7 @@ use Rattle.plan.specs.declared.nodes.Nodes.{Nodes}
 use Rattle.plan.specs.declared.steps.Step.{Step}
 use Rattle.plan.specs.Records.{records-first}
 use Rattle.plan.specs.Steps.{refused-at}
+use Rattle.build_expression.specs.Options.{clipped-span}
 use Rattle.build_from.specs.Sources.{ItemRoom, Builds}
 
 -- ROWS
@@ -94,17 +96,10 @@ Scans name alias nodes nodes' = (t : Table) (w : Option Word) → span t.name �
 module _ {c q : Bytes} {froms : List ℕ} {r : ℕ} {nodes nodes' : Nodes} {p n : Place} (ea : p.address ≡ name_address froms r)
     (em : p.length ≡ name_length froms r) (fa : n.address ≡ p.address) (fl : n.length ≡ length (bytes_at c q p.address p.length))
     {o : std.Option Place} (eo : o ≡ place_of (alias_address froms r) (alias_length froms r)) where
-  pub scanned-bare : o ≡ std.None → Scans n std.None nodes nodes' → Scanned c q froms r nodes nodes'
-  unfolding span option_span option_name named_by word_at
-  scanned-bare z h = record {
-    is = λ t. h _ _ (rw (fa, fl, ea, em)) (rw (alias-read c q froms r (sym z ∙ eo)));
-  }
-
-  pub scanned-alias : {b y : Place} → o ≡ std.Some b → y.address ≡ b.address → y.length ≡ length (bytes_at c q b.address b.length)
-      → Scans n (std.Some y) nodes nodes' → Scanned c q froms r nodes nodes'
-  unfolding span option_span option_name named_by word_at
-  scanned-alias z ya yl h = record {
-    is = λ t. h _ _ (rw (fa, fl, ea, em)) (rw (alias-read c q froms r (sym z ∙ eo), ya, yl));
+  pub scanned : {f : std.Option Place} → f ≡ clipped_place c q o → Scans n f nodes nodes' → Scanned c q froms r nodes nodes'
+  unfolding span named_by word_at
+  scanned e h = record {
+    is = λ t. h _ _ (rw (fa, fl, ea, em)) (rw (alias-read c q froms r eo) (clipped-span c q o e));
   }
 
 scan-size : (t : Table) (a : Option Word) → 1 ≤ length (record_numbers (scan t a none))
@@ -121,40 +116,38 @@ table-room h = (omega (arith, h.numbers), omega (arith, h.numbers, h.few, h.most
 -- THE ITEM
 module _ (c q : Bytes) (ts cells froms : List ℕ) (r : ℕ) {i : Step} {area : List ℕ} {nodes : Nodes}
     (h : ItemRoom c q ts (table_row c q froms r) i area nodes) {a s : ℕ} (ea : a ≡ name_address froms r)
-    (es : s ≡ name_length froms r) (f : std.Option ℕ)
-    (g : found_table c q ts f ≡ table_from 0 (catalog_at c q ts) (bytes_at c q a s)) where
-  found-is : map_option (λ (p : ℕ × Table). p.1) (found_table c q ts f)
-      ≡ get_table (catalog_at c q ts) (row_name c q froms r).bytes
+    (es : s ≡ name_length froms r) {l : ℕ} (el : l ≡ line_at froms r) {f : std.Result ℕ Refusal}
+    (g : schema.TablePosition c q ts (bytes_at c q a s) l f) where
+  found-is : (o : std.Option ℕ) → found_table c q ts o ≡ table_from 0 (catalog_at c q ts) (bytes_at c q a s)
+      → map_option (λ (p : ℕ × Table). p.1) (found_table c q ts o) ≡ get_table (catalog_at c q ts) (row_name c q froms r).bytes
   unfolding word_at
-  found-is = rw (g, ← ea, ← es) (schema.table-found 0 (catalog_at c q ts) (bytes_at c q a s))
+  found-is o h = rw (h, ← ea, ← es) (schema.table-found 0 (catalog_at c q ts) (bytes_at c q a s))
 
   -- no table has its name
-  pub table-missing : {l : ℕ} → f ≡ std.None → l ≡ line_at froms r
-      → Builds c q ts cells (table_row c q froms r) i area nodes area nodes
-      (Err (record { reason = UnknownTable; line = l }))
+  pub table-missing : (v : Refusal) → f ≡ Err v → Builds c q ts cells (table_row c q froms r) i area nodes area nodes (Err v)
   unfolding found_table map_option named refuse
-  table-missing e el =
-      let y : get_table (catalog_at c q ts) (row_name c q froms r).bytes ≡ none = sym found-is ∙ rw e in
-      record {
+  table-missing v e =
+      let m = schema.position-missing g v e in
+      let y : get_table (catalog_at c q ts) (row_name c q froms r).bytes ≡ none = sym (found-is std.None m.0) in
+      rw m.1 (record {
         kept = refl;
         kept-nodes = kept-all nodes;
         is = refused-at unknown_table (line_at froms r) UnknownTable _
             (table-refused (catalog_at c q ts) (line_at froms r) (row_name c q froms r) (row_alias c q froms r) _
             (table-unknown (catalog_at c q ts) (line_at froms r) (row_name c q froms r) y)) refl el;
-      }
+      })
 
   -- the i-th table has it
-  pub table-accepted : {s : Scope} {l j : ℕ} {nodes' : Nodes} → f ≡ std.Some j → FromNamed ts froms r j s
-      → Scanned c q froms r nodes nodes' → l ≡ line_at froms r
+  pub table-accepted : {s : Scope} {j : ℕ} {nodes' : Nodes} → f ≡ Ok j → FromNamed ts froms r j s
+      → Scanned c q froms r nodes nodes'
       → Builds c q ts cells (table_row c q froms r) i area nodes area nodes'
       (Ok (record { scope = s; line = l; at = record { cell = i.cell; node = i.node + 1 } }))
   unfolding found_table map_option from_tables named_by rules.from_table cells_numbers concat
-  table-accepted {s = x} {j = j} e o p el =
+  table-accepted {s = x} {j = j} e o p =
+      let z = schema.position-found g j e in
       let t = table_at c q ts j in
       let w = row_name c q froms r in
-      let y : get_table (catalog_at c q ts) w.bytes ≡ some t = sym found-is ∙ rw e in
-      let z : found_table c q ts (std.Some j) ≡ table_from 0 (catalog_at c q ts) (bytes_at c q a s) =
-      ap (found_table c q ts) (sym e) ∙ g in
+      let y : get_table (catalog_at c q ts) w.bytes ≡ some t = sym (found-is (std.Some j) z) in
       let u = rw (o.name c q) at (from-name (line_at froms r) w (row_alias c q froms r) h.parts) in
       let d : scope_of (tree_at c q cells) c q x ≡ rules.from_table (or_else (row_alias c q froms r) w) t =
       rw (o.name c q) (found_scope h.within ts refl j (bytes_at c q a s) z o.made u (tree_at c q cells)) in

@@ -10,7 +10,6 @@ use ast::Expressions;
 use from::row;
 use numbers::refusals::Refusal;
 use plan::nodes::{self, Nodes};
-use plan::steps::Step;
 
 // The join in row r of the sides a and b, a built before b: their scopes merged, its predicate over both, its record; the
 // columns of a right join swapped back.
@@ -30,29 +29,19 @@ pub fn build_join(
 {
     let first = a.scope.width;
     let second = b.scope.width;
-    let s = merge_scopes(&exprs.texts, a.scope, b.scope, b.line)?;
+    let s = merge_scopes(&exprs.texts, a.scope, &b.scope, b.line)?;
     let p = build_predicate(exprs, froms, r, &s.view(), area, b.at.cell)?;
-    let l = row::line(froms, r);
+    let line = row::line(froms, r);
     let outer = is_outer(froms, r);
-    let m = b.at.node;
-    nodes::join(nodes, a.at.node - 1, m - 1, outer, p.root);
+    nodes::join(nodes, a.at.node - 1, b.at.node - 1, outer, p.root);
+    let at = b.at.next(p.cell);
     if is_right(froms, r) {
-        push_remap(nodes, m, first, second);
+        push_remap(nodes, b.at.node, first, second);
         return Ok(Source {
             scope: s.swap(first, second),
-            line: l,
-            at: Step {
-                cell: p.cell,
-                node: m + 2,
-            },
+            line,
+            at: at.next(p.cell),
         });
     }
-    Ok(Source {
-        scope: s,
-        line: l,
-        at: Step {
-            cell: p.cell,
-            node: m + 1,
-        },
-    })
+    Ok(Source { scope: s, line, at })
 }

@@ -19,7 +19,7 @@ use plan::steps::Step;
 use rows::rows_of;
 use scope::Scope;
 
-// A FROM item, or the clause: its scope, its line, and how far building came.
+// A FROM item: its scope, its line, and how far building came.
 #[derive(Clone, Copy, Debug, PartialEq, Eq)]
 pub struct Source {
     pub scope: Scope,
@@ -44,8 +44,7 @@ pub fn build_from(
         (from_at exprs.now.texts.catalog.now exprs.now.texts.statement.now exprs.now.table.now froms.now r) at
         area.old nodes.old area.new nodes.new result }
 {
-    let rows = rows_of(froms, r);
-    match rows {
+    match rows_of(froms, r) {
         None => tables::build_table(exprs, tables, froms, r, nodes, at),
         Some(side) => {
             let first = build_from(exprs, tables, froms, side.first, area, nodes, at);

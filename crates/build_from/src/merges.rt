@@ -7,9 +7,9 @@ use scope::merging::may_merge;
 use text::places::Texts;
 
 // The scope of both, refused at a line.
-pub fn merge_scopes(texts: &Texts, a: Scope, b: Scope, line: u32) -> Result<Scope, Refusal>
-    requires { TwoScopes a b }
-    ensures { Merges texts.now.catalog.now texts.now.statement.now a b line result }
+pub fn merge_scopes(texts: &Texts, a: Scope, b: &Scope, line: u32) -> Result<Scope, Refusal>
+    requires { TwoScopes a b.now }
+    ensures { Merges texts.now.catalog.now texts.now.statement.now a b.now line result }
 {
     may_merge(texts, &a.view(), &b.view()).map_err(|reason| reason.at(line))?;
     Ok(a.merge(b))

@@ -4,19 +4,19 @@ ghost use Rattle.rules.specs.Nodes.{remap};
 ghost use Rattle.rules.specs.Area.{option_number, record_numbers};
 ghost use Rattle.rules.specs.BuildFrom.{rising, swapped};
 ghost use Rattle.plan.specs.Layout.{source_head, nodes_size};
-ghost use Rattle.plan.specs.Pushed.{Pushed};
+ghost use Rattle.plan.specs.Pushed.{NodeRoom, Pushed};
 
 use plan::nodes::{Kind, Nodes};
 use plan::parts;
 
 // The targets from i on, n of them.
 fn push_rising(nodes: &mut Nodes, i: u32, n: u32)
-    requires room { nodes.old.used + n ≤ length nodes.old.numbers.now }
+    requires room { NodeRoom n nodes.old }
     requires few { i + n < 4294967295 }
     ensures { Pushed (map option_number (rising i n)) nodes.old nodes.new }
 {
-    for j in 0..n {
-        nodes.push(i + j + 1);
+    for target in i..i + n {
+        nodes.push(target + 1);
     }
 }
 

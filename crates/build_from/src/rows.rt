@@ -18,8 +18,7 @@ pub fn rows_of(froms: &[u32], r: u32) -> Option<Sides>
     ensures { SidesAt froms.now r result }
 {
     let l = left(froms, r);
-    let kind = kind_of(froms, r);
-    match kind {
+    match kind_of(froms, r) {
         Kind::Table => None,
         Kind::Cross | Kind::Inner | Kind::Left => Some(Sides {
             first: l,
@@ -36,18 +35,12 @@ pub fn rows_of(froms: &[u32], r: u32) -> Option<Sides>
 pub fn is_outer(froms: &[u32], r: u32) -> bool
     ensures { result ≡ is_outer (join_at froms.now r) }
 {
-    match kind_of(froms, r) {
-        Kind::Table | Kind::Cross | Kind::Inner => false,
-        Kind::Left | Kind::Right => true,
-    }
+    matches!(kind_of(froms, r), Kind::Left | Kind::Right)
 }
 
 // Whether it is a right one.
 pub fn is_right(froms: &[u32], r: u32) -> bool
     ensures { result ≡ is_right (join_at froms.now r) }
 {
-    match kind_of(froms, r) {
-        Kind::Table | Kind::Cross | Kind::Inner | Kind::Left => false,
-        Kind::Right => true,
-    }
+    kind_of(froms, r) == Kind::Right
 }

@@ -1,16 +1,17 @@
 // A table of FROM: its scope under its alias or its name, and its scan.
-ghost use Rattle.std.specs.Prelude.{List, ℕ, ◌+◌, ◌≤◌, ◌<◌, ◌^◌, length};
+ghost use Rattle.std.specs.Prelude.{List, ℕ, ◌+◌, ◌<◌, ◌^◌};
 ghost use Rattle.plan.specs.Layout.{scan_size};
 ghost use Rattle.build_from.specs.Sources.{ItemRoom, Builds};
 ghost use Rattle.build_from.specs.Tables.{table_row, FromNamed, Scanned};
+ghost use Rattle.plan.specs.Pushed.{NodeRoom};
 
 use crate::Source;
 use ast::Expressions;
 use from::row;
-use numbers::refusals::{Reason, Refusal};
+use numbers::refusals::Refusal;
 use plan::nodes::{self, Nodes};
 use plan::steps::Step;
-use schema::get_table;
+use schema::find_table;
 use scope::Scope;
 use text::places::Texts;
 
@@ -25,14 +26,12 @@ fn named_scope(tables: &[u32], froms: &[u32], r: u32, i: u32) -> Scope
 // The scan of the table in row r.
 #[tactic(auto, unfolding(rules::specs::Area::option_number))]
 fn scan_row(texts: &Texts, froms: &[u32], r: u32, nodes: &mut Nodes)
-    requires { nodes.old.used + scan_size ≤ length nodes.old.numbers.now }
+    requires { NodeRoom scan_size nodes.old }
     ensures { Scanned texts.now.catalog.now texts.now.statement.now froms.now r nodes.old nodes.new }
 {
     let name = texts.clipped(row::name(froms, r));
-    match row::alias(froms, r) {
-        None => nodes::scan(nodes, name, None, None),
-        Some(alias) => nodes::scan(nodes, name, Some(texts.clipped(alias)), None),
-    }
+    let alias = texts.clipped_option(row::alias(froms, r));
+    nodes::scan(nodes, name, alias, None);
 }
 
 // The item in row r, which is a table. It makes no cell: the area, whatever it is, stays as it was.
@@ -44,7 +43,7 @@ pub fn build_table(
     nodes: &mut Nodes,
     at: Step,
 ) -> Result<Source, Refusal>
-    requires nodes_room { nodes.old.used + scan_size ≤ length nodes.old.numbers.now }
+    requires nodes_room { NodeRoom scan_size nodes.old }
     requires next_node { at.node + 1 < 2 ^ 32 }
     ensures { (area : List ℕ) → ItemRoom exprs.now.texts.catalog.now exprs.now.texts.statement.now tables.now
         (table_row exprs.now.texts.catalog.now exprs.now.texts.statement.now froms.now r) at area nodes.old
@@ -54,10 +53,7 @@ pub fn build_table(
 {
     let l = row::line(froms, r);
     let name = row::name(froms, r);
-    let found = get_table(&exprs.texts, tables, name);
-    let Some(i) = found else {
-        return Err(Reason::UnknownTable.at(l));
-    };
+    let i = find_table(&exprs.texts, tables, name, l)?;
     let s = named_scope(tables, froms, r, i);
     scan_row(&exprs.texts, froms, r, nodes);
     Ok(Source {

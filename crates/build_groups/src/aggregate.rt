@@ -14,11 +14,13 @@ use plan::nodes::Nodes;
 use plan::steps::Step;
 use scope::Scope;
 use scope::retain::retain;
+use sections::ENTRIES;
 use stage::Stage;
 
-// The most groups, and the most functions: each has a row of the statement.
-pub const GROUPS: usize = 64;
+// The most groups: each is an entry.
+pub const GROUPS: usize = ENTRIES as usize;
 
+// The most functions: each has a row of the statement.
 pub const FUNCTIONS: usize = STATEMENT_ROWS as usize;
 
 // The aggregate node over the node before it, by the rows that are retained, those of groups first, and its scope.

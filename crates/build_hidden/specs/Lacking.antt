@@ -1,8 +1,10 @@
 -- The column to hide for an expression: of the parent's with the labels xs, the matches ms and the tables ts, which a child
 -- with the labels ys, the matches ns and the tables us lacks.
 use Rattle.std.specs.Prelude as std
-use Rattle.std.specs.Prelude.{ℕ, ◌<◌, List, Result, Ok, Err}
-use Rattle.std.specs.Result.{result_ok}
+use Rattle.std.specs.Prelude.{ℕ, ◌<◌, Bool, true, false, not, List, Result, Ok, Err}
+use Rattle.std.specs.Bool.{then_some}
+use Rattle.std.specs.Option.{is_some}
+use Rattle.std.specs.Result.{is_ok, result_ok}
 use native.Mathlib.Omega.{arith}
 use Rattle.std.proofs.Math.Path.{◌≡◌, refl, sym, ap}
 use Rattle.std.proofs.Common.{◌∙◌}
@@ -53,19 +55,20 @@ unfolding lacking
 lacking-nothing none = refl
 lacking-nothing (some j) = refl
 
--- nothing in the parent; something, and nothing in the child; something in both
+-- nothing in the parent; something, where the child has nothing
 pub lacks-nothing : {x : std.Option ℕ} (o p : Option ℕ) → option_of x ≡ o → x ≡ std.None → none ≡ lacking o p
 lacks-nothing o p e g = lacking-nothing p ∙ ap (λ (u : Option ℕ). lacking u p) (sym (ap option_of g) ∙ e)
 
-pub lacks-at : {x y : std.Option ℕ} (o p : Option ℕ) (i : ℕ) → option_of x ≡ o → option_of y ≡ p → x ≡ std.Some i
-    → y ≡ std.None → some i ≡ lacking o p
+pub lacks-some : {x : std.Option ℕ} (y : std.Option ℕ) (b : Bool) (o p : Option ℕ) (i : ℕ) → option_of x ≡ o → option_of y ≡ p
+    → x ≡ std.Some i → is_some y ≡ not b → option_of (then_some b i) ≡ lacking o p
 unfolding lacking
-lacks-at o p i e f g z =
-    sym (ap option_of g) ∙ e ∙ ap (λ (u : Option ℕ). lacking o u) (sym (ap option_of z) ∙ f)
-
-pub lacks-known : {y : std.Option ℕ} (o p : Option ℕ) (j : ℕ) → option_of y ≡ p → y ≡ std.Some j → none ≡ lacking o p
-unfolding lacking
-lacks-known o p j f z = ap (λ (u : Option ℕ). lacking o u) (sym (ap option_of z) ∙ f)
+lacks-some y b o p i e f g h = rw (← e, g, ← f) (go b y h)
+  where
+    go : (b : Bool) (y : std.Option ℕ) → is_some y ≡ not b → option_of (then_some b i) ≡ lacking (some i) (option_of y)
+    go true std.None z = refl
+    go false (std.Some j) z = refl
+    go true (std.Some j) z = cc
+    go false std.None z = cc
 
 -- NAMES
 module _ {c q : Bytes} {xs ms ts : List ℕ} {o : Option Word} {w : Word} {u : Result ℕ Reason}
@@ -79,20 +82,20 @@ module _ {c q : Bytes} {xs ms ts : List ℕ} {o : Option Word} {w : Word} {u : R
       go (Ok i) = refl
       go (Err r) = refl
 
-module _ {c q : Bytes} {xs ms ts : List ℕ} {o : Option Word} {w : Word} {u : Result ℕ Reason}
+module _ {c q : Bytes} {xs ms ts ys ns us : List ℕ} {o : Option Word} {w : Word} {u : Result ℕ Reason}
     (l : Looked c q xs ms ts o w u) where
-  pub name-nothing : {ys ns us : List ℕ} → result_ok u ≡ std.None → NameLacking c q xs ms ts ys ns us o w std.None
+  pub name-nothing : result_ok u ≡ std.None → NameLacking c q xs ms ts ys ns us o w std.None
   name-nothing g = record { is = λ e h k. lacks-nothing _ _ (looked-at l e h) g }
 
-  module _ {ys ns us : List ℕ} {v : Result ℕ Reason} (m : Looked c q ys ns us o w v) where
-    pub name-lacking : {i : ℕ} {reason : Reason} → result_ok u ≡ std.Some i → v ≡ Err reason
-        → NameLacking c q xs ms ts ys ns us o w (std.Some i)
-    name-lacking {i} g z = record {
-      is = λ e h k. lacks-at _ _ i (looked-at l e h) (looked-at m e k) g (ap result_ok z);
-    }
-
-    pub name-known : {j : ℕ} → v ≡ Ok j → NameLacking c q xs ms ts ys ns us o w std.None
-    name-known {j} z = record { is = λ e h k. lacks-known _ _ j (looked-at m e k) (ap result_ok z) }
+  pub name-lacking : {v : Result ℕ Reason} (b : Bool) {i : ℕ} → Looked c q ys ns us o w v → result_ok u ≡ std.Some i
+      → is_ok v ≡ not b → NameLacking c q xs ms ts ys ns us o w (then_some b i)
+  name-lacking {v} b {i} m g n = record {
+    is = λ e h k. lacks-some (result_ok v) b _ _ i (looked-at l e h) (looked-at m e k) g (known v ∙ n);
+  }
+    where
+      known : (v : Result ℕ Reason) → is_some (result_ok v) ≡ is_ok v
+      known (Ok i) = refl
+      known (Err r) = refl
 
 -- BY THE KIND OF A ROW
 -- kinds other than a column's name

@@ -26,10 +26,7 @@ fn lacking_match(exprs: &Expressions, r: usize, parent: &View, child: &View) -> 
         (tree_in exprs.now r)) }
 {
     let i = parent.lookup_aggregate(exprs, r)?;
-    match child.lookup_aggregate(exprs, r) {
-        Some(_) => None,
-        None => Some(i),
-    }
+    child.lookup_aggregate(exprs, r).is_none().then_some(i)
 }
 
 // The parent's column that a name means, where it means none of the child's.
@@ -47,10 +44,7 @@ fn lacking_name(
         (word_at texts.now.catalog.now texts.now.statement.now name.address name.length) result }
 {
     let i = parent.lookup(texts, qualifier, name).ok()?;
-    match child.lookup(texts, qualifier, name) {
-        Ok(_) => None,
-        Err(_) => Some(i),
-    }
+    child.lookup(texts, qualifier, name).is_err().then_some(i)
 }
 
 // The same of the expression at row r, where it is a column's name.
@@ -70,8 +64,8 @@ fn lacking_column(exprs: &Expressions, r: usize, parent: &View, child: &View) ->
     lacking_name(&exprs.texts, parent, child, place, sought)
 }
 
-// The parent's column to hide for the expression at row r. (A match: with `or_else` the proof
-// was tried and did not close.)
+// The parent's column to hide for the expression at row r. (By a match: `or` would look the name up where there is a match too, and a
+// closure for `or_else` would have to repeat the clause of lacking_column.)
 pub fn to_hide(exprs: &Expressions, r: usize, parent: &View, child: &View) -> Option<u32>
     ensures { Lacking exprs.now.texts.catalog.now exprs.now.texts.statement.now exprs.now.table.now
         parent.now.labels.now parent.now.matches.now parent.now.tables.now

@@ -1,9 +1,9 @@
 -- INSERT: the plan at the end, and its answer.
-use Rattle.std.specs.Prelude.{ℕ, ◌+◌, ◌*◌, ◌≤◌, ◌≡◌, Result, Ok, Err}
+use Rattle.std.specs.Prelude.{ℕ, ◌+◌, ◌*◌, ◌≤◌, ◌≡◌, option_copied, Result, Ok, Err}
 use Rattle.std.specs.Prelude as std
 use native.Mathlib.Omega.{arith}
 use Rattle.std.proofs.Math.Path.{refl}
-use Rattle.std.proofs.Common.{sym, ap, ◌∙◌}
+use Rattle.std.proofs.Common.{Bor, sym, ap, ◌∙◌}
 use mathlib.Core.List.{List, [], ◌∷◌}
 use Rattle.std.proofs.Math.Option.{Option}
 use Rattle.std.proofs.Math.ListN.{length}
@@ -43,8 +43,9 @@ use Rattle.numbers.specs.declared.refusals.Refusal.{Refusal}
 use Rattle.build_statement.specs.Plans.{Plans}
 use Rattle.build_statement.specs.Kinds.{Free, ReadyFor, name_of, insert_at}
 use Rattle.build_statement.specs.Ends.{span-at, plan-count, planned, refused-at}
-use Rattle.build_statement.specs.Tables.{table_named, TablePosition, table-missing, table-is}
-use Rattle.build_insert.specs.Map.{map_of, MapsAs, Maps, given_names}
+use Rattle.schema.specs.Search.{TablePosition}
+use Rattle.build_statement.specs.Tables.{table_named, table-missing, table-is}
+use Rattle.build_insert.specs.Map.{given_map, Maps, given_names}
 use Rattle.build_insert.specs.Lists.{values_node, Listed, Lists, was-done, was-refused}
 use Rattle.build_insert.specs.Rows.{rows_at, RowsFit, rows_take}
 use Rattle.build_insert.specs.Own.{own_count, own-count, MapFits, some-own}
@@ -156,7 +157,7 @@ module _ (c q : Bytes) (tables cells parts : List ℕ) {area : List ℕ} {nodes 
       rw e k
 
   module _ (a n l : ℕ) (ha : a ≡ name_address parts) (hn : n ≡ name_length parts) (hl : l ≡ line_at parts)
-      {r : Result ℕ Refusal} (f : TablePosition c q tables a n l r) where
+      {r : Result ℕ Refusal} (f : TablePosition c q tables (bytes_at c q a n) l r) where
     name-is : word_at c q a n ≡ name_of c q parts
     name-is = λ j. word_at c q (ha j) (hn j)
 
@@ -168,46 +169,46 @@ module _ (c q : Bytes) (tables cells parts : List ℕ) {area : List ℕ} {nodes 
         refused-at k.why refl (ap Err k.refusal)
         (insert-table (catalog_at c q tables) (insert_at c q cells parts) _ k.is)
 
-    module _ (i : ℕ) (e : r ≡ Ok i) {ps ps' : List ℕ} {x : Result (std.Option ℕ) Refusal}
-        (p : Maps (column_map (table_at c q tables i).columns (given_names c q cells parts)) ps ps' x) where
+    module _ (i : ℕ) (e : r ≡ Ok i) where
       abbrev t : Table
       t = table_named c q tables i a n
 
       has : must_get_table (catalog_at c q tables) (line_at parts) (name_of c q parts) ≡ ok t
       has = (λ j. must_get_table (catalog_at c q tables) (sym hl j) (sym name-is j)) ∙ table-is c q tables a n l f i e
 
-      pub insert-map-refused : (y : Refusal) → x ≡ Err y
-          → Plans (build_insert (catalog_at c q tables) (insert_at c q cells parts)) area area (Err y)
-      unfolding insert_of MapsAs named_by
-      insert-map-refused y g =
-          let w : RefusedWith (column_map t.columns (given_names c q cells parts)) y = rw g at p.is in
-          refused-at w.why refl (ap Err w.refusal)
-          (insert-map (catalog_at c q tables) (insert_at c q cells parts) t has w.why w.is)
+      module _ {x : Result (std.Option (Bor (List ℕ))) Refusal}
+          (p : Maps (column_map (table_at c q tables i).columns (given_names c q cells parts)) x) where
+        pub insert-map-refused : (y : Refusal) → x ≡ Err y
+            → Plans (build_insert (catalog_at c q tables) (insert_at c q cells parts)) area area (Err y)
+        unfolding insert_of Maps named_by
+        insert-map-refused y g =
+            let w : RefusedWith (column_map t.columns (given_names c q cells parts)) y = rw g at p in
+            refused-at w.why refl (ap Err w.refusal)
+            (insert-map (catalog_at c q tables) (insert_at c q cells parts) t has w.why w.is)
 
-      module _ (m : std.Option ℕ) (g : x ≡ Ok m) where
-        map_is : column_map t.columns (insert_at c q cells parts).columns ≡ ok (map_of ps' m)
-        unfolding insert_of MapsAs named_by
-        map_is = rw g at p.is
+        module _ (m : std.Option (Bor (List ℕ))) (g : x ≡ Ok m) where
+          abbrev map : Option (List Mapping)
+          map = given_map (option_copied m)
 
-        fits : InsertFits (rows_at c q cells parts) (map_of ps' m)
-        unfolding insert_of
-        fits =
-            let d = insert_at c q cells parts in
-            let few = insert-few h.within in
-            record {
-              few = few;
-              numbers = omega (
-                arith,
-                numbers-insert t.columns d (map_of ps' m) few h.within.counts map_is,
-                own-count (map_of ps' m),
-              );
-            }
+          map_is : column_map t.columns (insert_at c q cells parts).columns ≡ ok map
+          unfolding insert_of Maps named_by
+          map_is = rw g at p
 
-        pub insert-fits : {o : Option (List Mapping)} → map_of ps' m ≡ o → InsertFits (rows_at c q cells parts) o
-        insert-fits k = rw k at fits
+          pub insert-fits : InsertFits (rows_at c q cells parts) map
+          unfolding insert_of
+          insert-fits =
+              let d = insert_at c q cells parts in
+              let few = insert-few h.within in
+              record {
+                few = few;
+                numbers = omega (
+                  arith,
+                  numbers-insert t.columns d map few h.within.counts map_is,
+                  own-count map,
+                );
+              }
 
-        pub insert-planned : {o : Option (List Mapping)} {area' : List ℕ} {y : Written} → map_of ps' m ≡ o
-            → RowsPlanned c q a n o (rows_at c q cells parts) area area' y
-            → Plans (build_insert (catalog_at c q tables) (insert_at c q cells parts)) area area' y
-        unfolding insert_of named_by
-        insert-planned k s = s.is (catalog_at c q tables) (insert_at c q cells parts) t has refl (map_is ∙ ap ok k) refl
+          pub insert-planned : {area' : List ℕ} {y : Written} → RowsPlanned c q a n map (rows_at c q cells parts) area area' y
+              → Plans (build_insert (catalog_at c q tables) (insert_at c q cells parts)) area area' y
+          unfolding insert_of named_by
+          insert-planned s = s.is (catalog_at c q tables) (insert_at c q cells parts) t has refl map_is refl

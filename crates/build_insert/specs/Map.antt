@@ -1,9 +1,9 @@
 -- INSERT's column map: the column's position for each value, in a slice, and the names that give it.
 use Prim.Native.Nat.{ℕ, zero, suc, ◌+◌, ◌≤◌, ◌<◌}
 use native.Mathlib.Omega.{arith}
-use Rattle.std.proofs.Common.{add-one, sym, ◌∙◌, length-set, length-take-le, get_or-set_same, get_or-set_other, get_or-take}
+use Rattle.std.proofs.Common.{Bor, add-one, sym, ◌∙◌, length-set, length-take-le, get_or-set_same, get_or-set_other, get_or-take}
 use Rattle.std.specs.Prelude as std
-use Rattle.std.specs.Prelude.{◌≡◌, Bool, true, false, ◌||◌, eqb, set, get_or, take, ⊤, Result, Ok, Err, Some, None}
+use Rattle.std.specs.Prelude.{◌≡◌, Bool, true, false, ◌||◌, eqb, set, get_or, take, option_copied, Result, Ok, Err, Some, None}
 use Rattle.std.specs.List.{list_any}
 use Rattle.std.proofs.Math.Path.{refl, ap}
 use mathlib.Core.List.{List, [], ◌∷◌, ◌++◌}
@@ -94,44 +94,15 @@ module _ (c : ℕ) where
 abbrev pub columns_of : Bytes → Bytes → List ℕ → ℕ → List Column
 columns_of c q tables i = (table_at c q tables i).columns
 
--- no map, or that of the first n values
-unfoldable pub map_of : List ℕ → std.Option ℕ → Option (List Mapping)
-map_of ps None = none
-map_of ps (Some n) = some (mappings ps 0 n)
-
--- as the map of a slice
-pub map-none-is : (ps : List ℕ) (m : std.Option ℕ) → m ≡ None → map_of ps m ≡ given_map None
-unfolding map_of given_map
-map-none-is ps m e = ap (map_of ps) e
-
-pub map-some-is : (ps : List ℕ) (m : std.Option ℕ) (n : ℕ) → m ≡ Some n → n ≤ length ps → map_of ps m ≡ given_map (Some (take n ps))
-unfolding map_of given_map
-map-some-is ps m n e h = ap (map_of ps) e ∙ ap some (sym (mappings-first ps n h))
-
 -- the map, or a refusal
-unfoldable pub MapsAs : Answer (Option (List Mapping)) → List ℕ → Result (std.Option ℕ) Refusal → Type 0
-MapsAs a ps (Ok m) = a ≡ ok (map_of ps m)
-MapsAs a ps (Err w) = RefusedWith a w
+unfoldable pub Maps : Answer (Option (List Mapping)) → Result (std.Option (Bor (List ℕ))) Refusal → Type 0
+Maps a (Ok m) = a ≡ ok (given_map (option_copied m))
+Maps a (Err w) = RefusedWith a w
 
--- as many values as there are places
-abbrev pub Within : List ℕ → Result (std.Option ℕ) Refusal → Type 0
-Within ps (Ok None) = ⊤
-Within ps (Ok (Some n)) = n ≤ length ps
-Within ps (Err w) = ⊤
-
--- the number of values of a map that there is
-abbrev pub given_count : Result ℕ Refusal → Result (std.Option ℕ) Refusal
-given_count (Ok n) = Ok (Some n)
-given_count (Err w) = Err w
-
-pub record Maps (a : Answer (Option (List Mapping))) (ps ps' : List ℕ) (r : Result (std.Option ℕ) Refusal) : Type 0 where
-  pub kept : length ps' ≡ length ps
-  pub within : Within ps' r
-  pub is : MapsAs a ps' r
-
-pub map-within : {a : Answer (Option (List Mapping))} {ps ps' : List ℕ} {r : Result (std.Option ℕ) Refusal} → Maps a ps ps' r
-    → (m : std.Option ℕ) (n : ℕ) → r ≡ Ok m → m ≡ Some n → n ≤ length ps'
-map-within h m n e f = rw (e ∙ ap Ok f) at h.within
+-- a map that there is
+abbrev pub given_result : Result (Bor (List ℕ)) Refusal → Result (std.Option (Bor (List ℕ))) Refusal
+given_result (Ok ps) = Ok (Some ps)
+given_result (Err w) = Err w
 
 -- there is a place for each name
 abbrev pub NamesFit : Option (List Named) → List ℕ → Type 0
@@ -177,80 +148,74 @@ module _ (c q : Bytes) (cells parts : List ℕ) (cs : List Column) where
 
   module _ {ps₀ ps : List ℕ} {v : ℕ} (p : MapSoFar ps₀ ps v) where
     pub map-all : (n : ℕ) → n ≡ length (section_at c q cells parts name_kind) → n ≤ v → v ≤ length (section_at c q cells parts name_kind)
-        → length (section_at c q cells parts name_kind) ≤ length ps₀ → Maps whole ps₀ ps (Ok (Some n))
-    unfolding MapsAs map_of
+        → length (section_at c q cells parts name_kind) ≤ length ps₀ → whole ≡ ok (given_map (Some (take n ps)))
+    unfolding given_map
     map-all n e h l f =
         let z : drop v names ≡ [] = drop_of_length-le names {i = v}
         (omega (arith, map-length to_named (section_at c q cells parts name_kind), e, h)) in
         let y : v ≡ n = omega (arith, h, l, e) in
-        record {
-          kept = p.same;
-          within = omega (arith, e, f, p.same);
-          is = whole-ok (mappings ps 0 n)
-              (p.left ∙ ap (λ ns. map_from cs ns v (mappings ps 0 v)) z ∙ map-done cs v _ ∙ rw y);
-        }
+        whole-ok (mappings (take n ps) 0 (length (take n ps)))
+        (p.left ∙ ap (λ ns. map_from cs ns v (mappings ps 0 v)) z ∙ map-done cs v _ ∙ ap (λ k. ok (mappings ps 0 k)) y
+        ∙ ap ok (sym (mappings-first ps n (omega (arith, e, f, p.same)))))
 
-    module _ (e : Entry) (x : e ≡ numbers_at parts name_kind v) (l : v < length (section_at c q cells parts name_kind))
+    module _ (e : Entry) (x : e ≡ numbers_at parts name_kind v) (n : ℕ) (y : n ≡ length (section_at c q cells parts name_kind)) (l : v < n)
         (p₁ : Place) (s : p₁ ≡ name_or e.name) (r : std.Option ℕ) (f : found_of r ≡ column_at 0 cs (bytes_at c q p₁.address p₁.length)) where
       here : map ≡ map_from cs (named_of e ∷ drop (suc v) names) v (mappings ps 0 v)
       here = p.left ∙ ap (λ ns. map_from cs ns v (mappings ps 0 v))
-          (after-drop v names (named_of e) (named-at c q cells parts name_kind v e x l))
+          (after-drop v names (named_of e) (named-at c q cells parts name_kind v e x (omega (arith, y, l))))
 
       pub name-unknown : r ≡ std.None
-          → Maps whole ps₀ ps (Err (record { reason = Re.UnknownInsertColumn; line = e.line }))
-      unfolding MapsAs table_position found_of word_at named
+          → Maps whole (Err (record { reason = Re.UnknownInsertColumn; line = e.line }))
+      unfolding Maps table_position found_of word_at named
       name-unknown g =
           let z : table_position cs (word_of c q e) ≡ none = rw (table_position, ← s, ← f, g) in
-          record {
-            kept = p.same;
-            within = tt;
-            is = refused-at unknown_insert_column e.line Re.UnknownInsertColumn e.line
-                (whole-refused unknown_insert_column e.line
-                (here ∙ map-unknown cs (named_of e) (drop (suc v) names) v (mappings ps 0 v) z)) refl refl;
-          }
+          refused-at unknown_insert_column e.line Re.UnknownInsertColumn e.line
+          (whole-refused unknown_insert_column e.line
+          (here ∙ map-unknown cs (named_of e) (drop (suc v) names) v (mappings ps 0 v) z)) refl refl
 
       module _ (j : ℕ) (g : r ≡ std.Some j) where
         position : table_position cs (word_of c q e) ≡ some (cindex j)
         unfolding table_position found_of word_at
         position = rw (table_position, ← s, ← f, g)
 
-        pub name-repeated : (b : Bool) → b ≡ mapped (cindex j) (mappings ps 0 v) → b ≡ true
-            → Maps whole ps₀ ps (Err (record { reason = Re.RepeatedInsertColumn; line = e.line }))
-        unfolding MapsAs named
-        name-repeated b y t =
-            record {
-              kept = p.same;
-              within = tt;
-              is = refused-at repeated_insert_column e.line Re.RepeatedInsertColumn e.line
-                  (whole-refused repeated_insert_column e.line
-                  (here ∙ map-repeated cs (named_of e) (drop (suc v) names) v (mappings ps 0 v) (cindex j) position
-                  (sym y ∙ t))) refl refl;
-            }
+        -- b says whether the column is among those of the first v values
+        module _ (f' : length (section_at c q cells parts name_kind) ≤ length ps₀) (b : Bool)
+            (m : b ≡ mapped (cindex j) (mappings (take v ps) 0 (length (take v ps)))) where
+          is-mapped : mapped (cindex j) (mappings ps 0 v) ≡ b
+          is-mapped = sym (m ∙ mapped-first j ps v (omega (arith, f', p.same, p.few)))
 
-        pub name-mapped : (b : Bool) → b ≡ mapped (cindex j) (mappings ps 0 v) → b ≡ false → v < length ps
-            → {ps' : List ℕ} → ps' ≡ set ps v j → MapSoFar ps₀ ps' (v + 1)
-        name-mapped b y t h w = rw w (record {
-          same = length-set ps v j ∙ p.same;
-          few = omega (arith, l);
-          left = rw (add-one v) (here
-              ∙ map-step cs (named_of e) (drop (suc v) names) v (mappings ps 0 v) (cindex j) position (sym y ∙ t)
-              ∙ ap (map_from cs (drop (suc v) names) (suc v)) (sym stored));
-        })
-          where
-            stored : mappings (set ps v j) 0 (suc v)
-                ≡ mappings ps 0 v ++ (record { column = cindex j; value = vindex v } ∷ [])
-            stored =
-                let z : 0 + v ≡ v = omega arith in
-                mappings-last (set ps v j) 0 v ∙ rw (z, mappings-set ps v j 0 v (omega arith), get_or-set_same ps v j 0 h)
+          pub name-repeated : b ≡ true → Maps whole (Err (record { reason = Re.RepeatedInsertColumn; line = e.line }))
+          unfolding Maps named
+          name-repeated t =
+              refused-at repeated_insert_column e.line Re.RepeatedInsertColumn e.line
+              (whole-refused repeated_insert_column e.line
+              (here ∙ map-repeated cs (named_of e) (drop (suc v) names) v (mappings ps 0 v) (cindex j) position
+              (is-mapped ∙ t))) refl refl
+
+          stored : mappings (set ps v j) 0 (suc v)
+              ≡ mappings ps 0 v ++ (record { column = cindex j; value = vindex v } ∷ [])
+          stored =
+              let z : 0 + v ≡ v = omega arith in
+              mappings-last (set ps v j) 0 v
+              ∙ rw (z, mappings-set ps v j 0 v (omega arith), get_or-set_same ps v j 0 (omega (arith, y, l, f', p.same)))
+
+          pub name-mapped : b ≡ false → {ps' : List ℕ} → ps' ≡ set ps v j → MapSoFar ps₀ ps' (v + 1)
+          name-mapped t w = rw w (record {
+            same = length-set ps v j ∙ p.same;
+            few = omega (arith, y, l);
+            left = rw (add-one v) (here
+                ∙ map-step cs (named_of e) (drop (suc v) names) v (mappings ps 0 v) (cindex j) position (is-mapped ∙ t)
+                ∙ ap (map_from cs (drop (suc v) names) (suc v)) (sym stored));
+          })
 
 -- THE STATEMENT'S MAP
 module _ (c q : Bytes) (cells parts : List ℕ) (cs : List Column) (n : ℕ)
     (e : n ≡ length (section_at c q cells parts columns_kind)) where
-  pub map-missing : n ≡ 0 → (ps : List ℕ) → Maps (column_map cs (given_names c q cells parts)) ps ps (Ok None)
-  unfolding MapsAs map_of column_map
-  map-missing z ps =
+  pub map-missing : n ≡ 0 → Maps (column_map cs (given_names c q cells parts)) (Ok None)
+  unfolding Maps given_map column_map
+  map-missing z =
       let y = names-none (section_at c q cells parts columns_kind) (section_at c q cells parts name_kind) (sym e ∙ z) in
-      record { kept = refl; within = tt; is = ap (column_map cs) y }
+      ap (column_map cs) y
 
   module _ (z : n ≡ 0 → ⊥) where
     given : given_names c q cells parts ≡ some (names_at c q cells parts)
@@ -263,6 +228,6 @@ module _ (c q : Bytes) (cells parts : List ℕ) (cs : List Column) (n : ℕ)
         let l : length (names_at c q cells parts) ≤ length ps = rw given at h in
         omega (arith, l, map-length to_named (section_at c q cells parts name_kind))
 
-    pub map-given : {ps ps' : List ℕ} {r : Result (std.Option ℕ) Refusal} → Maps (column_map cs (some (names_at c q cells parts))) ps ps' r
-        → Maps (column_map cs (given_names c q cells parts)) ps ps' r
-    map-given h = rw given h
+    pub map-given : (r : Result (std.Option (Bor (List ℕ))) Refusal) → Maps (column_map cs (some (names_at c q cells parts))) r
+        → Maps (column_map cs (given_names c q cells parts)) r
+    map-given r h = rw given h

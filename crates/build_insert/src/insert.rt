@@ -16,16 +16,17 @@ use crate::map::column_map;
 use crate::own::put_own;
 use crate::rows::build_node;
 use ast::Expressions;
-use build_statement::target::find_table;
 use numbers::refusals::Refusal;
 use plan::finish::{Kind, finish};
 use plan::nodes::Nodes;
 use plan::steps::Step;
+use schema::find_table;
+use sections::ENTRIES;
 use statement::access;
 use text::places::{Place, Texts};
 
 // How many names INSERT has at most.
-const MOST_NAMES: usize = 64;
+const MOST_NAMES: usize = ENTRIES as usize;
 
 // The plan behind its cells and its node, of a table that is named by the bytes at a place.
 fn end_insert(
@@ -94,15 +95,5 @@ pub fn build_insert(
     let table = find_table(&exprs.texts, tables, name, access::line(parts))?;
     let mut columns = [0u32; MOST_NAMES];
     let map = column_map(exprs, tables, table, parts, &mut columns)?;
-    match map {
-        None => build_mapped(exprs, parts, name, None, area, nodes),
-        Some(count) => build_mapped(
-            exprs,
-            parts,
-            name,
-            Some(&columns[..count as usize]),
-            area,
-            nodes,
-        ),
-    }
+    build_mapped(exprs, parts, name, map, area, nodes)
 }

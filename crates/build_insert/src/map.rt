@@ -39,20 +39,20 @@ fn is_mapped(columns: &[u32], column: TablePosition) -> bool
     columns.contains(&column.0)
 }
 
-// The column of each name in the i-th table, in order, and how many there are. Refused at the name of no column, and at one that was given before.
-fn map_names(
+// The column of each name in the i-th table, in order. Refused at the name of no column, and at one that was given before.
+fn map_names<'c>(
     exprs: &Expressions,
     tables: &[u32],
     i: u32,
     parts: &[u32],
-    columns: &mut [u32],
-) -> Result<u32, Refusal>
+    columns: &'c mut [u32],
+) -> Result<&'c [u32], Refusal>
     requires { length (section_at exprs.now.texts.catalog.now exprs.now.texts.statement.now exprs.now.table.now parts.now
         name_kind) ≤ length columns.old }
     ensures { map.Maps
         (column_map (table_at exprs.now.texts.catalog.now exprs.now.texts.statement.now tables.now i).columns
         (some (map.names_at exprs.now.texts.catalog.now exprs.now.texts.statement.now exprs.now.table.now parts.now)))
-        columns.old columns.new (map.given_count result) }
+        (map.given_result result) }
 {
     let count = entry::count(parts, Section::Name);
     for v in 0..count {
@@ -68,27 +68,27 @@ fn map_names(
         }
         map_value(columns, ValuePosition(v), column);
     }
-    Ok(count)
+    Ok(&columns[..count as usize])
 }
 
-// The statement's map into the i-th table: of how many values, or none. A `columns` of no names is not no `columns`.
-pub fn column_map(
+// The statement's map into the i-th table, or none. A `columns` of no names is not no `columns`.
+pub fn column_map<'c>(
     exprs: &Expressions,
     tables: &[u32],
     i: u32,
     parts: &[u32],
-    columns: &mut [u32],
-) -> Result<Option<u32>, Refusal>
+    columns: &'c mut [u32],
+) -> Result<Option<&'c [u32]>, Refusal>
     requires { map.NamesFit (map.given_names exprs.now.texts.catalog.now exprs.now.texts.statement.now exprs.now.table.now
         parts.now) columns.old }
     ensures { map.Maps
         (column_map (table_at exprs.now.texts.catalog.now exprs.now.texts.statement.now tables.now i).columns
         (map.given_names exprs.now.texts.catalog.now exprs.now.texts.statement.now exprs.now.table.now parts.now))
-        columns.old columns.new result }
+        result }
 {
     if entry::count(parts, Section::Columns) == 0 {
         return Ok(None);
     }
-    let count = map_names(exprs, tables, i, parts, columns)?;
-    Ok(Some(count))
+    let map = map_names(exprs, tables, i, parts, columns)?;
+    Ok(Some(map))
 }

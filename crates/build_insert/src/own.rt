@@ -1,11 +1,11 @@
 // The own numbers of INSERT: its table's name and its column map.
-ghost use Rattle.std.specs.Prelude.{◌≡◌, ℕ, ◌+◌, ◌*◌, ◌≤◌, ◌<◌, ◌^◌, length, option_copied};
+ghost use Rattle.std.specs.Prelude.{◌≡◌, ℕ, ◌*◌, ◌<◌, ◌^◌, length, option_copied};
 ghost use Rattle.rules.specs.Schema.{Table};
 ghost use Rattle.rules.specs.Plan.{Node};
 ghost use Rattle.rules.specs.Plan as plan;
 ghost use Rattle.rules.specs.Area.{span, own_numbers};
 ghost use Rattle.plan.specs.Layout.{mapping_size};
-ghost use Rattle.plan.specs.Pushed.{Pushed};
+ghost use Rattle.plan.specs.Pushed.{NodeRoom, Pushed};
 ghost use Rattle.plan.specs.Places.{place_numbers};
 ghost use Rattle.build_insert.specs.Map.{mappings, given_map};
 ghost use Rattle.build_insert.specs.Own.{map_numbers_of, MapFits};
@@ -17,7 +17,7 @@ use text::places::Place;
 // The column and the position of each value.
 fn put_mappings(columns: &[u32], nodes: &mut Nodes)
     requires few { length columns.now < 2 ^ 32 }
-    requires room { nodes.old.used + mapping_size * length columns.now ≤ length nodes.old.numbers.now }
+    requires room { NodeRoom (mapping_size * length columns.now) nodes.old }
     ensures { Pushed (map_numbers_of (mappings columns.now 0 (length columns.now))) nodes.old nodes.new }
 {
     for (v, &column) in columns.iter().enumerate() {

@@ -13,6 +13,7 @@ ghost use Rattle.plan.specs.Cells.{Room};
 ghost use Rattle.build_insert.specs.Lists.{Lists, one_root, all_roots, one_row, values_node};
 ghost use Rattle.build_insert.specs.Values.{values_at};
 ghost use Rattle.build_insert.specs.Rows.{rows_at, RowsFit};
+ghost use Rattle.plan.specs.Pushed.{NodeRoom};
 
 use ast::Expressions;
 use ast::rows::next;
@@ -33,15 +34,15 @@ fn build_value(
     cell: u32,
 ) -> Result<u32, Refusal>
     requires room { Room cell (3 * size (tree_in exprs.now r)) area.old }
-    requires nodes_room { nodes.old.used + 1 ≤ length nodes.old.numbers.now }
+    requires nodes_room { NodeRoom 1 nodes.old }
     ensures { Lists one_root
         (emit_one empty cell (tree_in exprs.now r))
         cell area.old area.new nodes.old nodes.new result }
 {
     let empty = View {
-        labels: &[0u32; 0],
-        matches: &[0u16; 0],
-        tables: &[0u32; 0],
+        labels: &[],
+        matches: &[],
+        tables: &[],
     };
     let next = build_expression(exprs, r, &empty, area, cell)?;
     nodes.push(next - 1);
@@ -59,7 +60,7 @@ fn build_values(
 ) -> Result<u32, Refusal>
     requires room { Room cell (3 * total size (values_at exprs.now.texts.catalog.now exprs.now.texts.statement.now
         exprs.now.table.now values r)) area.old }
-    requires nodes_room { nodes.old.used + values ≤ length nodes.old.numbers.now }
+    requires nodes_room { NodeRoom values nodes.old }
     ensures { Lists all_roots
         (emit_all empty cell (values_at exprs.now.texts.catalog.now exprs.now.texts.statement.now exprs.now.table.now
         values r))
@@ -103,8 +104,8 @@ fn build_rows(
 ) -> Result<u32, Refusal>
     requires room { Room 0 (3 * rows_size (rows_at exprs.now.texts.catalog.now exprs.now.texts.statement.now
         exprs.now.table.now parts.now)) area.old }
-    requires nodes_room { nodes.old.used + rows_room (rows_at exprs.now.texts.catalog.now exprs.now.texts.statement.now
-        exprs.now.table.now parts.now) ≤ length nodes.old.numbers.now }
+    requires nodes_room { NodeRoom (rows_room (rows_at exprs.now.texts.catalog.now exprs.now.texts.statement.now
+        exprs.now.table.now parts.now)) nodes.old }
     ensures { Lists row_numbers
         (emit_rows empty 0 (rows_at exprs.now.texts.catalog.now exprs.now.texts.statement.now exprs.now.table.now parts.now))
         0 area.old area.new nodes.old nodes.new result }

@@ -17,7 +17,7 @@ use Rattle.rules.specs.Scope.{item_label}
 use Rattle.claims.specs.Answers.{All, Given}
 use Rattle.text.specs.Places.{bytes-catalog, bytes-statement}
 use Rattle.text.specs.declared.places.Place.{Place}
-use Rattle.ast.specs.Table.{statement_rows, tree_at}
+use Rattle.ast.specs.Table.{tree_at}
 use Rattle.ast.specs.Names.{option_name}
 use Rattle.scope.specs.Labels.{slot_of, slot-packed, Fits, label_at, columns_of}
 use Rattle.scope.specs.Slots.{Below, none, more}
@@ -29,6 +29,8 @@ use Rattle.build_projection.specs.Stars.{starred_at}
 use Rattle.build_projection.specs.Items.{entry_item, item_of}
 use Rattle.build_projection.specs.Aliases.{row_of, alias_address, alias_length, item-tree, alias-span}
 use Rattle.build_projection.specs.Labels.{label_number, number_passed, number-alias}
+use Rattle.build_projection.specs.declared.items.Item as listed
+use Rattle.build_projection.specs.declared.items.Item.TheVariants as I
 
 -- an alias that a label has room for: every name of a statement that was read is one
 pub record AliasFits (w : Word) : Type 0 where
@@ -39,7 +41,7 @@ abbrev pub AliasesFit : List Item → Type 0
 AliasesFit is' = All (λ (i : Item). Given AliasFits i.alias) is'
 
 -- the labels of items over a scope
-abbrev pub item_labels : Bytes → Bytes → List ℕ → List ℕ → Scope → List ℕ → List ℕ
+abbrev pub item_labels : Bytes → Bytes → List ℕ → List ℕ → Scope → List listed.Item → List ℕ
 item_labels c q t parts s items =
     map (label_number c q t parts (labels_of s) (take s.width s.matches) (table_numbers s)) items
 
@@ -69,19 +71,15 @@ name-word c q (std.Some p) w h =
     let e : word_at c q p.address p.length ≡ w = cc in
     rw (← e) (ap (λ (b : Bytes). record { bytes = b; start = p.address }) (sym (bytes-again c q p.address p.length)))
 
-alias-word : (c q : Bytes) (t parts : List ℕ) (x : ℕ) (w : Word) → (item_of c q t parts x).alias ≡ some w
+alias-word : (c q : Bytes) (t parts : List ℕ) (x : listed.Item) (w : Word) → (item_of c q t parts x).alias ≡ some w
     → w ≡ word_at c q w.start (length w.bytes)
 unfolding item_of entry_item starred_at
-alias-word c q t parts x w h = go (ltb x statement_rows) refl
-  where
-    go : (b : Bool) → ltb x statement_rows ≡ b → w ≡ word_at c q w.start (length w.bytes)
-    go true e = name-word c q _ w (rw (item_of, e) at h)
-    go false e = absurd (let y : ◌≡◌ {A = Option Word} none (some w) = rw (item_of, e) at h in
-        grind arith)
+alias-word c q t parts (I.Entry k) w h = name-word c q _ w h
+alias-word c q t parts (I.Starred r) w h = grind arith
 
 -- WHAT THE NUMBERS MEAN
 module _ (c q : Bytes) (t parts xs ms ts : List ℕ) where
-  label-one : (x : ℕ) → Given AliasFits (item_of c q t parts x).alias
+  label-one : (x : listed.Item) → Given AliasFits (item_of c q t parts x).alias
       → item_label (scope_at c q t xs ms ts 0) (item_of c q t parts x).expr (item_of c q t parts x).alias
       ≡ label_at c q ts (label_number c q t parts xs ms ts x)
   unfolding item_label Given option_span span
@@ -106,7 +104,7 @@ module _ (c q : Bytes) (t parts xs ms ts : List ℕ) where
           ∙ item-alias c q (scope_at c q t xs ms ts 0) ts (item_of c q t parts x).expr w.start (length w.bytes)
           (rw (← k) g.fits) (rw (← k) g.least))
 
-  pub labels-are : (items : List ℕ) → AliasesFit (map (item_of c q t parts) items)
+  pub labels-are : (items : List listed.Item) → AliasesFit (map (item_of c q t parts) items)
       → map (λ (i : Item). item_label (scope_at c q t xs ms ts 0) i.expr i.alias) (map (item_of c q t parts) items)
       ≡ columns_of c q ts (map (label_number c q t parts xs ms ts) items)
   unfolding columns_of All
@@ -114,7 +112,7 @@ module _ (c q : Bytes) (t parts xs ms ts : List ℕ) where
   labels-are (x ∷ items) f = rw (label-one x f.0, labels-are items f.1)
 
   -- each of one of the scope's tables, or of none
-  label-slot : (n x : ℕ) → Below n xs → slot_of (label_number c q t parts xs ms ts x) ≤ n
+  label-slot : (n : ℕ) (x : listed.Item) → Below n xs → slot_of (label_number c q t parts xs ms ts x) ≤ n
   label-slot n x b = go (eqb (alias_length c q parts x) 0) refl
     where
       go : (k : Bool) → eqb (alias_length c q parts x) 0 ≡ k → slot_of (label_number c q t parts xs ms ts x) ≤ n
@@ -123,12 +121,12 @@ module _ (c q : Bytes) (t parts xs ms ts : List ℕ) where
           let z = slot-packed 0 (alias_address parts x) (alias_length c q parts x) in
           rw (number-alias c q t parts xs ms ts x (eqb-false _ _ e), z) (omega arith)
 
-  pub labels-below : (n : ℕ) (items : List ℕ) → Below n xs → Below n (map (label_number c q t parts xs ms ts) items)
+  pub labels-below : (n : ℕ) (items : List listed.Item) → Below n xs → Below n (map (label_number c q t parts xs ms ts) items)
   labels-below n [] b = none
   labels-below n (x ∷ items) b = more (label-slot n x b) (labels-below n items b)
 
 -- THE ROWS
-pub rows_are : (c q : Bytes) (t parts items : List ℕ)
+pub rows_are : (c q : Bytes) (t parts : List ℕ) (items : List listed.Item)
     → map (λ (i : Item). i.expr) (map (item_of c q t parts) items) ≡ map (tree_at c q t) (map (row_of parts) items)
 rows_are c q t parts [] = refl
 rows_are c q t parts (x ∷ items) = rw (item-tree c q t parts x, rows_are c q t parts items)

@@ -20,10 +20,11 @@ use Rattle.scope.specs.declared.Scope.{Scope}
 use Rattle.build_projection.specs.Items.{item_of}
 use Rattle.build_projection.specs.Aliases.{row_of}
 use Rattle.build_projection.specs.Labels.{label_number}
+use Rattle.build_projection.specs.declared.items.Item as listed
 use Rattle.build_project.specs.Labels.{item_labels, labels-are, labels-below, rows_are}
 use Rattle.build_project.specs.Ready.{ItemsReady}
 
-pub record ScopeProjected (c q : Bytes) (cells parts items : List ℕ) (s r : Scope) : Type 0 where
+pub record ScopeProjected (c q : Bytes) (cells parts : List ℕ) (items : List listed.Item) (s r : Scope) : Type 0 where
   pub valid : Valid r
   pub width : r.width ≡ length items
   pub count : r.count ≡ s.count
@@ -42,9 +43,9 @@ width-by e c q r v s is' h =
     sym (columns-length c q (table_numbers r) (labels_of r) ∙ l) ∙ ap (λ (x : rules.Scope). rules.width x) h
     ∙ wide-width (length is') (rules.project s is') (wide-project is' s)
 
-module _ {c q : Bytes} {t parts items : List ℕ} {s : Scope} (f : ItemsReady c q t parts items s) {b : Bool}
+module _ {c q : Bytes} {t parts : List ℕ} {items : List listed.Item} {s : Scope} (f : ItemsReady c q t parts items s) {b : Bool}
     (m : (e : ℕ → Expr) → b ≡ not (is_empty (matches_of e 0 (take s.width s.matches)))) where
-  abbrev here : ℕ → ℕ
+  abbrev here : listed.Item → ℕ
   here = label_number c q t parts (labels_of s) (take s.width s.matches) (table_numbers s)
 
   here-labels : map (λ (i : Item). rules.item_label (scope_of (tree_at c q t) c q s) i.expr i.alias)

@@ -14,11 +14,12 @@ use Rattle.plan.specs.Cells.{Room}
 use Rattle.plan.specs.declared.nodes.Nodes.{Nodes}
 use Rattle.build_projection.specs.Items.{item_of}
 use Rattle.build_projection.specs.Pushes.{items_size}
+use Rattle.build_projection.specs.declared.items.Item as listed
 use Rattle.build_project.specs.Labels.{AliasesFit}
 
 -- Of the items and the scope below them: nothing is hidden there, and nothing is matched, as in FROM, or something is, as
 -- behind groups and aggregates.
-pub record ItemsReady (c q : Bytes) (cells parts items : List ℕ) (s : Scope) : Type 0 where
+pub record ItemsReady (c q : Bytes) (cells parts : List ℕ) (items : List listed.Item) (s : Scope) : Type 0 where
   pub valid : Valid s
   pub shown : s.hidden ≡ 0
   pub matched : Plain s ⊎ (is_empty (scope_of (tree_at c q cells) c q s).aggregates ≡ false)
@@ -32,7 +33,7 @@ LaterFew c q cells parts = (froms : List ℕ) → total size (later_of (select_a
 
 -- With that, there is room for three cells for each expression cell of the items, for the hidden columns' cells, and for
 -- the record.
-pub record ProjectionReady (c q : Bytes) (cells parts items : List ℕ) (s : Scope) (n m : ℕ) (area : List ℕ)
+pub record ProjectionReady (c q : Bytes) (cells parts : List ℕ) (items : List listed.Item) (s : Scope) (n m : ℕ) (area : List ℕ)
     (u : Nodes) : Type 0 where
   pub items-ready : ItemsReady c q cells parts items s
   pub later : LaterFew c q cells parts

@@ -45,6 +45,7 @@ use Rattle.build_expression.specs.Builds.{scope_at}
 use Rattle.build_projection.specs.Items.{item_of}
 use Rattle.build_projection.specs.Pushes.{items_size, ItemsPut}
 use Rattle.build_projection.specs.Pushes as pushes
+use Rattle.build_projection.specs.declared.items.Item as listed
 use Rattle.build_project.specs.Ready.{ProjectionReady}
 use Rattle.build_project.specs.Hidden.{column_parts, positions_of, hidden-emits}
 use Rattle.build_project.specs.Widens.{HiddenReady, hidden_at, HiddenPut}
@@ -55,7 +56,7 @@ unfolding item_built
 item-three s i =
     then (build s i.expr) _ _ _ (written-whole s i.expr) λ x h. omega (arith, h, written-three s i.expr)
 
-total-three : (c q : Bytes) (t parts items : List ℕ)
+total-three : (c q : Bytes) (t parts : List ℕ) (items : List listed.Item)
     → total (λ (i : Item). 3 * size i.expr) (map (item_of c q t parts) items) ≡ 3 * items_size c q t parts items
 unfolding total items_size
 total-three c q t parts [] = refl
@@ -65,7 +66,7 @@ record Pushes (n m w z k : ℕ) : Type 0 where
   most : m ≤ n + z
   parts_are : k ≡ w
 
-items-pushed : (s : rules.Scope) (c q : Bytes) (t parts items : List ℕ) (n : ℕ) (xs : List Cell)
+items-pushed : (s : rules.Scope) (c q : Bytes) (t parts : List ℕ) (items : List listed.Item) (n : ℕ) (xs : List Cell)
     (as' : List (ℕ × Option Word)) (m : ℕ) → emit_firsts (item_built s) n (map (item_of c q t parts) items) ≡ ok (xs, as', m)
     → Pushes n m (length items) (3 * items_size c q t parts items) (length as')
 items-pushed s c q t parts items n xs as' m e =
@@ -79,7 +80,7 @@ items-pushed s c q t parts items n xs as' m e =
       parts_are = ap length (sym o.numbers) ∙ first-size n o.built ∙ l ∙ length-map items (item_of c q t parts);
     }
 
-module _ {c q : Bytes} {t parts items : List ℕ} {s : Scope} {n m : ℕ} {area : List ℕ} {u : Nodes}
+module _ {c q : Bytes} {t parts : List ℕ} {items : List listed.Item} {s : Scope} {n m : ℕ} {area : List ℕ} {u : Nodes}
     (f : ProjectionReady c q t parts items s n m area u) where
   abbrev scope_here : rules.Scope
   scope_here = scope_of (tree_at c q t) c q s

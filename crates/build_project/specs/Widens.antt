@@ -24,19 +24,20 @@ use Rattle.plan.specs.declared.nodes.Nodes.{Nodes}
 use Rattle.build_hidden.specs.Terms.{Hides, Exceeds, HiddenAs, HiddenBuilt, shown_of}
 use Rattle.build_expression.specs.Builds.{scope_at}
 use Rattle.build_projection.specs.Items.{item_of}
+use Rattle.build_projection.specs.declared.items.Item as listed
 use Rattle.build_project.specs.Ready.{ItemsReady, LaterFew}
 use Rattle.build_project.specs.Projected.{ScopeProjected}
 use Rattle.build_project.specs.Hidden.{column_parts, ColumnsPut, positions_of}
 
 -- there is room for the hidden columns behind n cells and the numbers of u
-pub record HiddenReady (c q : Bytes) (cells parts items : List ℕ) (s : Scope) (n : ℕ) (area : List ℕ) (u : Nodes) : Type 0 where
+pub record HiddenReady (c q : Bytes) (cells parts : List ℕ) (items : List listed.Item) (s : Scope) (n : ℕ) (area : List ℕ) (u : Nodes) : Type 0 where
   pub items-ready : ItemsReady c q cells parts items s
   pub later : LaterFew c q cells parts
   pub room : Room n most_columns area
   pub space : u.used + item_size * (most_columns - length items) ≤ length u.numbers.now
 
 -- the rules' hidden columns
-abbrev pub hidden_at : Bytes → Bytes → (cells parts items : List ℕ) → Scope → (froms : List ℕ) → Hidden
+abbrev pub hidden_at : Bytes → Bytes → (cells parts : List ℕ) (items : List listed.Item) → Scope → (froms : List ℕ) → Hidden
 hidden_at c q cells parts items s froms = projected (scope_of (tree_at c q cells) c q s) (map (item_of c q cells parts) items)
     (later_of (select_at c q cells froms parts))
 
@@ -50,7 +51,7 @@ pub record Widened (c q : Bytes) (t : List ℕ) (g : Hidden) (w n : ℕ) (area a
       ≡ take (cells_end n) area ++ cells_numbers (map column (positions_of g.columns))
   pub parts : Pushed (item_numbers (column_parts n (positions_of g.columns))) u v
 
-pub record Accepted (c q : Bytes) (cells parts items : List ℕ) (s : Scope) (n : ℕ) (area area' : List ℕ) (u v : Nodes)
+pub record Accepted (c q : Bytes) (cells parts : List ℕ) (items : List listed.Item) (s : Scope) (n : ℕ) (area area' : List ℕ) (u v : Nodes)
     (x : Scope) : Type 0 where
   pub valid : Valid x
   pub hidden : x.hidden ≤ x.width
@@ -58,7 +59,7 @@ pub record Accepted (c q : Bytes) (cells parts items : List ℕ) (s : Scope) (n 
   pub widened : (froms : List ℕ) → Widened c q cells (hidden_at c q cells parts items s froms) (length items) n area area'
       u v x
 
-pub record HiddenPut (c q : Bytes) (cells parts items : List ℕ) (s : Scope) (n : ℕ) (area area' : List ℕ) (u v : Nodes)
+pub record HiddenPut (c q : Bytes) (cells parts : List ℕ) (items : List listed.Item) (s : Scope) (n : ℕ) (area area' : List ℕ) (u v : Nodes)
     (r : Result Scope Refusal) : Type 0 where
   pub kept : length area' ≡ length area
   pub kept-nodes : Kept u v
@@ -66,7 +67,7 @@ pub record HiddenPut (c q : Bytes) (cells parts items : List ℕ) (s : Scope) (n
       (λ w. (froms : List ℕ) → Exceeds (hidden_at c q cells parts items s froms) (length items) w)
 
 -- THE HIDDEN COLUMNS
-module _ {c q : Bytes} {t parts items : List ℕ} {s : Scope} (f : ItemsReady c q t parts items s) {child : Scope}
+module _ {c q : Bytes} {t parts : List ℕ} {items : List listed.Item} {s : Scope} (f : ItemsReady c q t parts items s) {child : Scope}
     (p : ScopeProjected c q t parts items s child) where
   hidden-same : (froms : List ℕ)
       → hidden_of (scope_at c q t (labels_of s) (take s.width s.matches) (table_numbers s) s.hidden)

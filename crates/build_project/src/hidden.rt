@@ -1,6 +1,7 @@
 // The hidden columns behind a projection's items: the scope with them, their cells and their parts of its record.
-ghost use Rattle.std.specs.Prelude.{◌≡◌, ◌+◌, ◌*◌, ◌≤◌, length};
+ghost use Rattle.std.specs.Prelude.{◌≡◌, ◌*◌, length};
 ghost use Rattle.plan.specs.Layout.{item_size};
+ghost use Rattle.plan.specs.Pushed.{NodeRoom};
 ghost use Rattle.plan.specs.Cells.{Room};
 ghost use Rattle.build_project.specs.Labels.{item_labels};
 ghost use Rattle.build_project.specs.Hidden.{ColumnsPut};
@@ -9,6 +10,7 @@ ghost use Rattle.build_project.specs.Widens.{HiddenReady, HiddenPut};
 use super::projected::project_scope;
 use ast::Expressions;
 use build_hidden::build_select_hidden;
+use build_projection::items::Item;
 use numbers::refusals::Refusal;
 use plan::cells::column;
 use plan::nodes::Nodes;
@@ -18,7 +20,7 @@ use scope::{COLUMNS, Scope};
 // The columns at some positions: their cells from the first on, and their parts of a record.
 fn put_columns(positions: &[u32], area: &mut [u32], nodes: &mut Nodes, first: u32)
     requires room { Room first (length positions.now) area.old }
-    requires nodes_room { nodes.old.used + item_size * length positions.now ≤ length nodes.old.numbers.now }
+    requires nodes_room { NodeRoom (item_size * length positions.now) nodes.old }
     ensures { ColumnsPut positions.now first area.old area.new nodes.old nodes.new }
 {
     for (i, &x) in positions.iter().enumerate() {
@@ -33,7 +35,7 @@ fn put_columns(positions: &[u32], area: &mut [u32], nodes: &mut Nodes, first: u3
 pub fn put_hidden(
     exprs: &Expressions,
     parts: &[u32],
-    items: &[u32],
+    items: &[Item],
     labels: &[u32],
     scope: &Scope,
     area: &mut [u32],

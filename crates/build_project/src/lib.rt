@@ -18,6 +18,7 @@ ghost use Rattle.build_projection.specs.Items.{item_of};
 ghost use Rattle.build_project.specs.Ready.{ProjectionReady};
 
 use ast::Expressions;
+use build_projection::items::Item;
 use build_projection::projection::put_items;
 use hidden::put_hidden;
 use lone::is_lone;
@@ -28,11 +29,11 @@ use plan::steps::Step;
 use scope::{COLUMNS, Scope};
 use stage::Stage;
 
-// The items by their numbers over the node before: nothing for a lone star.
+// The items over the node before: nothing for a lone star.
 pub fn build_projection(
     exprs: &Expressions,
     parts: &[u32],
-    items: &[u32],
+    items: &[Item],
     scope: &Scope,
     area: &mut [u32],
     nodes: &mut Nodes,

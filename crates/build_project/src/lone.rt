@@ -4,14 +4,14 @@ ghost use Rattle.rules.specs.Lists.{Bytes};
 ghost use Rattle.rules.specs.Items.{is_lone};
 ghost use Rattle.build_projection.specs.Items.{item_of};
 
-use build_projection::items::plain_item;
+use build_projection::items::{Item, plain_item};
 
 // Whether there is one item, a star with no alias.
-pub fn is_lone(cells: &[u32], parts: &[u32], items: &[u32]) -> bool
+pub fn is_lone(cells: &[u32], parts: &[u32], items: &[Item]) -> bool
     ensures { (c q : Bytes) → result ≡ is_lone (map (item_of c q cells.now parts.now) items.now) }
 {
-    if items.len() != 1 {
-        return false;
+    match items {
+        [x] => plain_item(cells, parts, *x).is_some(),
+        _ => false,
     }
-    plain_item(cells, parts, items[0]).is_some()
 }

@@ -6,6 +6,7 @@ ghost use Rattle.build_project.specs.Projected.{ScopeProjected};
 
 use super::rows::item_rows;
 use ast::Expressions;
+use build_projection::items::Item;
 use scope::{COLUMNS, Scope};
 
 // The columns of the items, by their labels, over the same tables; over groups and aggregates, each matched to its
@@ -13,7 +14,7 @@ use scope::{COLUMNS, Scope};
 pub fn project_scope(
     exprs: &Expressions,
     parts: &[u32],
-    items: &[u32],
+    items: &[Item],
     labels: &[u32],
     scope: &Scope,
 ) -> Scope

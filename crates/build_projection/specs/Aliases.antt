@@ -1,12 +1,11 @@
--- The row of an item and the place of its alias, by the item's number.
+-- The row of an item and the place of its alias, by what is listed.
 use Rattle.std.specs.Prelude.{ℕ, ◌≤◌, ◌<◌, ◌≡◌, refl, Bool, true, false, List, [], ◌∷◌, ltb, length}
 use Rattle.std.proofs.Common.{ap, sym, ◌∙◌}
-use borrow.Author.Tests.{lt-ltb, le-ltb}
 use Rattle.rules.specs.Lists.{Bytes}
 use Rattle.rules.specs.Places.{bytes_at, word_at}
 use Rattle.rules.specs.Area.{span, option_span}
 use Rattle.ast.specs.Names.{option_name}
-use Rattle.ast.specs.Table.{statement_rows, tree_at}
+use Rattle.ast.specs.Table.{tree_at}
 use Rattle.sections.specs.Access.{item_kind, numbers_at}
 use Rattle.sections.specs.Expressions.{expr_row}
 use Rattle.sections.specs.declared.entry.Entry.{Entry}
@@ -16,61 +15,52 @@ use Rattle.text.specs.Places.{option_numbers, clipped_place}
 use Rattle.statement.specs.Access.{name_or}
 use Rattle.statement.specs.EntryAccess.{word_of}
 use Rattle.build_projection.specs.Stars.{starred_at}
+use Rattle.build_projection.specs.declared.items.Item.{Item}
+use Rattle.build_projection.specs.declared.items.Item.TheVariants as I
 use Rattle.build_projection.specs.Items.{entry_item, item_of}
 
-unfoldable pub row_of : List ℕ → ℕ → ℕ
-row_of parts x = elim (ltb x statement_rows) [ true ↦ expr_row (numbers_at parts item_kind x) | false ↦ x ]
+unfoldable pub row_of : List ℕ → Item → ℕ
+row_of parts (I.Entry k) = expr_row (numbers_at parts item_kind k)
+row_of parts (I.Starred r) = r
 
 -- the address of its alias, and how many bytes of it there are; 0 0 where it has none
-unfoldable pub alias_address : List ℕ → ℕ → ℕ
-alias_address parts x = elim (ltb x statement_rows) [ true ↦ (name_or (numbers_at parts item_kind x).name).address | false ↦ 0 ]
+unfoldable pub alias_address : List ℕ → Item → ℕ
+alias_address parts (I.Entry k) = (name_or (numbers_at parts item_kind k).name).address
+alias_address parts (I.Starred r) = 0
 
-unfoldable pub alias_length : Bytes → Bytes → List ℕ → ℕ → ℕ
-alias_length c q parts x = elim (ltb x statement_rows) [
-  | true ↦ length (word_of c q (numbers_at parts item_kind x)).bytes
-  | false ↦ 0
-]
+unfoldable pub alias_length : Bytes → Bytes → List ℕ → Item → ℕ
+alias_length c q parts (I.Entry k) = length (word_of c q (numbers_at parts item_kind k)).bytes
+alias_length c q parts (I.Starred r) = 0
 
 -- the place of its alias, as many bytes of it as there are
-unfoldable pub alias_place : Bytes → Bytes → List ℕ → ℕ → std.Option Place
-alias_place c q parts x = elim (ltb x statement_rows) [
-  | true ↦ clipped_place c q (numbers_at parts item_kind x).name
-  | false ↦ std.None
-]
+unfoldable pub alias_place : Bytes → Bytes → List ℕ → Item → std.Option Place
+alias_place c q parts (I.Entry k) = clipped_place c q (numbers_at parts item_kind k).name
+alias_place c q parts (I.Starred r) = std.None
 
 -- its expression is the tree at its row
-pub item-tree : (c q : Bytes) (cells parts : List ℕ) (x : ℕ)
+pub item-tree : (c q : Bytes) (cells parts : List ℕ) (x : Item)
     → (item_of c q cells parts x).expr ≡ tree_at c q cells (row_of parts x)
 unfolding item_of row_of entry_item starred_at
-item-tree c q cells parts x = go (ltb x statement_rows) refl
-  where
-    go : (b : Bool) → ltb x statement_rows ≡ b → (item_of c q cells parts x).expr ≡ tree_at c q cells (row_of parts x)
-    go true e = rw (item_of, row_of, e)
-    go false e = rw (item_of, row_of, e)
+item-tree c q cells parts (I.Entry k) = refl
+item-tree c q cells parts (I.Starred r) = refl
 
-module _ (parts : List ℕ) (x : ℕ) where
-  pub row-starred : statement_rows ≤ x → x ≡ row_of parts x
+module _ (parts : List ℕ) {x : Item} where
+  pub row-starred : {r : ℕ} → x ≡ I.Starred r → r ≡ row_of parts x
   unfolding row_of
-  row-starred h = rw (row_of, le-ltb x statement_rows h)
+  row-starred h = rw h
 
-  pub place-starred : (c q : Bytes) → statement_rows ≤ x → std.None ≡ alias_place c q parts x
+  pub place-starred : (c q : Bytes) {r : ℕ} → x ≡ I.Starred r → std.None ≡ alias_place c q parts x
   unfolding alias_place
-  place-starred c q h = rw (alias_place, le-ltb x statement_rows h)
+  place-starred c q h = rw h
 
-  module _ (h : x < statement_rows) (e : Entry) (g : e ≡ numbers_at parts item_kind x) where
+  module _ {k : ℕ} (h : x ≡ I.Entry k) (e : Entry) (g : e ≡ numbers_at parts item_kind k) where
     pub row-entry : (r : ℕ) → r ≡ expr_row e → r ≡ row_of parts x
     unfolding row_of
-    row-entry r f = rw (row_of, lt-ltb x statement_rows h, ← g) f
+    row-entry r f = rw (h, ← g) f
 
-    pub place-none : (c q : Bytes) → e.name ≡ std.None → std.None ≡ alias_place c q parts x
-    unfolding alias_place clipped_place
-    place-none c q f = rw (alias_place, lt-ltb x statement_rows h, ← g, f)
-
-    pub place-some : (c q : Bytes) {o p : Place} → e.name ≡ std.Some o → p.address ≡ o.address
-        → p.length ≡ length (bytes_at c q o.address o.length) → std.Some p ≡ alias_place c q parts x
-    unfolding alias_place clipped_place
-    place-some c q f a l = rw (alias_place, lt-ltb x statement_rows h, ← g, f)
-        (λ i. std.Some (record { address = a i; length = l i }))
+    pub place-entry : (c q : Bytes) {o : std.Option Place} → o ≡ clipped_place c q e.name → o ≡ alias_place c q parts x
+    unfolding alias_place
+    place-entry c q f = rw (h, ← g) f
 
 -- the place of its alias, as a plan has it
 entry-span : (c q : Bytes) (o : std.Option Place)
@@ -85,17 +75,13 @@ unfolding word_at bytes_at clipped_place name_or
 entry_numbers c q std.None = refl
 entry_numbers c q (std.Some p) = refl
 
-pub alias-numbers : (c q : Bytes) (parts : List ℕ) (x : ℕ)
+pub alias-numbers : (c q : Bytes) (parts : List ℕ) (x : Item)
     → option_numbers (alias_place c q parts x) ≡ alias_address parts x ∷ alias_length c q parts x ∷ []
 unfolding alias_place alias_address alias_length
-alias-numbers c q parts x = go (ltb x statement_rows) refl
-  where
-    go : (b : Bool) → ltb x statement_rows ≡ b
-        → option_numbers (alias_place c q parts x) ≡ alias_address parts x ∷ alias_length c q parts x ∷ []
-    go true e = rw (alias_place, alias_address, alias_length, e) (entry_numbers c q (numbers_at parts item_kind x).name)
-    go false e = rw (alias_place, alias_address, alias_length, e)
+alias-numbers c q parts (I.Entry k) = entry_numbers c q (numbers_at parts item_kind k).name
+alias-numbers c q parts (I.Starred r) = refl
 
-module _ (c q : Bytes) (parts : List ℕ) (x : ℕ) {o : std.Option Place} (f : o ≡ alias_place c q parts x) where
+module _ (c q : Bytes) (parts : List ℕ) (x : Item) {o : std.Option Place} (f : o ≡ alias_place c q parts x) where
   pub alias-some : {p : Place} → o ≡ std.Some p → (p.address ≡ alias_address parts x) × (p.length ≡ alias_length c q parts x)
   alias-some {p} e =
       let y : p.address ∷ p.length ∷ [] ≡ alias_address parts x ∷ alias_length c q parts x ∷ [] =
@@ -108,12 +94,8 @@ module _ (c q : Bytes) (parts : List ℕ) (x : ℕ) {o : std.Option Place} (f : 
       sym (ap option_numbers e) ∙ ap option_numbers f ∙ alias-numbers c q parts x in
       cc
 
-pub alias-span : (c q : Bytes) (cells parts : List ℕ) (x : ℕ)
+pub alias-span : (c q : Bytes) (cells parts : List ℕ) (x : Item)
     → option_span (item_of c q cells parts x).alias ≡ alias_address parts x ∷ alias_length c q parts x ∷ []
 unfolding item_of entry_item starred_at alias_address alias_length option_span
-alias-span c q cells parts x = go (ltb x statement_rows) refl
-  where
-    go : (b : Bool) → ltb x statement_rows ≡ b
-        → option_span (item_of c q cells parts x).alias ≡ alias_address parts x ∷ alias_length c q parts x ∷ []
-    go true e = rw (item_of, alias_address, alias_length, e) (entry-span c q (numbers_at parts item_kind x).name)
-    go false e = rw (item_of, alias_address, alias_length, e)
+alias-span c q cells parts (I.Entry k) = entry-span c q (numbers_at parts item_kind k).name
+alias-span c q cells parts (I.Starred r) = refl

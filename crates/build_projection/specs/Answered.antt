@@ -27,6 +27,7 @@ use Rattle.numbers.specs.Options.{option_of}
 use Rattle.build_projection.specs.Items.{items_at, item_of, items-length, single}
 use Rattle.build_projection.specs.Terms.{Ready, chosen, counted, outcome_of, Answers, ItemsExpanded, ItemsBuilt}
 use Rattle.build_projection.specs.Listing.{Listing, listing-end, Wide}
+use Rattle.build_projection.specs.declared.items.Item as listed
 
 -- COUNTED
 counted-ok : (is' : List Item) → length is' ≤ most_columns → counted is' ≡ ok is'
@@ -40,7 +41,7 @@ counted-wide is' l w =
     ∙ ap (refuse limit_passed) w.line
 
 -- EXPANDED
-refused-answers : (c q : Bytes) (cells cells' parts items' : List ℕ) (a : Answer (List Item)) (r : std.Result ℕ Refusal)
+refused-answers : (c q : Bytes) (cells cells' parts : List ℕ) (items' : List listed.Item) (a : Answer (List Item)) (r : std.Result ℕ Refusal)
     → (e : Answer (List Item)) → a ≡ e → r ≡ outcome_of e → ((is' : List Item) → e ≡ ok is' → ⊥)
     → Answers c q cells cells' parts items' a r
 refused-answers c q cells cells' parts items' a r e h g n = record {
@@ -57,7 +58,7 @@ not-star : (l : ℕ) (is' : List Item) → refuse star_without_from l ≡ ok is'
 unfolding refuse
 not-star l is' e = ok-not-refused is' _ (sym e)
 
-pub expand-done : {cells₀ parts ts labels : List ℕ} {b : Bool} {k n s : ℕ} {cells items items' : List ℕ} (total : ℕ)
+pub expand-done : {cells₀ parts ts labels : List ℕ} {b : Bool} {k n s : ℕ} {cells : List ℕ} {items items' : List listed.Item} (total : ℕ)
     → Listing cells₀ parts ts labels b k n s cells items
     → ((c q : Bytes) (x : List ℕ) → total ≡ length (section_at c q x parts item_kind)) → total ≤ k
     → items' ≡ items → ItemsExpanded cells₀ cells parts ts labels items' b (std.Ok n)
@@ -78,7 +79,7 @@ expand-done {cells₀} {parts} {ts} {labels = labels'} {b} {n = n} {cells = cell
       };
 })
 
-pub expand-refused : {cells₀ parts ts labels : List ℕ} {b : Bool} {cells items : List ℕ} (l : ℕ) {x : Refusal}
+pub expand-refused : {cells₀ parts ts labels : List ℕ} {b : Bool} {cells : List ℕ} {items : List listed.Item} (l : ℕ) {x : Refusal}
     → x ≡ record { reason = named limit_passed; line = l } → ((c q : Bytes) → Ready c q cells₀ parts ts labels
     → Wide most_columns l (chosen b (columns_of c q ts labels) (items_at c q cells₀ parts)))
     → ItemsExpanded cells₀ cells parts ts labels items b (std.Err x)
@@ -124,7 +125,7 @@ expand-some : (d : Select) (ls : List Label) (l : ℕ) (b : Bool) → plain_star
 unfolding expanded_items stars_expand chosen is_some
 expand-some d ls l b e g = rw (expanded_items, stars_expand, e, lone-length d.items l e, empty-length d.group, g)
 
-module _ {cells cells' parts ts ls items' : List ℕ} {r : std.Result ℕ Refusal} where
+module _ {cells cells' parts ts ls : List ℕ} {items' : List listed.Item} {r : std.Result ℕ Refusal} where
   pub built-none : ((c q : Bytes) → option_of std.None ≡ plain_star (items_at c q cells parts))
       → ItemsExpanded cells cells' parts ts ls items' false r → ItemsBuilt cells cells' parts ts ls items' r
   built-none p x = record {

@@ -1,4 +1,4 @@
--- The items of a SELECT by their numbers: entries, and starred columns behind the statement's rows.
+-- The items of a SELECT: entries, and starred columns behind the statement's rows.
 use Rattle.std.specs.Prelude as std
 use Rattle.std.specs.Prelude.{ℕ, zero, suc, ◌+◌, ◌≤◌, ◌<◌, ◌≡◌, Bool, true, false, ◌&&◌, ltb, eqb, get_or, drop}
 use Rattle.std.proofs.Common.{arith, add-one, ◌∙◌, drop_of_length-le}
@@ -6,13 +6,13 @@ use Rattle.std.proofs.Math.Path.{refl, sym, ap, subst}
 use mathlib.Core.List.{List, [], ◌∷◌}
 use Rattle.std.proofs.Math.Option.{Option, none, some}
 use Rattle.std.proofs.Math.ListN.{length}
-use borrow.Author.Tests.{lt-ltb, le-ltb, eq-eqb, ne_eqb}
+use borrow.Author.Tests.{eq-eqb, ne_eqb}
 use Rattle.rules.specs.Lists.{Bytes, entry_after}
 use Rattle.rules.specs.Ast.{Expr, Item}
 use Rattle.rules.specs.Lines.{Word}
 use Rattle.rules.specs.Views.{as_star}
 use Rattle.rules.specs.Items.{plain_star}
-use Rattle.ast.specs.Table.{statement_rows, table_size, tree_at}
+use Rattle.ast.specs.Table.{table_size, tree_at}
 use Rattle.ast.specs.Row.{line_at, number_of, tree_of, row-tree}
 use Rattle.ast.specs.Operands.{kind_at}
 use Rattle.ast.specs.Names.{option_name}
@@ -27,6 +27,8 @@ use Rattle.statement.specs.Layout.{map_entries, to_item}
 use Rattle.statement.specs.EntryAccess.{item-at, map-length}
 use Rattle.numbers.specs.Options.{option_of}
 use Rattle.build_projection.specs.Stars.{starred_at}
+use Rattle.build_projection.specs.declared.items.Item as listed
+use Rattle.build_projection.specs.declared.items.Item.TheVariants as I
 
 -- the statement's items
 unfoldable pub items_at : Bytes → Bytes → List ℕ → List ℕ → List Item
@@ -40,22 +42,12 @@ entry_item c q cells parts k = record {
   alias = option_name c q (numbers_at parts item_kind k).name;
 }
 
--- the item of a number: an entry, or a starred column by its row
-unfoldable pub item_of : Bytes → Bytes → List ℕ → List ℕ → ℕ → Item
-item_of c q cells parts x = elim (ltb x statement_rows) [
-  | true ↦ entry_item c q cells parts x
-  | false ↦ starred_at c q cells x
-]
+-- what is listed: an entry, or a starred column by its row
+unfoldable pub item_of : Bytes → Bytes → List ℕ → List ℕ → listed.Item → Item
+item_of c q cells parts (I.Entry k) = entry_item c q cells parts k
+item_of c q cells parts (I.Starred r) = starred_at c q cells r
 
 module _ (c q : Bytes) (cells parts : List ℕ) where
-  pub item-entry : (k : ℕ) → k < statement_rows → item_of c q cells parts k ≡ entry_item c q cells parts k
-  unfolding item_of
-  item-entry k h = rw (item_of, lt-ltb k statement_rows h)
-
-  pub item-starred : (x : ℕ) → statement_rows ≤ x → item_of c q cells parts x ≡ starred_at c q cells x
-  unfolding item_of
-  item-starred x h = rw (item_of, le-ltb x statement_rows h)
-
   pub items-length : length (items_at c q cells parts) ≡ length (section_at c q cells parts item_kind)
   unfolding items_at
   items-length = map-length to_item (section_at c q cells parts item_kind)
@@ -147,17 +139,17 @@ module _ (cells parts : List ℕ) (k : ℕ) (e : Entry) (h : e ≡ numbers_at pa
     unfolding sought entry_item
     sought-is b g c q = rw (g, ← h) (t c q ∙ ap (λ i. as_star (tree_at c q cells i)) f)
 
--- item x, by its number
-module _ (cells parts : List ℕ) (x : ℕ) (s : std.Option ℕ) where
-  pub plain-before : x < statement_rows → ((c q : Bytes) → option_of s ≡ plain_star (entry_item c q cells parts x ∷ []))
+-- item x, by its kind
+module _ (cells parts : List ℕ) (x : listed.Item) (s : std.Option ℕ) where
+  pub plain-before : {k : ℕ} → x ≡ I.Entry k → ((c q : Bytes) → option_of s ≡ plain_star (entry_item c q cells parts k ∷ []))
       → (c q : Bytes) → option_of s ≡ plain_star (item_of c q cells parts x ∷ [])
-  plain-before h t c q = rw (item-entry c q cells parts x h) (t c q)
+  unfolding item_of
+  plain-before e t c q = rw e (t c q)
 
-  pub plain-behind : statement_rows ≤ x → ((c q : Bytes) → option_of s ≡ as_star (tree_at c q cells x))
+  pub plain-behind : {r : ℕ} → x ≡ I.Starred r → ((c q : Bytes) → option_of s ≡ as_star (tree_at c q cells r))
       → (c q : Bytes) → option_of s ≡ plain_star (item_of c q cells parts x ∷ [])
-  unfolding starred_at
-  plain-behind h t c q =
-      rw (item-starred c q cells parts x h) (t c q ∙ sym (plain-alone (starred_at c q cells x) refl))
+  unfolding item_of starred_at
+  plain-behind {r} e t c q = rw e (t c q ∙ sym (plain-alone (starred_at c q cells r) refl))
 
 pub sought-not : (b : Bool) → b ≡ false → (i : Item) → option_of std.None ≡ sought b i
 unfolding sought

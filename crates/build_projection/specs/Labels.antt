@@ -1,6 +1,6 @@
 -- The labels of a projection's items: by their aliases, or by what their expressions pass on. Where nothing is matched, what
 -- a column name passes on is the label at the position that stands in its cell.
-use Rattle.std.specs.Prelude.{ℕ, ◌+◌, ◌≤◌, true, false, ◌⊎◌, eqb, length, take, Ok}
+use Rattle.std.specs.Prelude.{ℕ, ◌+◌, ◌≤◌, Bool, true, false, not, ◌⊎◌, eqb, length, take, Ok}
 use Rattle.std.proofs.Common.{arith, inl, inr, ◌∙◌, get_or-take, get_or-append-add, length-take-le}
 use Rattle.std.proofs.Math.Path.{◌≡◌, refl, sym, ap}
 use mathlib.Core.List.{List, [], ◌∷◌, ◌++◌}
@@ -8,7 +8,7 @@ use Rattle.std.proofs.Math.Option.{none, some}
 use Rattle.std.proofs.Math.ListN.{get_or}
 use borrow.Author.Tests.{eq-eqb, ne_eqb}
 use Rattle.rules.specs.Refusals.{ok, ◌>>=◌, refuse}
-use Rattle.rules.specs.Lists.{Bytes, concat}
+use Rattle.rules.specs.Lists.{Bytes, any, concat}
 use Rattle.rules.specs.Ast.{Expr, star, column, literal, call, unary, binary, is}
 use Rattle.rules.specs.Cells.{Cell}
 use Rattle.rules.specs.Cells as C
@@ -27,7 +27,7 @@ use Rattle.ast.specs.declared.row.Kind.TheVariants as K
 use Rattle.scope.specs.Labels.{packed}
 use Rattle.scope.specs.Scopes.{matches_of, scope_from}
 use Rattle.scope.specs.Matches.{matched-from}
-use Rattle.scope.specs.UsedMatches.{used_matches, used-scope}
+use Rattle.scope.specs.UsedMatches.{some_match, used_matches, used-none, used-scope}
 use Rattle.scope.specs.LabelOf.{found_number, passed_number, Passed}
 use Rattle.plan.specs.Layout.{cells_end}
 use Rattle.build_expression.specs.Rows.{column_step, column-is}
@@ -35,15 +35,16 @@ use Rattle.build_expression.specs.Builds.{scope_at}
 use Rattle.build_projection.specs.Aliases.{row_of, alias_address, alias_length, item-tree}
 use Rattle.plan.specs.declared.nodes.Nodes.{Nodes}
 use Rattle.build_projection.specs.Pushes.{ItemPut}
+use Rattle.build_projection.specs.declared.items.Item.{Item}
 
 -- the label of item x over the labels xs, to whose columns ms are matched, and the tables ts
-unfoldable pub label_number : Bytes → Bytes → List ℕ → List ℕ → List ℕ → List ℕ → List ℕ → ℕ → ℕ
+unfoldable pub label_number : Bytes → Bytes → List ℕ → List ℕ → List ℕ → List ℕ → List ℕ → Item → ℕ
 label_number c q t parts xs ms ts x = elim (eqb (alias_length c q parts x) 0) [
   | true ↦ passed_number xs (scope_at c q t xs ms ts 0) (tree_at c q t (row_of parts x))
   | false ↦ packed 0 (alias_address parts x) (alias_length c q parts x)
 ]
 
-module _ (c q : Bytes) (t parts xs ms ts : List ℕ) (x : ℕ) where
+module _ (c q : Bytes) (t parts xs ms ts : List ℕ) (x : Item) where
   pub number_passed : alias_length c q parts x ≡ 0 → label_number c q t parts xs ms ts x
       ≡ passed_number xs (scope_at c q t xs ms ts 0) (tree_at c q t (row_of parts x))
   unfolding label_number
@@ -68,7 +69,7 @@ unfoldable pub cell_label : List ℕ → List ℕ → ℕ → Expr → ℕ
 cell_label xs area n e = elim (as_column e) [ some w ↦ get_or xs (get_or area (cells_end n + 1) 0) 0 | none ↦ 0 ]
 
 -- item x stands in the area from the n-th cell on, behind those before it
-pub record ItemStands (c q : Bytes) (t parts xs ms ts : List ℕ) (x n : ℕ) (area : List ℕ) : Type 0 where
+pub record ItemStands (c q : Bytes) (t parts xs ms ts : List ℕ) (x : Item) (n : ℕ) (area : List ℕ) : Type 0 where
   pub before : List ℕ
   pub cells : List Cell
   pub next : ℕ
@@ -76,7 +77,7 @@ pub record ItemStands (c q : Bytes) (t parts xs ms ts : List ℕ) (x n : ℕ) (a
   pub is : emit (scope_at c q t xs ms ts 0) n (tree_at c q t (row_of parts x)) ≡ ok (cells, next)
   pub stand : take (cells_end next) area ≡ take (cells_end n) before ++ cells_numbers cells
 
-pub stands-put : {c q : Bytes} {t parts xs ms ts : List ℕ} {x n : ℕ} {area area' : List ℕ} {u v : Nodes}
+pub stands-put : {c q : Bytes} {t parts xs ms ts : List ℕ} {x : Item} {n : ℕ} {area area' : List ℕ} {u v : Nodes}
     {y : ℕ} → cells_end n ≤ length area → ItemPut c q t parts xs ms ts x n area area' u v (Ok y)
     → ItemStands c q t parts xs ms ts x n area'
 stands-put {c} {q} {t} {parts} {x = x} {area = area} {y = y} l p =
@@ -103,8 +104,8 @@ column-stands n i area before l h =
     sym g ∙ ap (λ (ys : List ℕ). get_or ys (cells_end n + 1) 0) h ∙ ap (λ (j : ℕ). get_or (b ++ (6 ∷ i ∷ 0 ∷ 0 ∷ [])) (j + 1) 0) (sym e)
     ∙ get_or-append-add b (6 ∷ i ∷ 0 ∷ 0 ∷ []) 1 0
 
-module _ {c q : Bytes} {t parts xs ms ts : List ℕ} {x n : ℕ} {area : List ℕ}
-    (s : ItemStands c q t parts xs ms ts x n area) (z : used_matches ms ≡ []) where
+module _ {c q : Bytes} {t parts xs ms ts : List ℕ} {x : Item} {n : ℕ} {area : List ℕ}
+    (s : ItemStands c q t parts xs ms ts x n area) (z : some_match ms ≡ false) where
   abbrev here : rules.Scope
   here = scope_at c q t xs ms ts 0
 
@@ -112,7 +113,7 @@ module _ {c q : Bytes} {t parts xs ms ts : List ℕ} {x n : ℕ} {area : List �
   unfolding matches_of rules.match_at
   nothing-matched e =
       let y : scope_from (tree_at c q t) c q xs [] ts 0 ≡ here =
-      ap (λ (us : List ℕ). scope_from (tree_at c q t) c q xs us ts 0) (sym z) ∙ used-scope (tree_at c q t) c q xs ms ts 0 in
+      ap (λ (us : List ℕ). scope_from (tree_at c q t) c q xs us ts 0) (used-none ms z) ∙ used-scope (tree_at c q t) c q xs ms ts 0 in
       rw (← y) (matched-from (tree_at c q t) c q xs [] ts 0 e)
 
   looked : (f : rules.Found) (l : ℕ) → column_step n l f ≡ ok (s.cells, s.next)
@@ -142,9 +143,20 @@ module _ {c q : Bytes} {t parts xs ms ts : List ℕ} {x n : ℕ} {area : List �
       let y : l ≡ cell_label xs area n (tree_at c q t (row_of parts x)) = rw f at g in
       y ∙ passed-cell (tree_at c q t (row_of parts x)) s.is ∙ sym (number_passed c q t parts xs ms ts x (sym e ∙ h))
 
-pub none-used : (us ms : List ℕ) → us ≡ used_matches ms → length us ≡ 0 → used_matches ms ≡ []
-none-used [] ms e h = sym e
-none-used (u ∷ us) ms e h = absurd (omega (arith, h))
+nothing-some : some_match [] ≡ false
+unfolding some_match any
+nothing-some = refl
+
+-- there are matches in use where something is matched
+pub some-used : (us ms : List ℕ) → us ≡ used_matches ms → not (eqb (length us) 0) ≡ some_match ms
+unfolding used_matches
+some-used us ms e = go us (some_match ms) refl e
+  where
+    go : (vs : List ℕ) (b : Bool) → some_match ms ≡ b → vs ≡ elim b [ true ↦ ms | false ↦ [] ] → not (eqb (length vs) 0) ≡ b
+    go [] true h g = let y : false ≡ true = sym nothing-some ∙ ap some_match g ∙ h in cc
+    go [] false h g = refl
+    go (v ∷ vs) true h g = rw (ne_eqb (length (v ∷ vs)) 0 (λ z. omega arith))
+    go (v ∷ vs) false h g = absurd (omega (arith, ap length g))
 
 -- BY THE KIND OF A ROW
 named-tree : (c q : Bytes) (t : List ℕ) (r : ℕ) {k : Kind} → (k ≡ K.Column) ⊎ (k ≡ K.Qualified)

@@ -1,4 +1,4 @@
--- The items one after the other: the numbers listed so far and what is left stand for all items.
+-- The items one after the other: what is listed so far and what is left stand for all items.
 use Rattle.std.specs.Prelude as std
 use Rattle.std.specs.Prelude.{ℕ, zero, suc, ◌+◌, ◌-◌, ◌*◌, ◌≤◌, ◌<◌, ◌≡◌, Bool, true, drop, set}
 use native.Mathlib.Omega.{arith}
@@ -28,10 +28,12 @@ use Rattle.sections.specs.Access.{item_kind, numbers_at}
 use Rattle.statement.specs.Layout.{map_entries, to_item}
 use Rattle.numbers.specs.Options.{option_of}
 use Rattle.build_projection.specs.Stars.{with_columns, columns-room, columns-below, columns-back, starred_at}
-use Rattle.build_projection.specs.Items.{items_at, entry_item, item_of, item-entry, item-starred, items-length}
+use Rattle.build_projection.specs.Items.{items_at, entry_item, item_of, items-length}
 use Rattle.build_projection.specs.Items.{entry-after, items-drop, sought}
-use Rattle.build_projection.specs.Steps.{width_of, starred_of, limit_line, numbers_for, cells_with, ItemListed}
+use Rattle.build_projection.specs.Steps.{width_of, starred_of, limit_line, items_for, cells_with, ItemListed}
 use Rattle.build_projection.specs.Terms.{Ready, chosen}
+use Rattle.build_projection.specs.declared.items.Item as listed
+use Rattle.build_projection.specs.declared.items.Item.TheVariants as I
 use Rattle.build_projection.specs.declared.items.Listed.{Listed}
 
 -- ENTRIES THAT ARE KEPT
@@ -60,13 +62,12 @@ chosen-item true (std.Some l) i r ls e = rw (expand_stars, ← e)
 chosen-item false std.None i r ls e = refl
 chosen-item false (std.Some l) i r ls e = grind arith
 
--- a starred row is no entry
-starred-rows : (c q : Bytes) (x parts : List ℕ) (r w : ℕ) → statement_rows ≤ r
-    → map (item_of c q x parts) (up_to r w) ≡ map (starred_at c q x) (up_to r w)
-unfolding up_to
-starred-rows c q x parts r zero h = refl
-starred-rows c q x parts r (suc w) h =
-    rw (item-starred c q x parts r h, starred-rows c q x parts (suc r) w (omega arith))
+-- starred columns by their rows
+starred-rows : (c q : Bytes) (x parts rs : List ℕ)
+    → map (item_of c q x parts) (map I.Starred rs) ≡ map (starred_at c q x) rs
+unfolding item_of
+starred-rows c q x parts [] = refl
+starred-rows c q x parts (r ∷ rs) = rw (starred-rows c q x parts rs)
 
 pub up_to-length : (r w : ℕ) → length (up_to r w) ≡ w
 unfolding up_to
@@ -74,7 +75,7 @@ up_to-length r zero = refl
 up_to-length r (suc w) = ap suc (up_to-length (suc r) w)
 
 -- numbers behind the first n
-pub take-sets : (n : ℕ) (l vs : List ℕ) → n + length vs ≤ length l → take (n + length vs) (sets l n vs) ≡ take n l ++ vs
+pub take-sets : {A : Type 0} (n : ℕ) (l vs : List A) → n + length vs ≤ length l → take (n + length vs) (sets l n vs) ≡ take n l ++ vs
 take-sets n l vs h =
     let z : length (take n l ++ vs) ≡ n + length vs = length-append (take n l) vs ∙ rw (length-take-le n l (omega arith)) in
     ap (take (n + length vs)) (sets-eq vs l n h)
@@ -82,7 +83,7 @@ take-sets n l vs h =
 
 -- THE STATE
 -- n items are listed for the first k entries, s of them starred
-pub record Listing (cells₀ parts ts labels : List ℕ) (b : Bool) (k n s : ℕ) (cells items : List ℕ) : Type 0 where
+pub record Listing (cells₀ parts ts labels : List ℕ) (b : Bool) (k n s : ℕ) (cells : List ℕ) (items : List listed.Item) : Type 0 where
   pub begun : length cells₀ ≡ table_size
   pub room : length cells ≡ table_size
   pub space : length items ≡ most_columns
@@ -167,7 +168,7 @@ joined-lists : {A : Type 0} (xs new rest all : List A) (left : List A) → left 
     → (xs ++ new) ++ rest ≡ all
 joined-lists xs new rest all left e f = append_assoc xs new rest ∙ ap (λ r. xs ++ r) (sym e) ∙ f
 
-module _ {cells₀ parts ts labels : List ℕ} {b : Bool} {k n s : ℕ} {cells items : List ℕ}
+module _ {cells₀ parts ts labels : List ℕ} {b : Bool} {k n s : ℕ} {cells : List ℕ} {items : List listed.Item}
     (h : Listing cells₀ parts ts labels b k n s cells items) (star : std.Option ℕ) {total : ℕ} (j : k < total)
     (m : (c q : Bytes) (x : List ℕ) → total ≡ length (section_at c q x parts item_kind))
     (t : (c q : Bytes) → option_of star ≡ sought b (entry_item c q cells parts k)) where
@@ -182,26 +183,25 @@ module _ {cells₀ parts ts labels : List ℕ} {b : Bool} {k n s : ℕ} {cells i
 
   -- an entry that is no star
   entry_more : ((c q : Bytes) → Ready c q cells₀ parts ts labels → Found c q cells₀ parts ts labels b k std.None)
-      → n + 1 ≤ most_columns → Listing cells₀ parts ts labels b (suc k) (n + 1) (s + 0) cells (set items n k)
-  unfolding new_items
+      → n + 1 ≤ most_columns → Listing cells₀ parts ts labels b (suc k) (n + 1) (s + 0) cells (set items n (I.Entry k))
+  unfolding new_items item_of
   entry_more f d =
       let z : s + 0 ≡ s = omega arith in
       rw z (record {
         begun = h.begun;
         room = h.room;
-        space = length-set items n k ∙ h.space;
+        space = length-set items n (I.Entry k) ∙ h.space;
         most = d;
         starred = omega (arith, h.starred);
         kept = h.kept;
         holds = λ c q r x u v.
             let l : k < length (section_at c q cells₀ parts item_kind) = omega (arith, m c q cells₀) in
             let below = kept_on h.kept (kept-first (row_size * statement_rows) u (omega arith)) in
-            let i : item_of c q x parts k ≡ entry_item c q cells₀ parts k =
-            item-entry c q x parts k (omega (arith, r.few))
-            ∙ entry_kept c q cells₀ parts ts labels x r h.begun below v k l in
-            let ks : take (n + 1) (set items n k) ≡ take n items ++ (k ∷ []) =
-            take-sets n items (k ∷ []) (omega (arith, h.space)) in
-            rw (ks, map-append (item_of c q x parts) (take n items) (k ∷ []), i)
+            let i : item_of c q x parts (I.Entry k) ≡ entry_item c q cells₀ parts k =
+            entry_kept c q cells₀ parts ts labels x r h.begun below v k l in
+            let ks : take (n + 1) (set items n (I.Entry k)) ≡ take n items ++ (I.Entry k ∷ []) =
+            take-sets n items (I.Entry k ∷ []) (omega (arith, h.space)) in
+            rw (ks, map-append (item_of c q x parts) (take n items) (I.Entry k ∷ []), i)
             (joined-lists (map (item_of c q x parts) (take n items)) (entry_item c q cells₀ parts k ∷ [])
             (chosen b (columns_of c q ts labels) (drop (suc k) (items_at c q cells₀ parts))) _ _ (f c q r).left
             (h.holds c q r x u v));
@@ -212,29 +212,30 @@ module _ {cells₀ parts ts labels : List ℕ} {b : Bool} {k n s : ℕ} {cells i
       → ((c q : Bytes) → Ready c q cells₀ parts ts labels → Found c q cells₀ parts ts labels b k (std.Some l))
       → n + length labels ≤ most_columns
       → Listing cells₀ parts ts labels b (suc k) (n + length labels) (s + length labels)
-      (with_columns cells ts s l labels) (sets items n (up_to (starred_row s) (length labels)))
+      (with_columns cells ts s l labels) (sets items n (map I.Starred (up_to (starred_row s) (length labels))))
   unfolding new_items
   star-more l f d =
       let w = length labels in
+      let rs : List listed.Item = map I.Starred (up_to (starred_row s) w) in
+      let size : length rs ≡ w = length-map (up_to (starred_row s) w) I.Starred ∙ up_to-length (starred_row s) w in
       let fits : s + w ≤ starred_rows = omega (arith, h.starred) in
       record {
         begun = h.begun;
         room = columns-room labels cells ts s l fits h.room;
-        space = length-sets items n (up_to (starred_row s) w) ∙ h.space;
+        space = length-sets items n rs ∙ h.space;
         most = d;
         starred = omega (arith, h.starred);
         kept = kept_on h.kept
             (kept-first (row_size * statement_rows) (columns-below labels cells ts s l) (omega arith));
         holds = λ c q r x u v.
             let e : starred_row (s + w) ≡ starred_row s + w = omega arith in
-            let back = starred-rows c q x parts (starred_row s) w (omega arith)
+            let back = starred-rows c q x parts (up_to (starred_row s) w)
             ∙ columns-back labels cells ts s l fits h.room c q r.qualified x (rw (← e) u) in
             let below = kept_on (columns-below labels cells ts s l)
             (kept-first (row_size * starred_row s) u (omega arith)) in
-            let ks : take (n + w) (sets items n (up_to (starred_row s) w)) ≡ take n items ++ up_to (starred_row s) w =
-            rw (up_to-length (starred_row s) w) at
-            (take-sets n items (up_to (starred_row s) w) (omega (arith, up_to-length (starred_row s) w, h.space))) in
-            rw (ks, map-append (item_of c q x parts) (take n items) (up_to (starred_row s) w), back)
+            let ks : take (n + w) (sets items n rs) ≡ take n items ++ rs =
+            rw size at (take-sets n items rs (omega (arith, size, h.space))) in
+            rw (ks, map-append (item_of c q x parts) (take n items) rs, back)
             (joined-lists (map (item_of c q x parts) (take n items)) (map (starred_column l) (columns_of c q ts labels))
             (chosen b (columns_of c q ts labels) (drop (suc k) (items_at c q cells₀ parts))) _ _ (f c q r).left
             (h.holds c q r x below v));
@@ -250,9 +251,9 @@ module _ {cells₀ parts ts labels : List ℕ} {b : Bool} {k n s : ℕ} {cells i
       by-star : (y : std.Option ℕ) → ((c q : Bytes) → Ready c q cells₀ parts ts labels → Found c q cells₀ parts ts labels b k y)
           → n + width_of y (length labels) ≤ most_columns
           → Listing cells₀ parts ts labels b (suc k) (n + width_of y (length labels)) (s + starred_of y (length labels))
-          (cells_with y cells ts s labels) (sets items n (numbers_for y k s (length labels)))
-      by-star std.None f d = unfold width_of starred_of cells_with numbers_for in entry_more f d
-      by-star (std.Some l) f d = unfold width_of starred_of cells_with numbers_for in star-more l f d
+          (cells_with y cells ts s labels) (sets items n (items_for y k s (length labels)))
+      by-star std.None f d = unfold width_of starred_of cells_with items_for in entry_more f d
+      by-star (std.Some l) f d = unfold width_of starred_of cells_with items_for in star-more l f d
 
   -- one too many: the item behind the most, with its line
   pub listing-limit : {line : ℕ} {cells' : List ℕ} {before after : Listed} {x : Refusal} → before.count ≡ n
@@ -273,7 +274,7 @@ module _ {cells₀ parts ts labels : List ℕ} {b : Bool} {k n s : ℕ} {cells i
       (omega (arith, a.is.beyond, e, new-length star i ls, columns-length c q ts labels, ap (width_of star) (columns-length c q ts labels)))))
 
 -- all are listed
-pub listing-end : {cells₀ parts ts labels : List ℕ} {b : Bool} {k n s total : ℕ} {cells items : List ℕ}
+pub listing-end : {cells₀ parts ts labels : List ℕ} {b : Bool} {k n s total : ℕ} {cells : List ℕ} {items : List listed.Item}
     → Listing cells₀ parts ts labels b k n s cells items
     → ((c q : Bytes) (x : List ℕ) → total ≡ length (section_at c q x parts item_kind)) → total ≤ k
     → (c q : Bytes) → Ready c q cells₀ parts ts labels

@@ -3,6 +3,7 @@ use Rattle.std.specs.Prelude.{ℕ, suc, pred, ◌+◌, ◌-◌, ◌*◌, ◌≤�
 use Rattle.std.proofs.Common.{arith, add-one, sym, ◌∙◌, drop_of_length-le, drop-cons}
 use Rattle.std.proofs.Math.Numerals.{sub-one}
 use Rattle.std.proofs.Math.Path.{ap}
+use Rattle.std.proofs.lemmas.List.{length-map, get_or-map}
 use mathlib.Core.List.{List, [], ◌∷◌, ◌++◌, map, append_assoc, append-nil}
 use Rattle.std.proofs.Math.Option.{Option}
 use Rattle.rules.specs.Refusals.{Answer, ok}
@@ -22,6 +23,7 @@ use Rattle.appends.specs.Lists.Entry.{item-step, item_refused}
 use Rattle.appends.specs.Lists.Loops.{firsts-step, firsts-stop, firsts-done}
 use Rattle.numbers.specs.declared.refusals.Refusal.{Refusal}
 use Rattle.numbers.specs.Kept.{Kept, kept-part, kept_on, kept_set}
+use Rattle.scope.specs.Copies.{Copying, copying-first}
 use Rattle.scope.specs.UsedMatches.{used_matches}
 use Rattle.plan.specs.Layout.{cells_end, item_size}
 use Rattle.plan.specs.Cells.{Room, cells-none}
@@ -36,6 +38,8 @@ use Rattle.build_expression.specs.Rows.{emit-within}
 use Rattle.build_expression.specs.Builds.{scope_at, Builds, used-at}
 use Rattle.build_projection.specs.Items.{item_of}
 use Rattle.build_projection.specs.Aliases.{row_of, item-tree}
+use Rattle.build_projection.specs.declared.items.Item.{Item}
+use Rattle.build_projection.specs.declared.items.Item.TheVariants as I
 
 -- CONTRACTS
 -- one item: its expression's cells and its part of the record, or its refusal
@@ -45,7 +49,7 @@ pub record One (a : Emitting) (alias : Option Word) (n : ℕ) (area area' : List
   pub stand : take (cells_end m) area' ≡ take (cells_end n) area ++ cells_numbers cells
   pub part : Pushed (item_numbers ((pred m, alias) ∷ [])) u v
 
-pub record ItemPut (c q : Bytes) (t parts xs ms ts : List ℕ) (x n : ℕ) (area area' : List ℕ) (u v : Nodes) (r : Written)
+pub record ItemPut (c q : Bytes) (t parts xs ms ts : List ℕ) (x : Item) (n : ℕ) (area area' : List ℕ) (u v : Nodes) (r : Written)
     : Type 0 where
   pub kept : nodes.Kept u v
   pub is : (h : ℕ) → MatchResult r (One (emit (scope_at c q t xs ms ts h) n (item_of c q t parts x).expr)
@@ -53,7 +57,7 @@ pub record ItemPut (c q : Bytes) (t parts xs ms ts : List ℕ) (x n : ℕ) (area
       (RefusedWith (emit (scope_at c q t xs ms ts h) n (item_of c q t parts x).expr))
 
 -- the matches us are those that ms has, or none where nothing is matched
-pub used-put : {c q : Bytes} {t parts xs us ts : List ℕ} {x n : ℕ} {area area' : List ℕ} {u v : Nodes}
+pub used-put : {c q : Bytes} {t parts xs us ts : List ℕ} {x : Item} {n : ℕ} {area area' : List ℕ} {u v : Nodes}
     {r : Written} (ms : List ℕ) → us ≡ used_matches ms → ItemPut c q t parts xs us ts x n area area' u v r
     → ItemPut c q t parts xs ms ts x n area area' u v r
 used-put {c} {q} {t} {xs = xs} {us} {ts} ms e p =
@@ -67,7 +71,7 @@ pub record All (a : Answer (Entries (ℕ × Option Word))) (n : ℕ) (area area'
   pub stand : take (cells_end m) area' ≡ take (cells_end n) area ++ cells_numbers cells
   pub pushed : Pushed (item_numbers parts) u v
 
-pub record ItemsPut (c q : Bytes) (t parts xs ms ts items : List ℕ) (n : ℕ) (area area' : List ℕ) (u v : Nodes)
+pub record ItemsPut (c q : Bytes) (t parts xs ms ts : List ℕ) (items : List Item) (n : ℕ) (area area' : List ℕ) (u v : Nodes)
     (r : Written) : Type 0 where
   pub kept : nodes.Kept u v
   pub is : (h : ℕ) → MatchResult r
@@ -75,7 +79,7 @@ pub record ItemsPut (c q : Bytes) (t parts xs ms ts items : List ℕ) (n : ℕ) 
       (RefusedWith (emit_firsts (item_built (scope_at c q t xs ms ts h)) n (map (item_of c q t parts) items)))
 
 -- the labels that are stored: where the items are put, the first are those that f gives each; behind them all is as it was
-pub record Labelled (f : ℕ → ℕ) (items labels labels' : List ℕ) (r : Written) : Type 0 where
+pub record Labelled (f : Item → ℕ) (items : List Item) (labels labels' : List ℕ) (r : Written) : Type 0 where
   pub is : OnOk r (take (length items) labels' ≡ map f items)
   pub kept : Kept (length items) most_columns labels labels'
 
@@ -83,17 +87,24 @@ pub kept_next : {i b : ℕ} (v : ℕ) {s s' : List ℕ} → Kept i b s s' → Ke
 kept_next {i} {b} v {s} {s'} k =
     kept_on (kept-part (i + 1) b k (omega arith) (omega arith)) (kept_set s' i v (i + 1) b (omega arith))
 
+-- what f makes of each item, stored one after the other
+pub copying-items : (f : Item → ℕ) (items : List Item) {j : ℕ} {ls : List ℕ} (v : ℕ) → Copying [] 0 (map f items) j ls
+    → j < most_columns → j < length items → v ≡ f (get_or items j (I.Entry 0))
+    → Copying [] 0 (map f items) (j + 1) (set ls j v)
+copying-items f items {j} {ls} v t h g e =
+    copying-first v t h (omega (arith, length-map items f)) (e ∙ sym (get_or-map f items j (I.Entry 0) 0 g))
+
 -- there is room for all items' cells and parts
-unfoldable pub items_size : Bytes → Bytes → List ℕ → List ℕ → List ℕ → ℕ
+unfoldable pub items_size : Bytes → Bytes → List ℕ → List ℕ → List Item → ℕ
 items_size c q t parts items = total (λ x. size (item_of c q t parts x).expr) items
 
-pub record ItemsFit (c q : Bytes) (t parts items : List ℕ) (n : ℕ) (area : List ℕ) (u : Nodes) : Type 0 where
+pub record ItemsFit (c q : Bytes) (t parts : List ℕ) (items : List Item) (n : ℕ) (area : List ℕ) (u : Nodes) : Type 0 where
   pub few : length items ≤ most_columns
   pub room : Room n (3 * items_size c q t parts items) area
   pub space : u.used + item_size * length items ≤ length u.numbers.now
 
 -- ONE ITEM
-module _ {c q : Bytes} {t xs ms ts : List ℕ} {r n : ℕ} {area area' : List ℕ} (parts : List ℕ) (x : ℕ)
+module _ {c q : Bytes} {t xs ms ts : List ℕ} {r n : ℕ} {area area' : List ℕ} (parts : List ℕ) (x : Item)
     (g : r ≡ row_of parts x) where
   emits-item : {w : Written} → Builds c q t xs ms ts r n area area' w → (h : ℕ)
       → Emits (emit (scope_at c q t xs ms ts h) n (item_of c q t parts x).expr) n area area' w
@@ -121,7 +132,7 @@ module _ {c q : Bytes} {t xs ms ts : List ℕ} {r n : ℕ} {area area' : List �
 
 -- ALL ITEMS
 -- of the items, i are put: their cells up to the m-th, and their parts
-pub record Sofar (c q : Bytes) (t parts xs ms ts items : List ℕ) (n : ℕ) (area₀ area : List ℕ) (u₀ u : Nodes) (i m h : ℕ)
+pub record Sofar (c q : Bytes) (t parts xs ms ts : List ℕ) (items : List Item) (n : ℕ) (area₀ area : List ℕ) (u₀ u : Nodes) (i m h : ℕ)
     : Type 0 where
   pub cells : List Cell
   pub entries : List (ℕ × Option Word)
@@ -131,7 +142,7 @@ pub record Sofar (c q : Bytes) (t parts xs ms ts items : List ℕ) (n : ℕ) (ar
   pub stand : take (cells_end m) area ≡ take (cells_end n) area₀ ++ cells_numbers cells
   pub pushed : Pushed (item_numbers entries) u₀ u
 
-pub record Pushing (c q : Bytes) (t parts xs ms ts items : List ℕ) (n : ℕ) (area₀ area : List ℕ) (u₀ u : Nodes) (i m : ℕ)
+pub record Pushing (c q : Bytes) (t parts xs ms ts : List ℕ) (items : List Item) (n : ℕ) (area₀ area : List ℕ) (u₀ u : Nodes) (i m : ℕ)
     : Type 0 where
   pub within : i ≤ length items
   pub area-kept : length area ≡ length area₀
@@ -144,7 +155,7 @@ pub items-none : item_numbers [] ≡ []
 unfolding item_numbers
 items-none = refl
 
-pub pushing-begin : {c q : Bytes} {t parts items : List ℕ} {n : ℕ} {area : List ℕ} {u : Nodes}
+pub pushing-begin : {c q : Bytes} {t parts : List ℕ} {items : List Item} {n : ℕ} {area : List ℕ} {u : Nodes}
     (xs ms ts : List ℕ) → ItemsFit c q t parts items n area u
     → Pushing c q t parts xs ms ts items n area area u u 0 n
 pushing-begin {n = n} {u = u} xs ms ts f =
@@ -164,10 +175,10 @@ pushing-begin {n = n} {u = u} xs ms ts f =
       };
     }
 
-module _ {c q : Bytes} {t parts xs ms ts items : List ℕ} {n : ℕ} {area₀ area : List ℕ} {u₀ u : Nodes} {i m : ℕ}
+module _ {c q : Bytes} {t parts xs ms ts : List ℕ} {items : List Item} {n : ℕ} {area₀ area : List ℕ} {u₀ u : Nodes} {i m : ℕ}
     (p : Pushing c q t parts xs ms ts items n area₀ area u₀ u i m) where
-  abbrev here : ℕ
-  here = get_or items i 0
+  abbrev here : Item
+  here = get_or items i (I.Entry 0)
 
   pub cells-before : cells_end m ≤ length area
   cells-before = omega (arith, p.room.held)
@@ -176,7 +187,7 @@ module _ {c q : Bytes} {t parts xs ms ts items : List ℕ} {n : ℕ} {area₀ ar
     size-here : items_size c q t parts (drop i items)
         ≡ size (item_of c q t parts here).expr + items_size c q t parts (drop (suc i) items)
     unfolding items_size total
-    size-here = rw (drop-cons items i 0 l)
+    size-here = rw (drop-cons items i (I.Entry 0) l)
 
     pub room-here : Room m (3 * size (item_of c q t parts here).expr) area
     room-here = record {
@@ -189,7 +200,7 @@ module _ {c q : Bytes} {t parts xs ms ts items : List ℕ} {n : ℕ} {area₀ ar
 
     item-here : map (item_of c q t parts) (drop i items)
         ≡ item_of c q t parts here ∷ map (item_of c q t parts) (drop (suc i) items)
-    item-here = ap (map (item_of c q t parts)) (drop-cons items i 0 l)
+    item-here = ap (map (item_of c q t parts)) (drop-cons items i (I.Entry 0) l)
 
     module _ {area' : List ℕ} {v : Nodes} where
       pub pushing-refused : {w : Refusal} → ItemPut c q t parts xs ms ts here m area area' u v (Err w)

@@ -4,7 +4,7 @@ use native.Mathlib.Omega.{arith}
 use Rattle.std.proofs.Math.Path.{◌≡◌, refl}
 use Rattle.std.proofs.Common.{◌∙◌}
 use Rattle.std.specs.Prelude as std
-use Rattle.std.specs.Prelude.{List, [], ◌∷◌, length, set}
+use Rattle.std.specs.Prelude.{List, [], ◌∷◌, map, length, set}
 use Rattle.std.proofs.Math.ListN.{length-set}
 use Rattle.std.proofs.lemmas.List.Edits.{sets}
 use Rattle.rules.specs.Refusals.{limit_passed}
@@ -15,6 +15,8 @@ use Rattle.numbers.specs.Reasons.{named}
 use Rattle.numbers.specs.declared.refusals.Reason.TheVariants.{LimitPassed}
 use Rattle.numbers.specs.declared.refusals.Refusal.{Refusal}
 use Rattle.build_projection.specs.Stars.{with_columns}
+use Rattle.build_projection.specs.declared.items.Item.{Item}
+use Rattle.build_projection.specs.declared.items.Item.TheVariants as I
 use Rattle.build_projection.specs.declared.items.Listed.{Listed}
 
 -- how many items it is over w columns, and how many of them are starred
@@ -31,10 +33,10 @@ unfoldable pub limit_line : std.Option ℕ → ℕ → ℕ
 limit_line std.None line = line
 limit_line (std.Some l) line = l
 
--- the items' numbers, and the rows with the starred columns
-unfoldable pub numbers_for : std.Option ℕ → (k s w : ℕ) → List ℕ
-numbers_for std.None k s w = k ∷ []
-numbers_for (std.Some l) k s w = up_to (starred_row s) w
+-- the items, and the rows with the starred columns
+unfoldable pub items_for : std.Option ℕ → (k s w : ℕ) → List Item
+items_for std.None k s w = I.Entry k ∷ []
+items_for (std.Some l) k s w = map I.Starred (up_to (starred_row s) w)
 
 unfoldable pub cells_with : std.Option ℕ → (cells ts : List ℕ) → ℕ → List ℕ → List ℕ
 cells_with std.None cells ts s labels = cells
@@ -46,7 +48,7 @@ pub record Listable (cells cells' ts labels : List ℕ) (k : ℕ) (star : std.Op
   pub count : x.count ≡ before.count + width_of star (length labels)
   pub starred : x.starred ≡ before.starred + starred_of star (length labels)
   pub rows : cells' ≡ cells_with star cells ts before.starred labels
-  pub numbers : x.items.now ≡ sets before.items.now before.count (numbers_for star k before.starred (length labels))
+  pub numbers : x.items.now ≡ sets before.items.now before.count (items_for star k before.starred (length labels))
 
 -- one too many
 pub record TooMany (w line : ℕ) (star : std.Option ℕ) (n : ℕ) (x : Refusal) : Type 0 where
@@ -74,9 +76,9 @@ module _ (cells ts labels : List ℕ) (k line : ℕ) (before : Listed) where
 
   module _ (after : Listed) (same : after.items.ghost_name ≡ before.items.ghost_name) where
     pub entry_listed : before.count < most_columns → after.count ≡ before.count + 1 → after.starred ≡ before.starred
-        → after.items.now ≡ set before.items.now before.count k
+        → after.items.now ≡ set before.items.now before.count (I.Entry k)
         → ItemListed cells cells ts labels k line std.None before after (std.Ok tt)
-    unfolding width_of starred_of cells_with numbers_for
+    unfolding width_of starred_of cells_with items_for
     entry_listed h a b e = record {
       same = same;
       is = record { within = omega arith; count = a; starred = omega (arith, b); rows = refl; numbers = e };
@@ -85,33 +87,33 @@ module _ (cells ts labels : List ℕ) (k line : ℕ) (before : Listed) where
     pub star-listed : (l : ℕ) (cells' : List ℕ) → before.count + length labels ≤ most_columns
         → after.count ≡ before.count + length labels → after.starred ≡ before.starred + length labels
         → cells' ≡ with_columns cells ts before.starred l labels
-        → after.items.now ≡ sets before.items.now before.count (up_to (starred_row before.starred) (length labels))
+        → after.items.now ≡ sets before.items.now before.count (map I.Starred (up_to (starred_row before.starred) (length labels)))
         → ItemListed cells cells' ts labels k line (std.Some l) before after (std.Ok tt)
-    unfolding width_of starred_of cells_with numbers_for
+    unfolding width_of starred_of cells_with items_for
     star-listed l cells' h a b e f = record {
       same = same;
       is = record { within = h; count = a; starred = b; rows = e; numbers = f };
     }
 
--- NUMBERS ONE AFTER THE OTHER
--- the w numbers from first on, in the places from n on, j of them so far
-pub record Filling (items₀ : List ℕ) (n first w j : ℕ) (items : List ℕ) : Type 0 where
+-- STARRED COLUMNS ONE AFTER THE OTHER
+-- those of the w rows from first on, in the places from n on, j of them so far
+pub record Filling (items₀ : List Item) (n first w j : ℕ) (items : List Item) : Type 0 where
   pub space : length items ≡ length items₀
-  pub rest : sets items (n + j) (up_to (first + j) (w - j)) ≡ sets items₀ n (up_to first w)
+  pub rest : sets items (n + j) (map I.Starred (up_to (first + j) (w - j))) ≡ sets items₀ n (map I.Starred (up_to first w))
 
-module _ {items₀ : List ℕ} {n first w j : ℕ} {items : List ℕ} (h : Filling items₀ n first w j items) where
-  pub filling-more : {v i : ℕ} → v ≡ first + j → i ≡ n + j → j < w → Filling items₀ n first w (j + 1) (set items i v)
+module _ {items₀ : List Item} {n first w j : ℕ} {items : List Item} (h : Filling items₀ n first w j items) where
+  pub filling-more : {v : Item} {i : ℕ} → v ≡ I.Starred (first + j) → i ≡ n + j → j < w → Filling items₀ n first w (j + 1) (set items i v)
   unfolding up_to
   filling-more e f g =
       let a : n + (j + 1) ≡ suc (n + j) = omega arith in
       let b : first + (j + 1) ≡ suc (first + j) = omega arith in
       let c : w - j ≡ suc (w - (j + 1)) = omega arith in
       rw (e, f) (record {
-        space = length-set items (n + j) (first + j) ∙ h.space;
+        space = length-set items (n + j) (I.Starred (first + j)) ∙ h.space;
         rest = rw (a, b) (rw c at h.rest);
       })
 
-  pub filling-end : w ≤ j → items ≡ sets items₀ n (up_to first w)
+  pub filling-end : w ≤ j → items ≡ sets items₀ n (map I.Starred (up_to first w))
   unfolding up_to
   filling-end g =
       let c : w - j ≡ 0 = omega arith in

@@ -1,30 +1,37 @@
-// The items of a SELECT, each star replaced by FROM's columns (planner.rs, build_select). An item is a number: that of
-// its entry, or the row of a starred column, which is behind the statement's rows.
-ghost use Rattle.std.specs.Prelude.{◌≡◌, List, ℕ, [], ◌∷◌, ◌+◌, ◌≤◌, ◌<◌, length};
+// The items of a SELECT, each star replaced by FROM's columns (planner.rs, build_select).
+ghost use Rattle.std.specs.Prelude.{◌≡◌, List, ℕ, [], ◌∷◌, ◌+◌, ◌≤◌, ◌<◌, map, length};
 ghost use Rattle.rules.specs.Limits.{most_columns};
 ghost use Rattle.rules.specs.Lists.{Bytes};
 ghost use Rattle.rules.specs.Views.{as_star};
 ghost use Rattle.rules.specs.Items.{plain_star};
-ghost use Rattle.ast.specs.Table.{statement_rows, starred_rows, table_size, tree_at};
+ghost use Rattle.ast.specs.Table.{statement_rows, starred_rows, tree_at};
 ghost use Rattle.numbers.specs.Options.{option_of};
 ghost use Rattle.sections.specs.Access.{item_kind, numbers_at};
 ghost use Rattle.scope.specs.Scopes.{up_to};
 ghost use Rattle.build_projection.specs.Items.{entry_item, item_of, items_at, sought, single};
 ghost use Rattle.build_projection.specs.Steps.{ItemListed};
+ghost use Rattle.build_projection.specs.declared.items.Item.TheVariants.{Starred};
 ghost use Rattle.build_projection.specs.Terms.{ItemsExpanded, ItemsBuilt};
 
 use super::stars::put_columns;
 use ast::row::{Kind, kind_of, line};
-use ast::rows::STATEMENT_ROWS;
+use ast::rows::{STATEMENT_ROWS, TABLE_SIZE};
 use entries::Section;
 use numbers::refusals::{Reason, Refusal};
 use scope::COLUMNS;
 use sections::entry::{Entry, count, entry_at};
 
+// An item: an entry by its number, or a starred column by its row, which is behind the statement's rows.
+#[derive(Clone, Copy, Debug, PartialEq, Eq)]
+pub enum Item {
+    Entry(u32),
+    Starred(u32),
+}
+
 // A lent slice, how many items are listed in it so far, and how many of them are starred columns.
 #[derive(Drop)]
 struct Listed<'i> {
-    items: &'i mut [u32],
+    items: &'i mut [Item],
     count: usize,
     starred: u32,
 }
@@ -51,31 +58,30 @@ fn plain_entry(cells: &[u32], parts: &[u32], k: u32) -> Option<u32>
 }
 
 // The star that item x is, where it has no alias.
-pub fn plain_item(cells: &[u32], parts: &[u32], x: u32) -> Option<u32>
+pub fn plain_item(cells: &[u32], parts: &[u32], x: Item) -> Option<u32>
     ensures { (c q : Bytes) → option_of result ≡ plain_star (item_of c q cells.now parts.now x ∷ []) }
 {
-    if x < STATEMENT_ROWS {
-        return plain_entry(cells, parts, x);
+    match x {
+        Item::Entry(k) => plain_entry(cells, parts, k),
+        Item::Starred(r) => star_at(cells, r as usize),
     }
-    star_at(cells, x as usize)
 }
 
 // The first star that has no alias.
-fn plain_star(cells: &[u32], parts: &[u32]) -> Option<u32>
-    requires { length cells.now ≡ table_size }
+fn plain_star(cells: &[u32; TABLE_SIZE], parts: &[u32]) -> Option<u32>
     ensures { (c q : Bytes) → option_of result ≡ plain_star (items_at c q cells.now parts.now) }
 {
     let n = count(parts, Section::Item);
     (0..n).find_map(|k| plain_entry(cells, parts, k))
 }
 
-// Numbers from first on, in each place.
-fn put_rows(items: &mut [u32], first: u32)
+// The starred columns of the rows from first on, in each place.
+fn put_rows(items: &mut [Item], first: u32)
     requires { first + length items.old ≤ statement_rows + starred_rows }
-    ensures { items.new ≡ up_to first (length items.old) }
+    ensures { items.new ≡ map Starred (up_to first (length items.old)) }
 {
-    for i in 0..items.len() {
-        items[i] = first + i as u32;
+    for (i, item) in items.iter_mut().enumerate() {
+        *item = Item::Starred(first + i as u32);
     }
 }
 
@@ -100,16 +106,16 @@ fn list_item(
             if COLUMNS <= n {
                 return Err(Reason::LimitPassed.at(line));
             }
-            listed.items[n] = k;
+            listed.items[n] = Item::Entry(k);
             listed.count += 1;
             Ok(())
         }
-        Some(line) => {
+        Some(star_line) => {
             let w = labels.len();
             if COLUMNS - n < w {
-                return Err(Reason::LimitPassed.at(line));
+                return Err(Reason::LimitPassed.at(star_line));
             }
-            put_columns(cells, tables, labels, listed.starred, line);
+            put_columns(cells, tables, labels, listed.starred, star_line);
             put_rows(&mut listed.items[n..n + w], STATEMENT_ROWS + listed.starred);
             listed.count += w;
             listed.starred += w as u32;
@@ -131,14 +137,14 @@ fn item_star(cells: &[u32], e: Entry, expand: bool) -> Option<u32>
 
 // How many items there are, stars expanded or not.
 fn expand_items(
-    cells: &mut [u32],
+    cells: &mut [u32; TABLE_SIZE],
     parts: &[u32],
     tables: &[u32],
     labels: &[u32],
-    items: &mut [u32],
+    items: &mut [Item],
     expand: bool,
-) -> Result<u32, Refusal>
-    requires { (length cells.old ≡ table_size) × (length items.old ≡ most_columns) }
+) -> Result<usize, Refusal>
+    requires { length items.old ≡ most_columns }
     ensures { ItemsExpanded cells.old cells.new parts.now tables.now
         labels.now items.new expand result }
 {
@@ -153,7 +159,7 @@ fn expand_items(
         let star = item_star(cells, e, expand);
         list_item(cells, tables, labels, k, e.line, star, &mut listed)?;
     }
-    Ok(listed.count as u32)
+    Ok(listed.count)
 }
 
 // Whether there is one item and no group.
@@ -165,13 +171,13 @@ fn is_single(parts: &[u32]) -> bool
 
 // How many items there are over FROM's columns by their labels and tables. Refused too at a star that has no columns.
 pub fn build_items(
-    cells: &mut [u32],
+    cells: &mut [u32; TABLE_SIZE],
     parts: &[u32],
     tables: &[u32],
     labels: &[u32],
-    items: &mut [u32],
-) -> Result<u32, Refusal>
-    requires { (length cells.old ≡ table_size) × (length items.old ≡ most_columns) }
+    items: &mut [Item],
+) -> Result<usize, Refusal>
+    requires { length items.old ≡ most_columns }
     ensures { ItemsBuilt cells.old cells.new parts.now tables.now
         labels.now items.new result }
 {

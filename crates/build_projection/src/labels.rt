@@ -3,9 +3,10 @@ ghost use Rattle.std.specs.Prelude.{◌≡◌, ◌+◌, get_or};
 ghost use Rattle.rules.specs.Lists.{Bytes};
 ghost use Rattle.ast.specs.Table.{tree_at};
 ghost use Rattle.plan.specs.Layout.{cells_end};
-ghost use Rattle.scope.specs.UsedMatches.{used_matches};
+ghost use Rattle.scope.specs.UsedMatches.{some_match};
 ghost use Rattle.build_projection.specs.Labels.{label_number, cell_label, ItemStands};
 
+use crate::items::Item;
 use crate::projection::{alias_at, item_row};
 use ast::Expressions;
 use ast::row::{Kind, kind_of};
@@ -32,31 +33,31 @@ fn cell_label(table: &[u32], r: usize, labels: &[u32], area: &[u32], n: u32) -> 
     }
 }
 
-// The label of item x, which stands in the plan from the n-th cell on: its alias, or what its expression passes on. `used` has
-// no matches where nothing is matched: then a column was looked up by its name, and its position stands in its cell.
+// The label of item x, which stands in the plan from the n-th cell on: its alias, or what its expression passes on. Where
+// nothing is matched to the scope's columns, a column was looked up by its name, and its position stands in its cell.
 pub fn item_label(
     exprs: &Expressions,
     parts: &[u32],
-    x: u32,
+    x: Item,
     scope: &View,
-    used: &View,
+    matched: bool,
     area: &[u32],
     n: u32,
 ) -> u32
-    requires used_value { used.now.matches.now ≡ used_matches scope.now.matches.now }
+    requires matched_value { matched ≡ some_match scope.now.matches.now }
     requires item_stands { ItemStands exprs.now.texts.catalog.now exprs.now.texts.statement.now exprs.now.table.now
         parts.now scope.now.labels.now scope.now.matches.now
         scope.now.tables.now x n area.now }
     ensures { result ≡ label_number exprs.now.texts.catalog.now exprs.now.texts.statement.now exprs.now.table.now parts.now
         scope.now.labels.now scope.now.matches.now scope.now.tables.now x }
 {
-    if let Some(alias) = alias_at(&exprs.texts, parts, x) {
-        if alias.length != 0 {
-            return label(0, alias);
-        }
+    if let Some(alias) = alias_at(&exprs.texts, parts, x)
+        && alias.length != 0
+    {
+        return label(0, alias);
     }
     let r = item_row(parts, x);
-    if used.matches.len() == 0 {
+    if !matched {
         return cell_label(exprs.table, r, scope.labels, area, n);
     }
     label_of(exprs, scope, r)

@@ -44,6 +44,7 @@ use Rattle.build_project.specs.Ready.{ProjectionReady}
 use Rattle.build_projection.specs.Pushes as pushes
 use Rattle.build_statement.specs.Plans.{Plans}
 use Rattle.build_projection.specs.Items.{item_of}
+use Rattle.build_projection.specs.declared.items.Item as listed
 use Rattle.build_select.specs.History.{AfterGroups}
 use Rattle.build_select.specs.Rooms as rooms
 use Rattle.build_select.specs.Held.{HeldOn, held-cells, held-numbers, held-some, held-few, step-on, step-stop}
@@ -153,7 +154,7 @@ groups-matched w gs fs h = rw (build_groups, h)
     go (g ∷ gs) fs z = retain-matched w.scope fs _ (retain-first w.scope g gs (spawn w.scope) refl)
 
 -- GROUPS
-module _ {c q : Bytes} {cells parts items : List ℕ} {scope : Scope} {i : Step} {area : List ℕ} {nodes : Nodes}
+module _ {c q : Bytes} {cells parts : List ℕ} {items : List listed.Item} {scope : Scope} {i : Step} {area : List ℕ} {nodes : Nodes}
     (h : WhereState c q cells parts items scope i area nodes) (froms : List ℕ) where
   abbrev groups_here : List Expr
   groups_here = (select_at c q cells froms parts).group

@@ -5,10 +5,10 @@ use Rattle.rules.specs.Refusals.{Answer, ok, refused}
 use Rattle.rules.specs.Limits.{least_area}
 use Rattle.rules.specs.Ast.{Select}
 use Rattle.rules.specs.Plan.{Built, Node, Plan}
-use Rattle.rules.specs.Plan as P
 use Rattle.rules.specs.Cells.{cell_count}
-use Rattle.rules.specs.Nodes.{nodes}
 use Rattle.rules.specs.Entry.{outcome}
+use Rattle.claims.specs.Form.Sources.{some-nodes}
+use Rattle.claims.specs.Numbers32.Plan.{nodes-room}
 use Rattle.claims.specs.Room.Nodes.{most_later_numbers, node_room}
 use Rattle.claims.specs.Room.From.{FromFits}
 use Rattle.plan.specs.Layout.{nodes_size}
@@ -21,33 +21,6 @@ use Rattle.plan.specs.Steps.{RefusedWith, Stepped, Steps, Standing, standing_on,
 use Rattle.plan.specs.declared.steps.Step.{Step}
 use Rattle.build_clauses.specs.Follows.{Follows}
 use Rattle.build_statement.specs.Plans.{planned_of, Plans}
-
--- NODES: there is one, and each takes some numbers
-nodes-some : (d : Node Built) → 0 < nodes d
-unfolding nodes
-nodes-some (P.scan t a x) = omega arith
-nodes-some (P.values rs) = omega arith
-nodes-some (P.join a b x o) = omega arith
-nodes-some (P.filter n x) = omega arith
-nodes-some (P.aggregate n gs fs) = omega arith
-nodes-some (P.project n xs) = omega arith
-nodes-some (P.order n xs) = omega arith
-nodes-some (P.offset n k) = omega arith
-nodes-some (P.limit n k) = omega arith
-nodes-some (P.remap n ts) = omega arith
-
-nodes-few : (d : Node Built) → nodes d ≤ node_room d
-unfolding nodes node_room
-nodes-few (P.scan t a x) = omega arith
-nodes-few (P.values rs) = omega arith
-nodes-few (P.join a b x o) = omega (arith, nodes-few a, nodes-few b)
-nodes-few (P.filter n x) = omega (arith, nodes-few n)
-nodes-few (P.aggregate n gs fs) = omega (arith, nodes-few n)
-nodes-few (P.project n xs) = omega (arith, nodes-few n)
-nodes-few (P.order n xs) = omega (arith, nodes-few n)
-nodes-few (P.offset n k) = omega (arith, nodes-few n)
-nodes-few (P.limit n k) = omega (arith, nodes-few n)
-nodes-few (P.remap n ts) = omega (arith, nodes-few n)
 
 -- there is room for the plan of the SELECT q: `from` numbers are enough for the nodes of its FROM, and as many as the
 -- others may take are left behind them
@@ -87,10 +60,10 @@ module _ {q : Select} {d : Node Built} {i : Step} {area : List ℕ} {nodes : Nod
   )
 
   pub held-some : 0 < i.node
-  held-some = omega (arith, h.standing.lays.node, nodes-some d)
+  held-some = omega (arith, h.standing.lays.node, some-nodes d)
 
   pub held-few : i.node ≤ nodes.used
-  held-few = omega (arith, h.standing.lays.node, nodes-few d, held-numbers)
+  held-few = omega (arith, h.standing.lays.node, nodes-room d, held-numbers)
 
 -- a record may follow
 pub held-follows : {q : Select} {d : Node Built} {i : Step} {area : List ℕ} {nodes : Nodes} {size : ℕ}

@@ -33,6 +33,7 @@ use Rattle.build_clauses.specs.Follows.{Follows}
 use Rattle.build_statement.specs.Plans.{Plans}
 use Rattle.build_projection.specs.Items.{items_at, item_of}
 use Rattle.build_projection.specs.Terms.{Ready, Answers, ItemsBuilt, outcome_of}
+use Rattle.build_projection.specs.declared.items.Item as stored
 use Rattle.build_select.specs.Rooms as rooms
 use Rattle.build_select.specs.Held.{HeldOn, held-cells, held-numbers, held-follows, step-on, step-stop}
 use Rattle.build_select.specs.Held.{plans-refused, plans-after}
@@ -68,19 +69,19 @@ module _ {c q : Bytes} {cells parts : List ℕ} {scope : Scope} {i : Step} {area
     qualified = h.qualified;
   }
 
-  answers : {cells' items' : List ℕ} {r : Result ℕ Refusal}
+  answers : {cells' : List ℕ} {items' : List stored.Item} {r : Result ℕ Refusal}
       → ItemsBuilt cells cells' parts (table_numbers scope) (labels_of scope) items' r
       → Answers c q cells cells' parts items' (build_items d h.stage.node) r
   unfolding select_at select_of items_at
   answers b = b.is c q ready d h.stage.node refl refl h.labels
 
-  pub items-stop : {cells' items' : List ℕ} {x : Refusal}
+  pub items-stop : {cells' : List ℕ} {items' : List stored.Item} {x : Refusal}
       → ItemsBuilt cells cells' parts (table_numbers scope) (labels_of scope) items' (Err x)
       → Plans (select_items d h.stage) area area (Err x)
   items-stop {x = x} b = plans-refused
       (refused-on (not_listed _ x (answers b).answer) (stages.items_refused d h.stage)) refl
 
-  module _ {cells' items' : List ℕ} {w : ℕ}
+  module _ {cells' : List ℕ} {items' : List stored.Item} {w : ℕ}
       (b : ItemsBuilt cells cells' parts (table_numbers scope) (labels_of scope) items' (Ok w)) where
     -- what was listed
     those : Listed (build_items d h.stage.node) w
@@ -121,19 +122,19 @@ module _ {c q : Bytes} {cells parts : List ℕ} {scope : Scope} {i : Step} {area
     unfolding items-state
     items-plans l p = plans-after {area' = area} refl (stages.items-step d h.stage items_here listed-is) p
 
-    -- by other numbers that are the same
-    pub items-on : {xs : List ℕ} → xs ≡ take w items' → length cells' ≡ table_size
+    -- by another list that is the same
+    pub items-on : {xs : List stored.Item} → xs ≡ take w items' → length cells' ≡ table_size
         → ItemsState c q cells' parts xs scope i area nodes
     items-on z l = rw z (items-state l)
 
-    pub items-goes : {xs area' : List ℕ} {x : Written} → xs ≡ take w items' → length cells' ≡ table_size
+    pub items-goes : {xs : List stored.Item} {area' : List ℕ} {x : Written} → xs ≡ take w items' → length cells' ≡ table_size
         → ((s : ItemsState c q cells' parts xs scope i area nodes)
         → Plans (select_where s.select s.stage (map (item_of c q cells' parts) xs)) area area' x)
         → Plans (select_items d h.stage) area area' x
     items-goes z l f = items-plans l ((rw z at f) (items-state l))
 
 -- WHERE
-module _ {c q : Bytes} {cells parts items : List ℕ} {scope : Scope} {i : Step} {area : List ℕ} {nodes : Nodes}
+module _ {c q : Bytes} {cells parts : List ℕ} {items : List stored.Item} {scope : Scope} {i : Step} {area : List ℕ} {nodes : Nodes}
     (h : ItemsState c q cells parts items scope i area nodes) {w : Option Clause}
     (hw : w ≡ clause_at parts where_kind) where
   filter-is : h.select.filter ≡ clause_of c q cells w

@@ -10,7 +10,7 @@ use Rattle.claims.specs.Room.From.{FromFits}
 use Rattle.appends.specs.From.Laid.{stage_of}
 use Rattle.appends.specs.Select.Stages as stages
 use Rattle.appends.specs.Select.Stages.{select_items}
-use Rattle.ast.specs.Table.{table_size, tree_at}
+use Rattle.ast.specs.Table.{tree_at}
 use Rattle.schema.specs.Layout.{catalog_at}
 use Rattle.scope.specs.Scopes.{scope_of}
 use Rattle.from.specs.Layout.{froms_at}
@@ -22,7 +22,7 @@ use Rattle.plan.specs.Emits.{Written}
 use Rattle.plan.specs.declared.nodes.Nodes.{Nodes}
 use Rattle.plan.specs.Steps.{refused-on}
 use Rattle.build_from.specs.Clause.{ClauseRoom, clause-room, ClauseBuilds}
-use Rattle.build_from.specs.declared.Source.{Source}
+use Rattle.stage.specs.declared.Stage.{Stage}
 use Rattle.build_statement.specs.Plans.{Plans}
 use Rattle.build_select.specs.Held.{SelectRoom, room-kept, plans-refused, plans-after}
 use Rattle.build_select.specs.States.{FromState}
@@ -31,7 +31,6 @@ use Rattle.build_select.specs.States.{FromState}
 -- rows behind the statement's are written, and there is room for a plan
 pub record SelectReady (c q : Bytes) (tables cells froms parts area : List ℕ) (nodes : Nodes) : Type 0 where
   pub within : TextsWithin c q (catalog_at c q tables) (Ast.select (select_at c q cells froms parts))
-  pub table : length cells ≡ table_size
   pub stay : SectionsStay q cells parts
   pub free : SelectRoom (select_at c q cells froms parts) area nodes
   pub none : nodes.used ≡ 0
@@ -56,7 +55,7 @@ module _ {c q : Bytes} {tables cells froms parts area : List ℕ} {nodes : Nodes
       → Plans (build_select (catalog_at c q tables) d) area area₁ (Err w)
   source-stop b = plans-refused (refused-on (rw from_is b.is) (stages.from-refused (catalog_at c q tables) d)) b.kept
 
-  module _ {area₁ : List ℕ} {nodes₁ : Nodes} {x : Source}
+  module _ {area₁ : List ℕ} {nodes₁ : Nodes} {x : Stage}
       (b : ClauseBuilds c q tables cells (froms_at c q cells froms rows) area nodes area₁ nodes₁ (Ok x)) where
     pub source-state : FromState c q cells parts x.scope x.at area₁ nodes₁
     source-state =
@@ -71,7 +70,6 @@ module _ {c q : Bytes} {tables cells froms parts area : List ℕ} {nodes : Nodes
           labels = a.labelled;
           qualified = a.qualified;
           within = record { short = h.within.short_statement; parts = select-parts h.within };
-          table = h.table;
           stay = h.stay;
           held = record {
             area₀ = area;

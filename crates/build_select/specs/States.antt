@@ -33,6 +33,7 @@ use Rattle.statement.specs.declared.access.Clause.{Clause}
 use Rattle.plan.specs.declared.nodes.Nodes.{Nodes}
 use Rattle.plan.specs.declared.steps.Step.{Step}
 use Rattle.build_projection.specs.Items.{item_of}
+use Rattle.build_projection.specs.declared.items.Item as listed
 use Rattle.build_select.specs.History.{AfterFrom, AfterWhere, AfterProjection, AfterOrder}
 use Rattle.build_select.specs.Held.{Held}
 
@@ -91,12 +92,11 @@ pub record FromState (c q : Bytes) (cells parts : List ℕ) (scope : Scope) (i :
   pub labels : P.labels stage.node ≡ columns_of c q (table_numbers scope) (labels_of scope)
   pub qualified : All IsQualified (columns_of c q (table_numbers scope) (labels_of scope))
   pub within : SelectWithin c q (select_at c q cells froms parts)
-  pub table : length cells ≡ table_size
   pub stay : SectionsStay q cells parts
   pub held : Held (select_at c q cells froms parts) stage.node i area nodes
 
--- the items, by the numbers items
-pub record ItemsState (c q : Bytes) (cells parts items : List ℕ) (scope : Scope) (i : Step) (area : List ℕ)
+-- the items, as they are listed
+pub record ItemsState (c q : Bytes) (cells parts : List ℕ) (items : List listed.Item) (scope : Scope) (i : Step) (area : List ℕ)
     (nodes : Nodes)
     : Type 0 where
   pub catalog : Catalog
@@ -110,8 +110,8 @@ pub record ItemsState (c q : Bytes) (cells parts items : List ℕ) (scope : Scop
   pub within : SelectWithin c q select
   pub held : Held select stage.node i area nodes
 
--- WHERE: the numbers items stand for the SELECT's items
-pub record WhereState (c q : Bytes) (cells parts items : List ℕ) (scope : Scope) (i : Step) (area : List ℕ)
+-- WHERE: what is listed stands for the SELECT's items
+pub record WhereState (c q : Bytes) (cells parts : List ℕ) (items : List listed.Item) (scope : Scope) (i : Step) (area : List ℕ)
     (nodes : Nodes)
     : Type 0 where
   pub catalog : Catalog

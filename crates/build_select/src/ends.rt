@@ -21,7 +21,7 @@ fn select_remap(scope: &Scope, area: &mut [u32], nodes: &mut Nodes, at: Step) ->
     ensures { (h : LimitState scope.now at area.old nodes.old)
         → Plans (select_remap h.select h.stage h.node) area.old area.new (Ok result) }
 {
-    let remapped = build_remap(scope.width, scope.hidden, nodes, at);
+    let remapped = build_remap(scope, nodes, at);
     let own = nodes.used;
     finish(area, nodes, Kind::Select, remapped, own);
     remapped.cell

@@ -9,6 +9,7 @@ use super::later::select_later;
 use ast::Expressions;
 use build_groups::build_groups;
 use build_project::build_projection;
+use build_projection::items::Item;
 use numbers::refusals::Refusal;
 use plan::nodes::Nodes;
 use plan::steps::Step;
@@ -18,7 +19,7 @@ use scope::Scope;
 pub fn select_groups(
     exprs: &Expressions,
     parts: &[u32],
-    items: &[u32],
+    items: &[Item],
     scope: &Scope,
     area: &mut [u32],
     nodes: &mut Nodes,

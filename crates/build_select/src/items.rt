@@ -8,8 +8,9 @@ ghost use Rattle.build_select.specs.States.{FromState, ItemsState};
 
 use super::groups::select_groups;
 use ast::Expressions;
+use ast::rows::TABLE_SIZE;
 use build_clauses::filters::build_where;
-use build_projection::items::build_items;
+use build_projection::items::{Item, build_items};
 use entries::Section;
 use numbers::first;
 use numbers::refusals::Refusal;
@@ -23,7 +24,7 @@ use text::places::Texts;
 fn select_where(
     exprs: &Expressions,
     parts: &[u32],
-    items: &[u32],
+    items: &[Item],
     scope: &Scope,
     area: &mut [u32],
     nodes: &mut Nodes,
@@ -46,7 +47,7 @@ fn select_where(
 // The items behind FROM, stars expanded, and all that follows.
 pub fn select_items(
     texts: &Texts,
-    cells: &mut [u32],
+    cells: &mut [u32; TABLE_SIZE],
     parts: &[u32],
     scope: &Scope,
     area: &mut [u32],
@@ -61,10 +62,10 @@ pub fn select_items(
         (select_at texts.now.catalog.now texts.now.statement.now cells.old h.froms parts.now)
         h.stage) area.old area.new result }
 {
-    let mut items = [0u32; COLUMNS];
+    let mut items = [Item::Entry(0); COLUMNS];
     let view = scope.view();
     let count = build_items(cells, parts, view.tables, view.labels, &mut items)?;
-    let listed = first(&items, count as usize);
+    let listed = first(&items, count);
     select_where(
         &Expressions {
             texts: *texts,

@@ -1,5 +1,6 @@
 // SELECT planned whole (planner.rs, build_select): each function builds a clause or two behind those before it, and goes
-// on to the next.
+// on to the next. (A function has some eight calls in a row at most, as everywhere in the project: each contract says what the
+// rest of the plan asks, and `scope` and `at` are two as in `stage`.)
 #![tactic(auto)]
 
 mod ends; // ends.rt: OFFSET, LIMIT, the last remap and the end of the plan
@@ -14,6 +15,7 @@ ghost use Rattle.build_statement.specs.Plans.{Plans};
 ghost use Rattle.build_select.specs.Sources.{SelectReady};
 
 use ast::Expressions;
+use ast::rows::TABLE_SIZE;
 use build_from::clause::build_from_clause;
 use items::select_items;
 use numbers::refusals::Refusal;
@@ -28,7 +30,7 @@ pub const ONE_TABLE_SIZE: usize = 1702;
 pub fn build_select(
     texts: &Texts,
     tables: &[u32],
-    cells: &mut [u32],
+    cells: &mut [u32; TABLE_SIZE],
     froms: &[u32],
     parts: &[u32],
     area: &mut [u32],

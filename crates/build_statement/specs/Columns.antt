@@ -146,7 +146,7 @@ module _ (c q : Bytes) (cells parts : List ℕ) where
     rest = drop (suc i) (columns_at c q cells parts)
 
     module _ (e : Entry) (x : e ≡ numbers_at parts column_kind i)
-        (new : given.NewColumn) (d : new ≡ new_column parts i) (l : i < length (section_at c q cells parts column_kind))
+        (new : given.NewColumn) (d : new ≡ new_column parts i) {n : ℕ} (k : n ≡ length (section_at c q cells parts column_kind)) (l : i < n)
         {u : Nodes} {r : Pushing} (g : Pushes made_numbers (made_column (column_of c q cells e new)) t u r) where
       pub so-far-step : {y : ⊤} → r ≡ Ok y → SoFar (i + 1) s u
       unfolding columns_numbers ◌>>=◌
@@ -155,7 +155,7 @@ module _ (c q : Bytes) (cells parts : List ℕ) where
           record {
             columns = p.columns ++ (a.value ∷ []);
             counted = length-append p.columns (a.value ∷ []) ∙ rw p.counted;
-            left = rw (add-one i) (p.left ∙ rw (column-here c q cells parts i e new x d l)
+            left = rw (add-one i) (p.left ∙ rw (column-here c q cells parts i e new x d (omega (arith, k, l)))
                 (ap (λ (y : Answer (List Made)). y >>= λ ns. ok (p.columns ++ ns))
                 (columns-step (column_of c q cells e new) rest a.value a.ok-is) ∙ go a.value (each made_column rest)));
             numbers = columns-on p.columns (a.value ∷ []) p.numbers (column-one a.value a.numbers);
@@ -169,13 +169,13 @@ module _ (c q : Bytes) (cells parts : List ℕ) where
       pub so-far-stop : (w : Refusal) → r ≡ Err w → Pushes columns_numbers made s u (Err w)
       unfolding ◌>>=◌
       so-far-stop w f = pushes-refused columns_numbers (refused-on (was-refused made_numbers g w f)
-          (λ v y. p.left ∙ rw (column-here c q cells parts i e new x d l)
+          (λ v y. p.left ∙ rw (column-here c q cells parts i e new x d (omega (arith, k, l)))
           (bind-refused _ _ v (columns-refused (column_of c q cells e new) rest v y)))) (kept-on still g.kept)
 
-    pub so-far-all : {y : ⊤} → length (section_at c q cells parts column_kind) ≤ i → Pushes columns_numbers made s t (Ok y)
+    pub so-far-all : {y : ⊤} {n : ℕ} → n ≡ length (section_at c q cells parts column_kind) → n ≤ i → Pushes columns_numbers made s t (Ok y)
     unfolding each ◌>>=◌
-    so-far-all h = pushes-done columns_numbers p.columns
-        (p.left ∙ rw (column-end c q cells parts i h) (ap ok (append-nil p.columns))) p.numbers
+    so-far-all k h = pushes-done columns_numbers p.columns
+        (p.left ∙ rw (column-end c q cells parts i (omega (arith, k, h))) (ap ok (append-nil p.columns))) p.numbers
 
   -- THE TABLE
   abbrev pub word : Word

@@ -2,10 +2,11 @@
 -- and flags.
 use Rattle.std.specs.Prelude.{ℕ, zero, suc, ◌+◌, ◌-◌, ◌≤◌, ◌<◌, ◌≡◌, Bool, ◌&&◌, ◌||◌, List, [], ◌∷◌, map, length, drop, Result, Ok, Err, Some, None}
 use Rattle.std.specs.Prelude as std
+use Rattle.std.specs.Bool.{then_some}
 use Rattle.std.proofs.Common.{arith, drop_of_length-le, ◌∙◌}
 use Rattle.std.proofs.Math.Path.{refl, ap}
 use Rattle.std.proofs.Math.Bool.{true, false, not}
-use Rattle.std.proofs.Math.Option.{Option, some}
+use Rattle.std.proofs.Math.Option.{Option, none, some}
 use Rattle.std.proofs.lemmas.Option.{same_Some, none-some}
 use Rattle.rules.specs.Refusals.{statement, Answer, ok, refused, ◌>>=◌, refuse}
 use Rattle.rules.specs.Limits.{most_table_columns}
@@ -18,7 +19,7 @@ use Rattle.rules.specs.Plan.{Built, Made, Plan}
 use Rattle.rules.specs.Plan as P
 use Rattle.rules.specs.BuildExpression.{each, constant}
 use Rattle.rules.specs.BuildStatement.{KeyColumn, key_columns, null_default, default_value, made_column}
-use Rattle.rules.specs.Area.{span, option_span, value_numbers, default_numbers, made_numbers, own_numbers}
+use Rattle.rules.specs.Area.{span, value_numbers, default_numbers, made_numbers, own_numbers}
 use Rattle.numbers.specs.Reasons.{told}
 use Rattle.numbers.specs.declared.refusals.Refusal.{Refusal}
 use Rattle.ast.specs.Table.{tree_at}
@@ -44,7 +45,6 @@ use Rattle.statement.specs.EntryAccess.{word_of, given_of, given-none, given-som
 pub use Rattle.statement.specs.EntryAccess.{column_of}
 use Rattle.build_statement.specs.Kinds.{Free}
 use Rattle.plan.specs.Places.{place_numbers}
-use Rattle.text.specs.Places.{option_numbers, clipped_place}
 use Rattle.plan.specs.declared.nodes.Nodes.{Nodes}
 
 -- COLUMNS
@@ -169,17 +169,6 @@ module _ (c q : Bytes) where
         inside = λ j f. rw (← same_Some _ _ f) (omega (arith, e, h.1));
       }
 
--- REFERENCES
--- the place of the name of the table that a column refers to
-abbrev pub reference_of : Bytes → Bytes → given.NewColumn → std.Option Place
-reference_of c q n = clipped_place c q n.reference
-
-module _ (c q : Bytes) where
-  pub reference-span : (o : std.Option Place) {p : std.Option Place} → p ≡ clipped_place c q o → option_span (option_name c q o) ≡ option_numbers p
-  unfolding option_span span word_at option_name clipped_place
-  reference-span std.None f = rw f
-  reference-span (std.Some x) f = rw f
-
 -- INDEX
 module _ (c q : Bytes) (n : given.NewColumn) where
   pub index_key : n.key ≡ true → false ≡ index_of c q n
@@ -221,15 +210,14 @@ module _ (c q : Bytes) (cells : List ℕ) (e : Entry) (n : Bool) where
   abbrev answer : Answer (List ℕ)
   answer = map_answer default_numbers (default_value n (given_of c q cells e))
 
-  pub null-given : e.expressions ≡ 0 → n ≡ true → (x : Literal) → literal_numbers x ≡ value_numbers null
-      → default_of (Ok (std.Some x)) ≡ answer
+  pub none-given : e.expressions ≡ 0 → (x : Literal) → literal_numbers x ≡ value_numbers null
+      → default_of (Ok (then_some n x)) ≡ answer
   unfolding default_of given_numbers map_answer default_value null_default default_numbers
-  null-given z b x h = rw (given-none c q cells e z, b, h)
-
-  pub none-given : e.expressions ≡ 0 → n ≡ false
-      → default_of (Ok std.None) ≡ answer
-  unfolding default_of given_numbers map_answer default_value null_default default_numbers
-  none-given z b = rw (given-none c q cells e z, b)
+  none-given z x h = rw (given-none c q cells e z) (go n)
+    where
+      go : (b : Bool) → default_of (Ok (then_some b x)) ≡ map_answer default_numbers (default_value b none)
+      go true = rw h
+      go false = refl
 
   module _ (z : e.expressions ≡ 0 → ⊥) (r : ℕ) (f : r ≡ expr_row e) (x : Result Constant Refusal)
       (h : constant_of c q x ≡ constant (tree_at c q cells r)) where

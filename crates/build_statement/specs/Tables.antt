@@ -1,7 +1,7 @@
 -- The table that a statement names, by its position in the catalog's numbers, and its scope.
 use Rattle.std.specs.Prelude.{ℕ, ◌≡◌, List, Result, Ok, Err}
 use Rattle.std.proofs.Math.Path.{refl}
-use Rattle.std.proofs.Common.{sym, ap, ◌∙◌, ok_or}
+use Rattle.std.proofs.Common.{sym, ap, ◌∙◌}
 use Rattle.rules.specs.Refusals.{ok, unknown_table}
 use Rattle.rules.specs.Lists.{Bytes, map_option}
 use Rattle.rules.specs.Places.{bytes_at, word_at}
@@ -13,7 +13,7 @@ use Rattle.claims.specs.Within.{TextsWithin}
 use Rattle.claims.specs.Words.Within.{StatementName}
 use Rattle.appends.specs.From.Merge as M
 use Rattle.schema.specs.Layout.{table_at, catalog_at}
-use Rattle.schema.specs.Search.{table_from, found_table, table-found}
+use Rattle.schema.specs.Search.{table_from, found_table, table-found, TablePosition, position-found, position-missing}
 use Rattle.std.specs.Prelude as std
 use Rattle.scope.specs.Scopes.{scope_of}
 use Rattle.scope.specs.FromTable.{FromTable}
@@ -28,38 +28,22 @@ use Rattle.plan.specs.Steps.{RefusedWith, refused-at}
 abbrev pub table_named : Bytes → Bytes → List ℕ → ℕ → ℕ → ℕ → Table
 table_named c q tables i a n = named_by (word_at c q a n) (table_at c q tables i)
 
--- the position of the first table of the name that is the n bytes at a, or the refusal at line l where there is none
-unfoldable pub PositionAs : Bytes → Bytes → List ℕ → ℕ → ℕ → ℕ → Result ℕ Refusal → Type 0
-PositionAs c q tables a n l (Ok i) =
-    found_table c q tables (std.Some i) ≡ table_from 0 (catalog_at c q tables) (bytes_at c q a n)
-PositionAs c q tables a n l (Err w) = RefusedWith (must_get_table (catalog_at c q tables) l (word_at c q a n)) w
-
-pub record TablePosition (c q : Bytes) (tables : List ℕ) (a n l : ℕ) (r : Result ℕ Refusal) : Type 0 where
-  pub is : PositionAs c q tables a n l r
-
+-- the position of the table of the name that is the n bytes at a, as it was found
 module _ (c q : Bytes) (tables : List ℕ) (a n l : ℕ) where
   got : (r : std.Option ℕ) → found_table c q tables r ≡ table_from 0 (catalog_at c q tables) (bytes_at c q a n)
       → get_table (catalog_at c q tables) (bytes_at c q a n) ≡ map_option (λ (x : ℕ × Table). x.1) (found_table c q tables r)
   got r f = sym (ap (map_option (λ (x : ℕ × Table). x.1)) f ∙ table-found 0 (catalog_at c q tables) (bytes_at c q a n))
 
-  pub position-of : (r : std.Option ℕ) → found_table c q tables r ≡ table_from 0 (catalog_at c q tables) (bytes_at c q a n)
-      → TablePosition c q tables a n l (ok_or r (record { reason = Re.UnknownTable; line = l }))
-  unfolding PositionAs word_at found_table map_option named
-  position-of (std.Some i) f = record { is = f }
-  position-of std.None f = record {
-    is = refused-at unknown_table l Re.UnknownTable l
-        (M.table-unknown (catalog_at c q tables) l (word_at c q a n) (got std.None f)) refl refl;
-  }
-
-  module _ {r : Result ℕ Refusal} (p : TablePosition c q tables a n l r) where
+  module _ {r : Result ℕ Refusal} (p : TablePosition c q tables (bytes_at c q a n) l r) where
     pub table-missing : (w : Refusal) → r ≡ Err w → RefusedWith (must_get_table (catalog_at c q tables) l (word_at c q a n)) w
-    unfolding PositionAs
-    table-missing w e = rw e at p.is
+    unfolding word_at found_table map_option named
+    table-missing w e = let m = position-missing p w e in
+        rw m.1 (refused-at unknown_table l Re.UnknownTable l
+        (M.table-unknown (catalog_at c q tables) l (word_at c q a n) (got std.None m.0)) refl refl)
 
     module _ (i : ℕ) (e : r ≡ Ok i) where
       found : found_table c q tables (std.Some i) ≡ table_from 0 (catalog_at c q tables) (bytes_at c q a n)
-      unfolding PositionAs
-      found = rw e at p.is
+      found = position-found p i e
 
       pub table-is : must_get_table (catalog_at c q tables) l (word_at c q a n) ≡ ok (table_named c q tables i a n)
       unfolding word_at found_table map_option

@@ -4,7 +4,7 @@ use Rattle.std.proofs.Common.{sym, ap, ◌∙◌}
 use Rattle.rules.specs.Refusals.{Answer, ok, refused, ◌>>=◌}
 use Rattle.rules.specs.Limits.{most_cells, least_area}
 use Rattle.rules.specs.Lists.{Bytes}
-use Rattle.rules.specs.Places.{word_at}
+use Rattle.rules.specs.Places.{bytes_at, word_at}
 use Rattle.rules.specs.Schema.{Table, must_get_table}
 use Rattle.rules.specs.Ast.{Expr, Statement}
 use Rattle.rules.specs.Cells.{Cell}
@@ -38,7 +38,8 @@ use Rattle.build_expression.specs.Builds.{scope_at}
 use Rattle.build_expression.specs.Options.{option_tree, OptionStands, OptionBuilt}
 use Rattle.build_expression.specs.declared.option.BuiltOption.{BuiltOption}
 use Rattle.build_statement.specs.Kinds.{name_of}
-use Rattle.build_statement.specs.Tables.{table_named, TablePosition, table-missing, table-is, table-scope}
+use Rattle.schema.specs.Search.{TablePosition}
+use Rattle.build_statement.specs.Tables.{table_named, table-missing, table-is, table-scope}
 use Rattle.build_statement.specs.Clauses.{clause-tree, clause-room, Taken, taken}
 use Rattle.build_statement.specs.Scans.{where-is, where-room}
 use Rattle.build_statement.specs.declared.target.Target.{Target}
@@ -122,7 +123,7 @@ module _ (c q : Bytes) (tables cells parts : List ℕ) where
 
   -- STEP BY STEP
   module _ {area : List ℕ} (ready : TargetReady area) (a n l : ℕ) (ha : a ≡ name_address parts) (hn : n ≡ name_length parts)
-      (hl : l ≡ line_at parts) {x : Result ℕ Refusal} (p : TablePosition c q tables a n l x) where
+      (hl : l ≡ line_at parts) {x : Result ℕ Refusal} (p : TablePosition c q tables (bytes_at c q a n) l x) where
     name-is : word_at c q a n ≡ name_of c q parts
     name-is = λ j. word_at c q (ha j) (hn j)
 

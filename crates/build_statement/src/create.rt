@@ -12,7 +12,7 @@ ghost use Rattle.expression.specs.Answers.{map_answer};
 ghost use Rattle.statement.specs.Access.{name_word};
 ghost use Rattle.statement.specs.EntryAccess.{given_of};
 ghost use Rattle.plan.specs.Layout.{column_size, cell_size, own_head};
-ghost use Rattle.plan.specs.Pushed.{Pushed};
+ghost use Rattle.plan.specs.Pushed.{NodeRoom, Pushed};
 ghost use Rattle.plan.specs.Own.{column_numbers};
 ghost use Rattle.build_statement.specs.Plans.{Plans};
 ghost use Rattle.build_statement.specs.Pushes.{Pushes};
@@ -33,7 +33,7 @@ use plan::steps::Step;
 use sections::entry;
 use sections::entry::{Entry, new_column};
 use statement::access;
-use text::places::{Place, Texts};
+use text::places::Texts;
 use value;
 
 // The position of the first column from position k on that is given as primary key.
@@ -64,24 +64,14 @@ fn is_indexed(column: NewColumn) -> bool
     !column.key && (column.index || column.unique || column.reference.is_some())
 }
 
-// The name of the table that a column refers to.
-fn reference(texts: &Texts, column: NewColumn) -> Option<Place>
-    ensures { result ≡ create.reference_of texts.now.catalog.now texts.now.statement.now column }
-{
-    let name = column.reference?;
-    Some(texts.clipped(name))
-}
-
 // A column's default: the value of its expression; where there is none, a null if it may be null.
 fn default_of(exprs: &Expressions, e: Entry, nullable: bool) -> Result<Option<Literal>, Refusal>
     ensures { create.default_of result ≡ map_answer default_numbers
         (default_value nullable (given_of exprs.now.texts.catalog.now exprs.now.texts.statement.now exprs.now.table.now e)) }
 {
     let Some(row) = e.first_row() else {
-        if nullable {
-            return Ok(Some(of_value(&exprs.texts, value::Value::Null)));
-        }
-        return Ok(None);
+        let null = of_value(&exprs.texts, value::Value::Null);
+        return Ok(nullable.then_some(null));
     };
     let constant = build_constant_value(exprs, row)?;
     match constant {
@@ -92,13 +82,13 @@ fn default_of(exprs: &Expressions, e: Entry, nullable: bool) -> Result<Option<Li
 
 // A column but for its default.
 fn put_column(texts: &Texts, e: Entry, new: NewColumn, nullable: bool, nodes: &mut Nodes)
-    requires { nodes.old.used + column_size ≤ length nodes.old.numbers.now }
+    requires { NodeRoom column_size nodes.old }
     ensures { (d : Option Value) → Pushed
         (column_numbers (create.made_of texts.now.catalog.now texts.now.statement.now e new nullable d))
         nodes.old nodes.new }
 {
     let name = texts.clipped(access::name_or(e.name));
-    let reference = reference(texts, new);
+    let reference = texts.clipped_option(new.reference);
     let unique = is_unique(new);
     let index = is_indexed(new);
     own::column(
@@ -129,9 +119,9 @@ fn column(exprs: &Expressions, e: Entry, new: NewColumn, nodes: &mut Nodes) -> R
 
 // All columns.
 fn columns(exprs: &Expressions, parts: &[u32], nodes: &mut Nodes) -> Result<(), Refusal>
-    requires { nodes.old.used + (column_size + cell_size) * length
-        (section_at exprs.now.texts.catalog.now exprs.now.texts.statement.now exprs.now.table.now parts.now column_kind) ≤
-        length nodes.old.numbers.now }
+    requires { NodeRoom ((column_size + cell_size) * length
+        (section_at exprs.now.texts.catalog.now exprs.now.texts.statement.now exprs.now.table.now parts.now column_kind))
+        nodes.old }
     ensures { Pushes create.columns_numbers
         (each made_column (create.columns_at exprs.now.texts.catalog.now exprs.now.texts.statement.now exprs.now.table.now
         parts.now))

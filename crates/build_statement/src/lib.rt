@@ -4,4 +4,4 @@
 pub mod create; // create.rt: CREATE TABLE
 pub mod delete; // delete.rt: DELETE
 pub mod drop; // drop.rt: DROP TABLE
-pub mod target; // target.rt: the table of a DELETE or an UPDATE, and its filter
+pub mod target; // target.rt: the table of a statement, and the filter of a DELETE or an UPDATE

@@ -1,15 +1,14 @@
 // The table that a statement names, and the filter of a DELETE or an UPDATE over it.
-ghost use Rattle.build_statement.specs.Tables.{TablePosition};
 ghost use Rattle.build_statement.specs.Targets.{TargetReady, TargetBuilt};
 
 use ast::Expressions;
 use build_expression::option::{BuiltOption, build_option};
 use entries::Section;
-use numbers::refusals::{Reason, Refusal};
-use schema::get_table;
+use numbers::refusals::Refusal;
+use schema::find_table;
 use scope::Scope;
 use statement::access;
-use text::places::{Place, Texts};
+use text::places::Place;
 
 // A table by its name's place and its position in the catalog, its scope, and its filter: its cells are the plan's first ones.
 #[derive(Clone, Copy, Debug, PartialEq, Eq)]
@@ -18,13 +17,6 @@ pub struct Target {
     pub table: u32,
     pub scope: Scope,
     pub filter: BuiltOption,
-}
-
-// The position of the table of a name; refused at a line where there is none.
-pub fn find_table(texts: &Texts, tables: &[u32], name: Place, line: u32) -> Result<u32, Refusal>
-    ensures { TablePosition texts.now.catalog.now texts.now.statement.now tables.now name.address name.length line result }
-{
-    get_table(texts, tables, name).ok_or(Reason::UnknownTable.at(line))
 }
 
 // The statement's table, and the cells of its filter: the plan's first ones.

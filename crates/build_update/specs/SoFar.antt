@@ -41,12 +41,19 @@ module _ (c q : Bytes) (cells parts : List ℕ) where
   abbrev pub sets_at : List Ast.Set
   sets_at = map_entries to_set (section_at c q cells parts set_kind)
 
-  pub set_here_lem : (i : ℕ) (e : Entry) → e ≡ numbers_at parts set_kind i → i < length (section_at c q cells parts set_kind)
-      → drop i sets_at ≡ set_of c q cells e ∷ drop (suc i) sets_at
-  set_here_lem i e h l = after-drop i sets_at (set_of c q cells e) (set_at c q cells parts set_kind i e h l)
-
   pub sets-length : length sets_at ≡ length (section_at c q cells parts set_kind)
   sets-length = map-length to_set (section_at c q cells parts set_kind)
+
+  -- by their number n
+  module _ {n : ℕ} (y : n ≡ length (section_at c q cells parts set_kind)) where
+    pub set-here : (i : ℕ) (e : Entry) → e ≡ numbers_at parts set_kind i → i < n → drop i sets_at ≡ set_of c q cells e ∷ drop (suc i) sets_at
+    set-here i e h l = after-drop i sets_at (set_of c q cells e) (set_at c q cells parts set_kind i e h (omega (arith, y, l)))
+
+    pub sets-below : {i : ℕ} → i < n → i < length sets_at
+    sets-below l = omega (arith, y, l, sets-length)
+
+    pub sets-past : {i : ℕ} → n ≤ i → length sets_at ≤ i
+    sets-past l = omega (arith, y, l, sets-length)
 
 module _ (s : Scope) (cs : List Column) where
   -- HOW MANY

@@ -1,12 +1,13 @@
 // The sets of an UPDATE in order: the cells of what each column is set to, and its position and root among the numbers of
 // the nodes.
-ghost use Rattle.std.specs.Prelude.{[], ◌∷◌, ℕ, ◌+◌, ◌*◌, ◌≤◌, length};
+ghost use Rattle.std.specs.Prelude.{[], ◌∷◌, ℕ, ◌+◌, ◌*◌, length};
 ghost use Rattle.rules.specs.Sizes.{option_size, sets_size};
 ghost use Rattle.rules.specs.BuildStatement.{set_built};
 ghost use Rattle.appends.specs.Lists.Kinds.{emit_seconds};
 ghost use Rattle.schema.specs.Layout.{table_at};
 ghost use Rattle.statement.specs.EntryAccess.{given_of};
 ghost use Rattle.plan.specs.Layout.{set_size};
+ghost use Rattle.plan.specs.Pushed.{NodeRoom};
 ghost use Rattle.plan.specs.Cells.{Room};
 ghost use Rattle.build_expression.specs.Builds.{scope_at};
 ghost use Rattle.build_update.specs.Writes.{Writes, set_of};
@@ -36,7 +37,7 @@ fn write_set(
 ) -> Result<u32, Refusal>
     requires room { Room cell (3 * option_size (given_of exprs.now.texts.catalog.now exprs.now.texts.statement.now
         exprs.now.table.now e) + 1) area.old }
-    requires nodes_room { nodes.old.used + set_size ≤ length nodes.old.numbers.now }
+    requires nodes_room { NodeRoom set_size nodes.old }
     ensures { (h : ℕ) → Writes
         (emit_seconds (set_built
         (scope_at exprs.now.texts.catalog.now exprs.now.texts.statement.now exprs.now.table.now
@@ -67,8 +68,8 @@ pub fn write_sets(
     requires room { Room cell
         (3 * sets_size (sets_at exprs.now.texts.catalog.now exprs.now.texts.statement.now exprs.now.table.now parts.now)
         + length (sets_at exprs.now.texts.catalog.now exprs.now.texts.statement.now exprs.now.table.now parts.now)) area.old }
-    requires nodes_room { nodes.old.used + set_size * length (sets_at exprs.now.texts.catalog.now
-        exprs.now.texts.statement.now exprs.now.table.now parts.now) ≤ length nodes.old.numbers.now }
+    requires nodes_room { NodeRoom (set_size * length (sets_at exprs.now.texts.catalog.now
+        exprs.now.texts.statement.now exprs.now.table.now parts.now)) nodes.old }
     ensures { (h : ℕ) → Writes
         (emit_seconds (set_built
         (scope_at exprs.now.texts.catalog.now exprs.now.texts.statement.now exprs.now.table.now

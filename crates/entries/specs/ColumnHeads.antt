@@ -13,7 +13,7 @@ use Rattle.rules.specs.Lines.{Word, bytes}
 use Rattle.rules.specs.Schema.{Datatype}
 use Rattle.rules.specs.Reader.{base_address, rest, name, word, optional_name}
 use Rattle.rules.specs.ReadColumn.{◌>>=◌, datatypes, flagged, nullness, ColumnHead, new_column_fields}
-use Rattle.text.specs.Lines.{field, fields_from}
+use Rattle.text.specs.Lines.{nth_field, field, fields_from}
 use Rattle.text.specs.Numbers.{is_name}
 use Rattle.text.specs.Fields.{field-named, field-unnamed}
 use Rattle.text.specs.Reading.{field_of, rest-whole}
@@ -100,16 +100,16 @@ module _ (t : Bytes) (p : ℕ) (f : Line) (g₀ : LineAt t p f) where
 
   -- field i, and its place
   abbrev field_here : ℕ → Word
-  field_here i = field most_bytes t (get_or f.starts i 0) (get_or f.lens i 0)
+  field_here i = field most_bytes t (nth_field f.fields i).start (nth_field f.fields i).length
 
   abbrev place_here : ℕ → places.Place
-  place_here i = record { address = most_bytes + get_or f.starts i 0; length = get_or f.lens i 0 }
+  place_here i = record { address = most_bytes + (nth_field f.fields i).start; length = (nth_field f.fields i).length }
 
   -- the fields behind the first eight
   abbrev behind : ℕ → List Word
-  behind j = fields_from most_bytes t f.starts f.lens 8 j
+  behind j = fields_from most_bytes t f.fields 8 j
 
-  rest-words : (j : ℕ) → fields_from (base_address statement) t f.starts f.lens 1 (7 + j) ≡ words 1 ∷ words 2 ∷ words 3 ∷ words 4 ∷ words 5 ∷ words 6 ∷ words 7 ∷ behind j
+  rest-words : (j : ℕ) → fields_from (base_address statement) t f.fields 1 (7 + j) ≡ words 1 ∷ words 2 ∷ words 3 ∷ words 4 ∷ words 5 ∷ words 6 ∷ words 7 ∷ behind j
   unfolding fields_from field_of base_address
   rest-words j = let z : 7 + j ≡ suc (suc (suc (suc (suc (suc (suc j)))))) = omega arith in rw z
 
@@ -119,11 +119,11 @@ module _ (t : Bytes) (p : ℕ) (f : Line) (g₀ : LineAt t p f) where
       let w : rest (here t p l c k) ≡ words 1 ∷ words 2 ∷ words 3 ∷ words 4 ∷ words 5 ∷ words 6 ∷ words 7 ∷ behind j = rest-whole statement t p l c k f g₀.fields (omega arith) ∙ rw z (rest-words j) in
       ap (fields_of 11 none) w ∙ column-fields words (behind j)
 
-  first-yes : 8 ≤ f.count → is_name (get_or f.lens 1 0) ≡ true → name (words 1) ≡ some (field_here 1)
+  first-yes : 8 ≤ f.count → is_name (nth_field f.fields 1).length ≡ true → name (words 1) ≡ some (field_here 1)
   unfolding field_of base_address
   first-yes n h = field-named t _ _ (field_at t p f g₀ 1 (omega (arith, n))) h
 
-  first-no : 8 ≤ f.count → is_name (get_or f.lens 1 0) ≡ false → name (words 1) ≡ none
+  first-no : 8 ≤ f.count → is_name (nth_field f.fields 1).length ≡ false → name (words 1) ≡ none
   unfolding field_of base_address
   first-no n h = field-unnamed t _ _ (field_at t p f g₀ 1 (omega (arith, n))) h
 
@@ -131,11 +131,11 @@ module _ (t : Bytes) (p : ℕ) (f : Line) (g₀ : LineAt t p f) where
   unfolding fields_from optional_name
   reference-none = refl
 
-  reference-yes : f.count ≡ 9 → is_name (get_or f.lens 8 0) ≡ true → optional_name (behind 1) ≡ some (some (field_here 8))
+  reference-yes : f.count ≡ 9 → is_name (nth_field f.fields 8).length ≡ true → optional_name (behind 1) ≡ some (some (field_here 8))
   unfolding fields_from optional_name map_option
   reference-yes n h = rw (field-named t _ _ (field_at t p f g₀ 8 (omega (arith, n))) h)
 
-  reference-no : f.count ≡ 9 → is_name (get_or f.lens 8 0) ≡ false → optional_name (behind 1) ≡ none
+  reference-no : f.count ≡ 9 → is_name (nth_field f.fields 8).length ≡ false → optional_name (behind 1) ≡ none
   unfolding fields_from optional_name map_option
   reference-no n h = rw (field-unnamed t _ _ (field_at t p f g₀ 8 (omega (arith, n))) h)
 
@@ -151,15 +151,15 @@ module _ (t : Bytes) (p : ℕ) (f : Line) (g₀ : LineAt t p f) where
     unfolding HeadIs
     column-none n m d s = column-as none (f.count - 8) (omega (arith, n)) (omega (arith, m)) (d (f.count - 8)) s
 
-    pub column-name-no : 8 ≤ f.count → f.count ≤ 9 → is_name (get_or f.lens 1 0) ≡ false → r ≡ None → HeadIsHere t p (fields_of 11 none) r
+    pub column-name-no : 8 ≤ f.count → f.count ≤ 9 → is_name (nth_field f.fields 1).length ≡ false → r ≡ None → HeadIsHere t p (fields_of 11 none) r
     column-name-no n m h s = column-none n m (λ j. rw (first-no n h) (nameless (words_head words) (optional_name (behind j)))) s
 
-    pub column-reference-no : f.count ≡ 9 → is_name (get_or f.lens 8 0) ≡ false → r ≡ None → HeadIsHere t p (fields_of 11 none) r
+    pub column-reference-no : f.count ≡ 9 → is_name (nth_field f.fields 8).length ≡ false → r ≡ None → HeadIsHere t p (fields_of 11 none) r
     unfolding HeadIs
     column-reference-no n h s = column-as none 1 (omega (arith, n)) (omega arith) (rw (reference-no n h) (no-reference (name (words 1)) (words_head words))) s
 
     -- a column by its name and its reference
-    module _ (n : 8 ≤ f.count) (h : is_name (get_or f.lens 1 0) ≡ true) {p₁ : places.Place} (e₁ : p₁ ≡ place_here 1)
+    module _ (n : 8 ≤ f.count) (h : is_name (nth_field f.fields 1).length ≡ true) {p₁ : places.Place} (e₁ : p₁ ≡ place_here 1)
         {o : std.Option places.Place} (s : (w : Word) (x : Option Word) → NameIs t (some w) (Some p₁) → NameIs t x o → HeadIs t (column_said w words x) r) where
       column-named : (x : Option Word) (j : ℕ) → f.count ≡ 8 + j → j ≤ 1 → optional_name (behind j) ≡ some x → NameIs t x o → HeadIsHere t p (fields_of 11 none) r
       unfolding column_said
@@ -170,5 +170,5 @@ module _ (t : Bytes) (p : ℕ) (f : Line) (g₀ : LineAt t p f) where
       pub column-plain : f.count ≡ 8 → o ≡ None → HeadIsHere t p (fields_of 11 none) r
       column-plain e z = column-named none 0 (omega (arith, e)) (omega arith) reference-none (rw z (no_name t))
 
-      pub column-refers : {p₂ : places.Place} → f.count ≡ 9 → is_name (get_or f.lens 8 0) ≡ true → p₂ ≡ place_here 8 → o ≡ Some p₂ → HeadIsHere t p (fields_of 11 none) r
+      pub column-refers : {p₂ : places.Place} → f.count ≡ 9 → is_name (nth_field f.fields 8).length ≡ true → p₂ ≡ place_here 8 → o ≡ Some p₂ → HeadIsHere t p (fields_of 11 none) r
       column-refers e i e₂ z = column-named _ 1 (omega (arith, e)) (omega arith) (reference-yes e i) (rw (z, e₂) (name-is t _ _ (field_at t p f g₀ 8 (omega (arith, e))) i))

@@ -1,5 +1,5 @@
 -- The records of each kind by their keywords: none stands here, or one whose fields fit or do not.
-use Rattle.std.specs.Prelude.{ℕ, ◌≡◌, true, false, take, drop, get_or, eqb, Ok, Err, Some, None}
+use Rattle.std.specs.Prelude.{ℕ, ◌≡◌, true, false, take, drop, eqb, Ok, Err, Some, None}
 use Rattle.std.proofs.Common.{◌∙◌}
 use Rattle.std.proofs.Math.Path.{sym}
 use Rattle.std.proofs.Math.Option.{Option}
@@ -7,7 +7,7 @@ use borrow.Author.Tests.{eq-eqb, ne_eqb}
 use Rattle.rules.specs.Refusals.{statement}
 use Rattle.rules.specs.Lists.{Bytes}
 use Rattle.rules.specs.Reader.{at}
-use Rattle.text.specs.Lines.{Fields}
+use Rattle.text.specs.Lines.{nth_field, Fields}
 use Rattle.text.specs.Order.{same-swap}
 use Rattle.text.specs.Packed.{Packed, number}
 use Rattle.text.specs.Reading.{at-is}
@@ -24,7 +24,7 @@ use Rattle.numbers.specs.declared.refusals.Reason.TheVariants.{WrongRecord}
 
 -- f is the line at p, and its first field is packed into r
 module _ (t : Bytes) (p line : ℕ) (f : Line) (g : Fields t p f) {r : ℕ} (s : Section)
-    (w : Packed (take (get_or f.lens 0 0) (drop (get_or f.starts 0 0) t)) r) where
+    (w : Packed (take (nth_field f.fields 0).length (drop (nth_field f.fields 0).start t)) r) where
   abbrev kind : ℕ
   kind = number_of s
 

@@ -4,7 +4,6 @@ use Rattle.std.specs.Prelude as std
 use Rattle.std.proofs.Common.{arith, ◌∙◌}
 use Rattle.std.proofs.Math.Path.{refl, sym}
 use Rattle.std.proofs.Math.Option.{Option, none, some}
-use Rattle.std.proofs.Math.ListN.{get_or}
 use Rattle.rules.specs.Limits.{most_bytes}
 use Rattle.numbers.specs.Options.{option_of}
 use Rattle.rules.specs.Refusals.{statement}
@@ -12,7 +11,7 @@ use Rattle.rules.specs.Lists.{Bytes, map_option}
 use Rattle.rules.specs.Lines.{Word}
 use Rattle.rules.specs.Reader.{base_address, name, word, count_field, no_field, one_field, optional_name}
 use Rattle.rules.specs.ReadStatement.{directions}
-use Rattle.text.specs.Lines.{field, kept_fields}
+use Rattle.text.specs.Lines.{nth_field, field, kept_fields}
 use Rattle.text.specs.Numbers.{count_small}
 use Rattle.text.specs.Reading.{field_of, rest-none, rest-one, rest-two, rest-other}
 use Rattle.text.specs.Records.{no-field, one_field_lem, optional-name}
@@ -48,14 +47,14 @@ row-fields w = refl
 
 -- RECORDS BY THE NUMBER OF THEIR FIELDS
 module _ (t : Bytes) (p : ℕ) (f : Line) (g : LineAt t p f) where
-  pub field_at : (i : ℕ) → i < f.count → Inside t (get_or f.starts i 0) (get_or f.lens i 0)
+  pub field_at : (i : ℕ) → i < f.count → Inside t (nth_field f.fields i).start (nth_field f.fields i).length
   field_at i h = inside-field t p f g.fields i g.short g.within h
 
   abbrev first : Word
-  first = field most_bytes t (get_or f.starts 1 0) (get_or f.lens 1 0)
+  first = field most_bytes t (nth_field f.fields 1).start (nth_field f.fields 1).length
 
   abbrev second : Word
-  second = field most_bytes t (get_or f.starts 2 0) (get_or f.lens 2 0)
+  second = field most_bytes t (nth_field f.fields 2).start (nth_field f.fields 2).length
 
   module _ (r : std.Option Head) (m : List Word → Option EntryHead) where
     pub with_none : f.count ≡ 1 → HeadIs t (m []) r → HeadIsHere t p m r
@@ -116,12 +115,12 @@ module _ (t : Bytes) (p : ℕ) (f : Line) (g : LineAt t p f) where
     row-no n s = without r (fields_of 9 none) 1 1 (omega arith) (omega arith) n n (λ ws x y. unfold fields_of map_option in rw (one_field_lem count_field ws x)) s
 
     module _ (n : f.count ≡ 2) where
-      counted : (v : Option ℕ) → ((o : ℕ) → v ≡ count_field (record { bytes = take (get_or f.lens 1 0) (drop (get_or f.starts 1 0) t); start = o })) → count_field first ≡ v
+      counted : (v : Option ℕ) → ((o : ℕ) → v ≡ count_field (record { bytes = take (nth_field f.fields 1).length (drop (nth_field f.fields 1).start t); start = o })) → count_field first ≡ v
       unfolding field
-      counted v e = sym (e (most_bytes + get_or f.starts 1 0))
+      counted v e = sym (e (most_bytes + (nth_field f.fields 1).start))
 
-      pub row-wrong : ((o : ℕ) → none ≡ count_field (record { bytes = take (get_or f.lens 1 0) (drop (get_or f.starts 1 0) t); start = o })) → r ≡ None → HeadIsHere t p (fields_of 9 none) r
+      pub row-wrong : ((o : ℕ) → none ≡ count_field (record { bytes = take (nth_field f.fields 1).length (drop (nth_field f.fields 1).start t); start = o })) → r ≡ None → HeadIsHere t p (fields_of 9 none) r
       row-wrong e s = with-one r (fields_of 9 none) n (head-none t _ r (row-fields first ∙ rw (counted none e) (unfold map_option in refl)) s)
 
-      pub row-yes : (k : ℕ) → ((o : ℕ) → some k ≡ count_field (record { bytes = take (get_or f.lens 1 0) (drop (get_or f.starts 1 0) t); start = o })) → r ≡ Some (saying k None None) → HeadIsHere t p (fields_of 9 none) r
+      pub row-yes : (k : ℕ) → ((o : ℕ) → some k ≡ count_field (record { bytes = take (nth_field f.fields 1).length (drop (nth_field f.fields 1).start t); start = o })) → r ≡ Some (saying k None None) → HeadIsHere t p (fields_of 9 none) r
       row-yes k e s = with-one r (fields_of 9 none) n (head-is-as t _ (some (plain_head k)) r (row-fields first ∙ rw (counted (some k) e) (unfold map_option in refl)) (unfold plain_head words_numbers in head_plain t (plain_head k) r None refl refl s refl (count_small _ k (e 0))))

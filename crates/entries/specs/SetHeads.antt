@@ -11,7 +11,7 @@ use Rattle.rules.specs.Lists.{Bytes, same, named, map_option}
 use Rattle.rules.specs.Lines.{Word, bytes}
 use Rattle.rules.specs.Reader.{word, both}
 use Rattle.rules.specs.ReadStatement.{defaults, set_fields, rises, rising_set}
-use Rattle.text.specs.Lines.{field}
+use Rattle.text.specs.Lines.{nth_field, field}
 use Rattle.text.specs.Numbers.{is_name, name_in, name_out}
 use Rattle.std.specs.Ordering.{is_lt}
 use Rattle.text.specs.Order.{order_of, ordered}
@@ -101,10 +101,10 @@ set-not b (w ∷ (v ∷ (u ∷ ws))) h g = refl
 -- RECORDS BY THE NUMBER OF THEIR FIELDS
 module _ (t : Bytes) (p : ℕ) (f : Line) (g : LineAt t p f) (r : std.Option Head) (b : Option Bytes) where
   abbrev first : Word
-  first = field most_bytes t (get_or f.starts 1 0) (get_or f.lens 1 0)
+  first = field most_bytes t (nth_field f.fields 1).start (nth_field f.fields 1).length
 
   abbrev second : Word
-  second = field most_bytes t (get_or f.starts 2 0) (get_or f.lens 2 0)
+  second = field most_bytes t (nth_field f.fields 2).start (nth_field f.fields 2).length
 
   pub set-count : (f.count ≡ 2 → ⊥) → (f.count ≡ 3 → ⊥) → r ≡ None → HeadIsHere t p (fields_of 10 b) r
   set-count n m s = without t p f g r (fields_of 10 b) 1 2 (omega arith) (omega arith) n m (λ ws x y. set-fields b _ ∙ set-not b ws x y) s

@@ -24,9 +24,9 @@ ghost use Rattle.entries.specs.ColumnWords.{flags, column_said};
 use numbers::datatypes::DataType;
 use numbers::refusals::{Reason, Refusal};
 use read_expression::reading::Cursor;
-use text::Line;
 use text::places::{Place, name_at};
 use text::words::{self, beside};
+use text::{Field, Line};
 
 // The sections of a statement but FROM, in the order of their keywords: the clauses of a SELECT, from `where` to `limit`, stand in it
 // as they do in the text.
@@ -58,7 +58,7 @@ pub struct NewColumn {
     pub reference: Option<Place>,
 }
 
-// What some records say beside their name: whether an order key descends, or what a new column does.
+// What some records say: whether an order key descends, or what a new column is beside its name.
 #[derive(Clone, Copy, Debug, PartialEq, Eq)]
 pub enum Words {
     Descends(bool),
@@ -96,12 +96,13 @@ fn clause(f: Line, expressions: u32) -> Option<Head>
 }
 
 // A name, and so many expressions.
-fn name_head(a: usize, n: usize, expressions: u32) -> Option<Head>
-    requires place { (a ≤ 65536) × (n ≤ 65536) }
+fn name_head(name: Field, expressions: u32) -> Option<Head>
+    requires place { (name.start ≤ 65536) × (name.length ≤ 65536) }
     requires few { expressions ≤ 1 }
-    ensures { (t : Bytes) → Inside t a n → HeadIs t (name_head expressions (field most_bytes t a n)) result }
+    ensures { (t : Bytes) → Inside t name.start name.length
+        → HeadIs t (name_head expressions (field most_bytes t name.start name.length)) result }
 {
-    let name = name_at(a, n)?;
+    let name = name_at(name)?;
     Some(Head {
         expressions,
         name: Some(name),
@@ -120,7 +121,7 @@ fn item(f: Line) -> Option<Head>
     if f.count != 2 {
         return None;
     }
-    name_head(f.starts[1], f.lens[1], 1)
+    name_head(f.fields[1], 1)
 }
 
 // An order key: its direction.
@@ -147,7 +148,7 @@ fn name(f: Line) -> Option<Head>
     if f.count != 2 {
         return None;
     }
-    name_head(f.starts[1], f.lens[1], 0)
+    name_head(f.fields[1], 0)
 }
 
 // An inserted row: the number of its expressions.
@@ -165,10 +166,7 @@ fn row(t: &[u8], f: Line) -> Option<Head>
 fn position(address: u32) -> usize
     ensures { result ≡ address - most_bytes }
 {
-    if address < text::MOST_BYTES {
-        return 0;
-    }
-    (address - text::MOST_BYTES) as usize
+    address.saturating_sub(text::MOST_BYTES) as usize
 }
 
 // Whether a name comes behind the last one, or there is none.
@@ -187,25 +185,15 @@ fn set(t: &[u8], f: Line, last: Option<Place>) -> Option<Head>
     requires { IsLine f }
     ensures { (p : ℕ) → LineAt t.now p f → HeadIsHere t.now p (fields_of 10 (last_name t.now last)) result }
 {
-    let n = f.count;
-    if n < 2 {
-        return None;
-    }
-    if 3 < n {
-        return None;
-    }
-    let a = f.starts[1];
-    let m = f.lens[1];
+    let expressions = match f.count {
+        2 => 1,
+        3 if text::equal(b"default", f.field(t, 2)) => 0,
+        _ => return None,
+    };
     if !rises(t, last, f.field(t, 1)) {
         return None;
     }
-    if n == 2 {
-        return name_head(a, m, 1);
-    }
-    if !text::equal(b"default", f.field(t, 2)) {
-        return None;
-    }
-    name_head(a, m, 0)
+    name_head(f.fields[1], expressions)
 }
 
 // What a word says of nulls: that they are allowed, that they are not, or neither.
@@ -258,19 +246,13 @@ fn column(t: &[u8], f: Line) -> Option<Head>
     requires { IsLine f }
     ensures { (p : ℕ) → LineAt t.now p f → HeadIsHere t.now p (fields_of 11 none) result }
 {
-    let n = f.count;
-    if n < 8 {
-        return None;
-    }
-    if 9 < n {
-        return None;
-    }
-    let name = name_at(f.starts[1], f.lens[1])?;
-    if n == 8 {
-        return column_words(t, f, name, None);
-    }
-    let reference = name_at(f.starts[8], f.lens[8])?;
-    column_words(t, f, name, Some(reference))
+    let reference = match f.count {
+        8 => None,
+        9 => Some(name_at(f.fields[8])?),
+        _ => return None,
+    };
+    let name = name_at(f.fields[1])?;
+    column_words(t, f, name, reference)
 }
 
 // What the fields of a section's record say, behind an entry of the last name.
@@ -329,8 +311,6 @@ pub fn entry_head(
     if text::packed(f.field(t, 0)) != keyword(kind) {
         return Ok(None);
     }
-    match fields_head(t, f, kind, last) {
-        Some(h) => Ok(Some(h)),
-        None => Err(Reason::WrongRecord.at(at.line)),
-    }
+    let h = fields_head(t, f, kind, last).ok_or(Reason::WrongRecord.at(at.line))?;
+    Ok(Some(h))
 }

@@ -26,7 +26,8 @@ use Rattle.ast.specs.Operands.{tree-binary, tree_is, tree-literal, tree-column, 
 use Rattle.ast.specs.Table.{at, rows_at, arguments_at, tree_by, tree_at}
 use Rattle.numbers.specs.Values.{value_at}
 use Rattle.expression.specs.Answers.{map_answer, answered}
-use Rattle.expression.specs.Constants.{checked_of, refusal_only, check, first_of, check_all, is_root_call}
+use Rattle.expression.specs.Constants.{checked_of, refusal_only, check, first_of, check_all}
+use Rattle.ast.specs.Called.{is_root_call}
 use Rattle.std.specs.Prelude.{Result, Ok, Err}
 use Rattle.std.specs.Result.{result_and}
 use Rattle.numbers.specs.Reasons.{reason_of}
@@ -164,20 +165,11 @@ module _ (f : ℕ → Expr) (c q : Bytes) (t : List ℕ) (r : ℕ) where
     record-operator (inl e) = record-unary (kind_is h e)
     record-operator (inr e) = record-binary (kind_is h e)
 
--- the literal behind `is`, and the name and the arguments of a call, as the code reads them
+-- the literal behind `is`, as the code reads it
 module _ (c q : Bytes) (t : List ℕ) (r : ℕ) where
   pub is-literal : {b : Bool} {l : Literal} → b ≡ is_null_or_nan (literal_value c q l) → l ≡ literal_at t r
       → is_null_or_nan (value_at c q (at t r 3) (at t r 4) (at t r 5)) ≡ b
   is-literal e h = sym (e ∙ ap is_null_or_nan (row-literal c q t r h))
-
-  pub other-count : (k : ℕ) → k ≡ at t r 3 → (k ≡ 1 → ⊥) → is_root_call c q t r ≡ false
-  unfolding is_root_call
-  other-count k h ne = rw (ne_eqb (at t r 3) 1 (λ e. ne (h ∙ e)))
-
-  pub one_argument : (k a n : ℕ) (b : Bool) → k ≡ at t r 3 → k ≡ 1 → a ≡ at t r 4 → n ≡ at t r 5
-      → b ≡ same (bytes_at c q a n) (bytes "sqrt") → is_root_call c q t r ≡ b
-  unfolding is_root_call
-  one_argument k a n b h one ha hn e = rw (eq-eqb (at t r 3) 1 (sym h ∙ one), ← ha, ← hn) (sym e)
 
   pub at_row : (x : Result (Unit {0}) Refusal) → checked_of x ≡ check (tree_by (tree_at c q t) c q t r) → checked_of x ≡ check (tree_at c q t r)
   at_row x h = h ∙ ap check (sym (tree-at c q t r))

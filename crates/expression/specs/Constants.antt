@@ -1,13 +1,9 @@
 -- What the answer about building a constant's expression means: the first refusal of building over the empty scope.
-use Rattle.std.specs.Prelude.{ℕ, Bool, ◌&&◌, List, eqb, Result}
-use Rattle.rules.specs.Lists.{Bytes, same}
-use Rattle.rules.specs.Lines.{bytes}
-use Rattle.rules.specs.Places.{bytes_at}
+use Rattle.std.specs.Prelude.{Result}
 use Rattle.rules.specs.Refusals.{Answer, ok, ◌>>◌}
 use Rattle.rules.specs.Ast.{Expr, Exprs, nil, cons}
 use Rattle.rules.specs.Scope.{empty}
 use Rattle.rules.specs.BuildExpression.{build}
-use Rattle.ast.specs.Table.{at}
 use Rattle.numbers.specs.declared.refusals.Refusal.{Refusal}
 use Rattle.expression.specs.Answers.{map_answer, answered}
 
@@ -30,7 +26,3 @@ first_of m n = m >> n
 unfoldable pub check_all : Exprs → Answer (Unit {0})
 check_all nil = ok tt
 check_all (cons a as') = first_of (check a) (check_all as')
-
--- whether the call at a row is `sqrt` of one argument
-unfoldable pub is_root_call : Bytes → Bytes → List ℕ → ℕ → Bool
-is_root_call c q t r = eqb (at t r 3) 1 && same (bytes_at c q (at t r 4) (at t r 5)) (bytes "sqrt")

@@ -10,10 +10,12 @@ ghost use Rattle.ast.specs.Expressions.{tree_in};
 ghost use Rattle.numbers.specs.Values.{value_at};
 ghost use Rattle.ast.specs.Operands.{operands_at};
 ghost use Rattle.expression.specs.Answers.{constant_of};
-ghost use Rattle.expression.specs.Constants.{checked_of, check, check_all, is_root_call};
+ghost use Rattle.expression.specs.Constants.{checked_of, check, check_all};
+ghost use Rattle.ast.specs.Called.{is_root_call};
 
 use crate::{Constant, evaluate_constant};
-use ast::row::{Kind, kind_of, name};
+use ast::row::{Kind, kind_of};
+use ast::walk::is_root_call;
 use ast::{Expressions, row, rows};
 use numbers::refusals::{Reason, Refusal};
 
@@ -33,14 +35,10 @@ fn check_call(exprs: &Expressions, r: usize) -> Result<(), Refusal>
     ensures { checked_of result ≡ refuse_if (not (is_root_call exprs.now.texts.catalog.now exprs.now.texts.statement.now
         exprs.now.table.now r)) unknown_function (at exprs.now.table.now r 1) }
 {
-    let line = row::line(exprs.table, r);
-    if row::arguments(exprs.table, r) != 1 {
-        return Err(Reason::UnknownFunction.at(line));
-    }
-    if exprs.texts.holds_at(name(exprs.table, r), b"sqrt") {
+    if is_root_call(exprs, r) {
         return Ok(());
     }
-    Err(Reason::UnknownFunction.at(line))
+    Err(Reason::UnknownFunction.at(row::line(exprs.table, r)))
 }
 
 // A record, the first refusal of its operands given: an unknown function comes before that, an invalid `is` after it.

@@ -1,17 +1,15 @@
 // The value of a constant as the plan takes it: a number of 0 or more for OFFSET and LIMIT, and a literal.
-ghost use Rattle.std.specs.Prelude.{◌≡◌, [], ◌∷◌, ◌++◌, ℕ};
+ghost use Rattle.std.specs.Prelude.{◌≡◌, ℕ};
 ghost use Rattle.rules.specs.Lists.{Bytes};
 ghost use Rattle.rules.specs.Refusals as rule;
 ghost use Rattle.rules.specs.BuildSelect.{natural};
-ghost use Rattle.rules.specs.Area as area;
 ghost use Rattle.rules.specs.Area.{value_numbers};
 ghost use Rattle.value.specs.Values.{value_of};
-ghost use Rattle.numbers.specs.Literals.{kind_number, literal_numbers};
+ghost use Rattle.numbers.specs.Literals.{literal_numbers};
 ghost use Rattle.expression.specs.Answers.{constant_value};
 ghost use Rattle.expression.specs.Numbers.{natural_of};
 
 use crate::Constant;
-use numbers::halves::{high, low};
 use numbers::literals::{Literal, LiteralKind};
 use text::places::Texts;
 use value::Value;
@@ -37,20 +35,8 @@ pub fn to_natural(constant: Constant) -> Option<u64>
     }
 }
 
-// 64 bits, low half first.
-#[tactic(auto, unfolding(rules::specs::Area::halves))]
-fn halves(kind: LiteralKind, n: u64) -> Literal
-    ensures { literal_numbers result ≡ kind_number kind ∷ (area.halves n ++ (0 ∷ [])) }
-{
-    Literal {
-        kind,
-        first: low(n),
-        second: high(n),
-    }
-}
-
 // A value that was worked out, as the literal that it is in the plan.
-#[tactic(auto, unfolding(numbers::specs::Literals::kind_number, rules::specs::Area::value_numbers, rules::specs::Area::flag, rules::specs::Area::span, rules::specs::Places::word_at, value::specs::Values::value_of))]
+#[tactic(auto, unfolding(numbers::specs::Literals::kind_number, rules::specs::Area::value_numbers, rules::specs::Area::flag, rules::specs::Area::span, rules::specs::Places::word_at, value::specs::Values::value_of, rules::specs::Area::halves))]
 pub fn of_value(texts: &Texts, v: Value) -> Literal
     ensures { literal_numbers result ≡ value_numbers (value_of texts.now.catalog.now texts.now.statement.now v) }
 {
@@ -65,8 +51,8 @@ pub fn of_value(texts: &Texts, v: Value) -> Literal
             first: u32::from(b),
             second: 0,
         },
-        Value::Int(n) => halves(LiteralKind::Int, ints::bits::to_bits(n)),
-        Value::Float(x) => halves(LiteralKind::Float, value::bits::to_bits(x)),
+        Value::Int(n) => Literal::of_bits(LiteralKind::Int, ints::bits::to_bits(n)),
+        Value::Float(x) => Literal::of_bits(LiteralKind::Float, value::bits::to_bits(x)),
         Value::Text(place) => Literal {
             kind: LiteralKind::Text,
             first: place.address,

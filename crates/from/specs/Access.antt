@@ -2,12 +2,14 @@
 use Prim.Native.Nat.{ℕ, zero, suc, ◌-◌, ◌≤◌, ◌<◌}
 use Rattle.std.proofs.Common.{arith, sym, ap, ◌∙◌}
 use Rattle.std.proofs.Math.Decide.{dec_lt}
-use Rattle.std.specs.Prelude.{◌≡◌, refl, List, [], ◌∷◌, SomeIff}
+use Rattle.std.specs.Prelude.{◌≡◌, refl, List, [], ◌∷◌}
 use Rattle.std.proofs.Math.Option.{Option, none, some}
 use Rattle.rules.specs.Lists.{Bytes}
 use Rattle.rules.specs.Places.{word_at}
 use Rattle.rules.specs.Ast.{Expr, cross, inner, left, right, From, table, join}
 use Rattle.ast.specs.Table.{at, tree_at}
+use Rattle.rules.specs.Area.{option_number}
+use Rattle.numbers.specs.Options.{option_of}
 use Rattle.numbers.specs.Codes.{coded}
 use Rattle.ast.specs.Names.{name_at}
 use Rattle.numbers.specs.Codes.{coded-at, coded-below, coded-above}
@@ -51,12 +53,12 @@ unfolding predicate_at predicate_of predicate_row
 predicate-at b q cells zero = refl
 predicate-at b q cells (suc r) = refl
 
-pub predicate-before : (x : ℕ) (o : std.Option ℕ) → SomeIff o (1 ≤ x) (x - 1) → o ≡ predicate_row x
-unfolding predicate_row
+pub predicate-before : (x : ℕ) (o : std.Option ℕ) → option_number (option_of o) ≡ x → o ≡ predicate_row x
+unfolding predicate_row option_number
 predicate-before zero std.None h = refl
-predicate-before zero (std.Some r) h = absurd (omega (arith, h.0))
+predicate-before zero (std.Some r) h = absurd (omega (arith, h))
 predicate-before (suc x) std.None h = absurd (omega (arith, h))
-predicate-before (suc x) (std.Some r) h = let e : r ≡ x = omega (arith, h.0, h.1) in rw e
+predicate-before (suc x) (std.Some r) h = let e : r ≡ x = omega (arith, h) in rw e
 
 -- KINDS
 -- the kind by its number

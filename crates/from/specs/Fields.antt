@@ -12,7 +12,7 @@ use Rattle.rules.specs.Ast.{Join}
 use Rattle.rules.specs.Reader.{key, rest, line_here, apply, one_of, word, both, two_fields, optional_name, name_alias}
 use Rattle.rules.specs.ReadStatement.{FromHead, joins, predicates, from_heads}
 use Rattle.rules.specs.Area.{span, option_span}
-use Rattle.text.specs.Lines.{field, kept_fields, Fields}
+use Rattle.text.specs.Lines.{nth_field, field, kept_fields, Fields}
 use Rattle.text.specs.Order.{same-swap}
 use Rattle.text.specs.Beside.{beside, beside-named}
 use Rattle.numbers.specs.Options.{option_of}
@@ -75,9 +75,13 @@ module _ (t : Bytes) (a n b m : ℕ) (i : Inside t a n) (j : Inside t b m) where
   unfolding table_fields map_option name_alias both
   alias-first h = rw (field-unnamed t a n i h)
 
-  pub alias-second : is_name n ≡ true → is_name m ≡ false → table_fields (field most_bytes t a n ∷ field most_bytes t b m ∷ []) ≡ none
+  pub alias-second : is_name m ≡ false → table_fields (field most_bytes t a n ∷ field most_bytes t b m ∷ []) ≡ none
   unfolding table_fields map_option name_alias both optional_name
-  alias-second h g = rw (field-named t a n i h, field-unnamed t b m j g)
+  alias-second g = go (is_name n) refl
+    where
+      go : (x : Bool) → is_name n ≡ x → table_fields (field most_bytes t a n ∷ field most_bytes t b m ∷ []) ≡ none
+      go true h = rw (field-named t a n i h, field-unnamed t b m j g)
+      go false h = rw (field-unnamed t a n i h)
 
   pub alias-some : (e : ℕ) (p o : Place) → is_name n ≡ true → is_name m ≡ true → p ≡ record { address = most_bytes + a; length = n } → o ≡ record { address = most_bytes + b; length = m }
       → IsFromRow t e (table_fields (field most_bytes t a n ∷ field most_bytes t b m ∷ [])) (Some (record { said = S.Table p (Some o); next = e }))
@@ -200,11 +204,11 @@ module _ (t : Bytes) (p l c n : ℕ) (r : Line) (f : Fields t p r) where
   without : (i : ℕ) → suc i < kept_fields → (r.count ≡ suc i → ⊥) → length (rest (here t p l c n)) ≡ i → ⊥
   without = rest-other statement t p l c n r f
 
-  pub fields-one : r.count ≡ 2 → table_fields (rest (here t p l c n)) ≡ table_fields (field most_bytes t (get_or r.starts 1 0) (get_or r.lens 1 0) ∷ [])
+  pub fields-one : r.count ≡ 2 → table_fields (rest (here t p l c n)) ≡ table_fields (field most_bytes t (nth_field r.fields 1).start (nth_field r.fields 1).length ∷ [])
   fields-one m = ap table_fields (with-one t p l c n r f m)
 
   pub fields-two : r.count ≡ 3
-      → table_fields (rest (here t p l c n)) ≡ table_fields (field most_bytes t (get_or r.starts 1 0) (get_or r.lens 1 0) ∷ field most_bytes t (get_or r.starts 2 0) (get_or r.lens 2 0) ∷ [])
+      → table_fields (rest (here t p l c n)) ≡ table_fields (field most_bytes t (nth_field r.fields 1).start (nth_field r.fields 1).length ∷ field most_bytes t (nth_field r.fields 2).start (nth_field r.fields 2).length ∷ [])
   fields-two m = ap table_fields (with-two t p l c n r f m)
 
   pub fields-other : (r.count ≡ 2 → ⊥) → (r.count ≡ 3 → ⊥) → table_fields (rest (here t p l c n)) ≡ none
@@ -212,7 +216,7 @@ module _ (t : Bytes) (p l c n : ℕ) (r : Line) (f : Fields t p r) where
   fields-other m o = rw (name-alias _ (without 1 (omega arith) m) (without 2 (omega arith) o))
 
   abbrev first_word : Bytes
-  first_word = take (get_or r.lens 0 0) (drop (get_or r.starts 0 0) t)
+  first_word = take (nth_field r.fields 0).length (drop (nth_field r.fields 0).start t)
 
   from_is : one_of from_heads (line_here (here t p l c n)) ≡ apply (named from_heads first_word) (rest (here t p l c n))
   unfolding one_of key rest
@@ -228,7 +232,7 @@ module _ (t : Bytes) (p l c n : ℕ) (r : Line) (f : Fields t p r) where
     at_join o = from_is ∙ ap (λ x. apply x (rest (here t p l c n))) (named-behind first_word _ _ _ z ∙ named-here first_word _ _ _ o)
 
     pub join-two : same first_word (bytes "join") ≡ true → r.count ≡ 3
-        → one_of from_heads (line_here (here t p l c n)) ≡ join_fields (field most_bytes t (get_or r.starts 1 0) (get_or r.lens 1 0) ∷ field most_bytes t (get_or r.starts 2 0) (get_or r.lens 2 0) ∷ [])
+        → one_of from_heads (line_here (here t p l c n)) ≡ join_fields (field most_bytes t (nth_field r.fields 1).start (nth_field r.fields 1).length ∷ field most_bytes t (nth_field r.fields 2).start (nth_field r.fields 2).length ∷ [])
     join-two o m = at_join o ∙ ap join_fields (with-two t p l c n r f m)
 
     pub join-not : same first_word (bytes "join") ≡ true → (r.count ≡ 3 → ⊥) → one_of from_heads (line_here (here t p l c n)) ≡ none
@@ -240,9 +244,9 @@ module _ (t : Bytes) (p l c n : ℕ) (r : Line) (f : Fields t p r) where
     no-from o = from_is ∙ ap (λ x. apply x (rest (here t p l c n))) (named-neither first_word _ _ _ _ z o)
 
   -- whether the record is meant to be one of these
-  pub is-first : (a b : Bytes) → same (take (get_or r.lens 0 0) (drop (get_or r.starts 0 0) t)) a ≡ true → true ≡ any (same (key (here t p l c n))) (a ∷ b ∷ [])
+  pub is-first : (a b : Bytes) → same (take (nth_field r.fields 0).length (drop (nth_field r.fields 0).start t)) a ≡ true → true ≡ any (same (key (here t p l c n))) (a ∷ b ∷ [])
   is-first a b x = sym (rw (key-is statement t p l c n r f) (first-of _ a b x))
 
-  pub is-second : (a b : Bytes) → same (take (get_or r.lens 0 0) (drop (get_or r.starts 0 0) t)) a ≡ false
-      → same (take (get_or r.lens 0 0) (drop (get_or r.starts 0 0) t)) b ≡ any (same (key (here t p l c n))) (a ∷ b ∷ [])
+  pub is-second : (a b : Bytes) → same (take (nth_field r.fields 0).length (drop (nth_field r.fields 0).start t)) a ≡ false
+      → same (take (nth_field r.fields 0).length (drop (nth_field r.fields 0).start t)) b ≡ any (same (key (here t p l c n))) (a ∷ b ∷ [])
   is-second a b x = sym (rw (key-is statement t p l c n r f) (second-of _ a b x))

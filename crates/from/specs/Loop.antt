@@ -20,7 +20,7 @@ use Rattle.text.specs.Lines.{line_end, line-most}
 use Rattle.text.specs.Reading.{place, place-next, place-length}
 use Rattle.text.specs.Answers.{wrong_at, limit_at}
 use Rattle.numbers.specs.Kept.{Kept, kept-all}
-use Rattle.ast.specs.Table.{row_size, table_size}
+use Rattle.ast.specs.Table.{row_size}
 use Rattle.read_expression.specs.Reading.{here, Position}
 use Rattle.from.specs.Layout.{trees_before}
 use Rattle.from.specs.Records.{alias_first, alias_second, IsFromRow}
@@ -63,10 +63,8 @@ pub record TreeLoop (t : Bytes) (p₀ l₀ c₀ k₀ n₀ : ℕ) (cells₀ rows�
       → trees_before b t cells'' rows n ≡ held done tree (lefts frames) ++ trees_before b t cells'' rows₀ n₀
   pub cells-kept : Kept 0 (row_size * c₀) cells₀ cells
   pub stack-room : length t < p₀ + 13 * length stack + 13
-  pub cells-room : length cells ≡ table_size
-  pub rows-room : length rows ≡ 248
 
-pub loop-begin : {t : Bytes} {p l c k n : ℕ} {cells rows : List ℕ} (stack : List Open) → TreeReady t p l c k n cells rows → length t < p + 13 * length stack + 13 → TreeLoop t p l c k n cells rows false p l c k n 0 stack cells rows
+pub loop-begin : {t : Bytes} {p l c k n : ℕ} {cells rows : List ℕ} (stack : List Open) → TreeReady t p l c k n → length t < p + 13 * length stack + 13 → TreeLoop t p l c k n cells rows false p l c k n 0 stack cells rows
 unfolding held Holds lefts turns
 loop-begin {t} {p} {l} {c} {k} {n} {cells} {rows} stack w h = record {
   frames = [];
@@ -87,8 +85,6 @@ loop-begin {t} {p} {l} {c} {k} {n} {cells} {rows} stack w h = record {
   stand = λ cells'' g b. refl;
   cells-kept = kept-all 0 _ _;
   stack-room = h;
-  cells-room = w.cells-room;
-  rows-room = w.rows-room;
 }
 
 -- the loop by the value of its flag
@@ -144,7 +140,7 @@ module _ {t : Bytes} {p₀ l₀ c₀ k₀ n₀ : ℕ} {cells₀ rows₀ : List �
       table-next = (unfold place in place-next statement t p l c (suc k)) ∙ rw ((row-end _ said), add-one k)
 
       pub loop-table : k < most_from_tables → (rows' : List ℕ)
-          → rows' ≡ sets rows (row_size * n) (1 ∷ l ∷ 0 ∷ name.address ∷ name.length ∷ alias_first alias ∷ alias_second alias ∷ 0 ∷ []) → length rows' ≡ length rows
+          → rows' ≡ sets rows (row_size * n) (1 ∷ l ∷ 0 ∷ name.address ∷ name.length ∷ alias_first alias ∷ alias_second alias ∷ 0 ∷ []) → length rows ≡ 248
           → TreeLoop t p₀ l₀ c₀ k₀ n₀ cells₀ rows₀ true r.next (l + 1) c (k + 1) (n + 1) d stack cells rows'
       unfolding held place
       loop-table m rows' e g = record {
@@ -165,12 +161,10 @@ module _ {t : Bytes} {p₀ l₀ c₀ k₀ n₀ : ℕ} {cells₀ rows₀ : List �
         begun = h.begun;
         count = omega (arith, h.count);
         stand = λ cells'' y b. rw (add-one n) (table-row rows rows' n 1 l 0 name.address name.length (alias_first alias) (alias_second alias) 0
-            (omega (arith, row_room m, h.rows-room)) e b t cells'' refl refl
+            (omega (arith, row_room m, g)) e b t cells'' refl refl
             ∙ rw (named.word b, named.other b, h.stand cells'' y b));
         cells-kept = h.cells-kept;
         stack-room = h.stack-room;
-        cells-room = h.cells-room;
-        rows-room = g ∙ h.rows-room;
       }
 
     -- one more join is open
@@ -212,8 +206,6 @@ module _ {t : Bytes} {p₀ l₀ c₀ k₀ n₀ : ℕ} {cells₀ rows₀ : List �
             stand = h.stand;
             cells-kept = h.cells-kept;
             stack-room = omega (arith, length-set stack d (record { line = l; kind = kind; on = on; left_read = false }), h.stack-room);
-            cells-room = h.cells-room;
-            rows-room = h.rows-room;
           }
 
 -- WHAT IS LEFT

@@ -1,13 +1,11 @@
 -- All trees of FROM, by a loop over them.
 use Rattle.std.specs.Prelude as std
-use Rattle.std.specs.Prelude.{ℕ, suc, ◌+◌, ◌*◌, ◌-◌, ◌≤◌, ◌<◌, ◌≡◌, true, false, length, replicate, Ok, Err, Some, None}
+use Rattle.std.specs.Prelude.{ℕ, suc, ◌+◌, ◌*◌, ◌-◌, ◌≤◌, ◌<◌, ◌≡◌, true, false, length, replicate, Result, Ok, Err, Some, None}
 use Rattle.std.proofs.Common.{arith, ◌∙◌}
 use Rattle.std.proofs.Math.Path.{refl, sym, ap}
 use mathlib.Core.List.{List, [], ◌∷◌, append-nil, reverse, reverse-cons}
 use Rattle.std.proofs.lemmas.List.{length-replicate}
-use Rattle.std.proofs.lemmas.List.Edits.{sets}
 use Rattle.rules.specs.Refusals.{statement, Refusal, ok, refused}
-use Rattle.rules.specs.Limits.{most_from_tables}
 use Rattle.rules.specs.Lists.{Bytes, same, any}
 use Rattle.rules.specs.Lines.{bytes}
 use Rattle.rules.specs.Ast.{From}
@@ -17,14 +15,14 @@ use Rattle.text.specs.Lines.{line_end}
 use Rattle.text.specs.Reading.{place-length}
 use Rattle.text.specs.Answers.{wrong_at, limit_at, bind_ok, bind-no, prefixed, prefixed-none, prefixed-twice, give-first}
 use Rattle.numbers.specs.Kept.{Kept, kept-all, kept_on, kept-first}
-use Rattle.ast.specs.Table.{row_size, table_size}
+use Rattle.ast.specs.Table.{row_size}
 use Rattle.read_expression.specs.Reading.{here, Position}
 use Rattle.from.specs.Layout.{trees_before}
 use Rattle.from.specs.Roots.{trees-none, froms-are}
 use Rattle.from.specs.Terms.{FromsRead}
 use Rattle.rules.specs.Limits.{most_bytes}
-use Rattle.from.specs.Records.{alias_first, alias_second, IsFromRow}
-use Rattle.from.specs.Trees.{TreeTook, TreeReady, TreeRead}
+use Rattle.from.specs.Records.{IsFromRow}
+use Rattle.from.specs.Trees.{TableAdded, TreeTook, TreeReady, TreeRead}
 use Rattle.from.specs.Loop.{loop-begin, loop-wrong, loop-limit, loop-table}
 use Rattle.from.specs.Stack.{unused}
 use Rattle.from.specs.Closed.{loop-end}
@@ -33,7 +31,7 @@ use Rattle.from.specs.declared.record.FromRecord.{FromRecord}
 use Rattle.from.specs.declared.record.Said.TheVariants as S
 use Rattle.text.specs.declared.places.Place as places
 use Rattle.from.specs.declared.Froms.{Froms}
-use Rattle.numbers.specs.declared.refusals.Reason.TheVariants.{WrongRecord, LimitPassed}
+use Rattle.numbers.specs.declared.refusals.Reason.TheVariants.{WrongRecord}
 use Rattle.numbers.specs.declared.refusals.Refusal as code
 use Rattle.numbers.specs.Reasons.{reason_of}
 
@@ -45,23 +43,19 @@ no_joins_lem : (t : Bytes) (p : ℕ) → length t ≤ most_bytes → length t < 
 unfolding no_joins
 no_joins_lem t p h = omega (arith, length-replicate {A = Open} 5041 unused)
 
-pub tree-wrong : {t : Bytes} {p l c k n : ℕ} {cells rows : List ℕ} → TreeReady t p l c k n cells rows
+pub tree-wrong : {t : Bytes} {p l c k n : ℕ} (cells rows : List ℕ) → TreeReady t p l c k n
     → ((l c k : ℕ) → IsFromRow t (line_end t p) (one_of from_heads (line_here (here t p l c k))) None)
     → TreeRead t p l c k n cells cells rows rows (Err (record { reason = WrongRecord; line = l }))
 unfolding TreeRead wrong_at reason_of
-tree-wrong {t} {p} w f = loop-wrong (loop-begin no_joins w (no_joins_lem t p w.position.short)) f
+tree-wrong {t} {p} cells rows w f = loop-wrong (loop-begin {cells = cells} {rows = rows} no_joins w (no_joins_lem t p w.position.short)) f
 
-module _ {t : Bytes} {p l c k n : ℕ} {cells rows : List ℕ} (w : TreeReady t p l c k n cells rows) {r : FromRecord}
+module _ {t : Bytes} {p l c k n : ℕ} (cells rows : List ℕ) (w : TreeReady t p l c k n) {r : FromRecord}
     (f : (l c k : ℕ) → IsFromRow t (line_end t p) (one_of from_heads (line_here (here t p l c k))) (Some r)) {name : places.Place} {alias : std.Option places.Place} (z : r.said ≡ S.Table name alias) where
-  pub table-limit : most_from_tables ≤ k → TreeRead t p l c k n cells cells rows rows (Err (record { reason = LimitPassed; line = l }))
-  unfolding TreeRead limit_at reason_of
-  table-limit m = loop-limit (loop-begin no_joins w (no_joins_lem t p w.position.short)) f z m
-
-  pub table-took : k < most_from_tables → (rows' : List ℕ)
-      → rows' ≡ sets rows (row_size * n) (1 ∷ l ∷ 0 ∷ name.address ∷ name.length ∷ alias_first alias ∷ alias_second alias ∷ 0 ∷ []) → length rows' ≡ length rows
-      → TreeRead t p l c k n cells cells rows rows' (Ok (record { at = record { position = r.next; line = l + 1; rows = c }; tables = k + 1; rows = n + 1 }))
-  unfolding TreeRead
-  table-took m rows' e g = loop-end (loop-table (loop-begin no_joins w (no_joins_lem t p w.position.short)) f z m rows' e g) refl
+  pub table-added : (rows' : List ℕ) (x : Result Froms code.Refusal) → TableAdded (record { at = record { position = p; line = l; rows = c }; tables = k; rows = n }) r.next name alias rows rows' x
+      → length rows ≡ 248 → TreeRead t p l c k n cells cells rows rows' x
+  unfolding TreeRead TableAdded limit_at reason_of
+  table-added rows' (Ok g) h e = rw h.2 (loop-end (loop-table (loop-begin {cells = cells} {rows = rows} no_joins w (no_joins_lem t p w.position.short)) f z h.0 rows' h.1 e) refl)
+  table-added rows' (Err v) h e = rw h.2 (loop-limit (loop-begin {cells = cells} {rows = rows} no_joins w (no_joins_lem t p w.position.short)) f z h.0)
 
 -- ALL TREES
 abbrev pub from_words : List Bytes
@@ -89,22 +83,21 @@ pub record FromsLoop (t : Bytes) (p₀ l₀ c₀ : ℕ) (cells₀ : List ℕ) (p
   pub enough : length t < p + fuel
   pub moved : p₀ ≤ p
   pub more : c₀ ≤ c
-  pub ready : TreeReady t p l c k n cells rows
+  pub ready : TreeReady t p l c k n
   pub few : n ≤ 31
   pub stand : (cells'' : List ℕ) → Kept 0 (row_size * c) cells cells'' → (b : Bytes) → trees_before b t cells'' rows n ≡ trees
   pub cells-kept : Kept 0 (row_size * c₀) cells₀ cells
 
-pub froms-begin : {t : Bytes} {p l c : ℕ} {cells rows : List ℕ} → Position t p l c → length cells ≡ table_size
-    → length rows ≡ 248 → FromsLoop t p l c cells p l c 0 0 cells rows
+pub froms-begin : {t : Bytes} {p l c : ℕ} {cells rows : List ℕ} → Position t p l c → FromsLoop t p l c cells p l c 0 0 cells rows
 unfolding turns
-froms-begin {t} {p} {l} {c} w h g = record {
+froms-begin {t} {p} {l} {c} w = record {
   trees = [];
   fuel = suc (length (here t p l c 0).left);
   is = prefixed-none _;
   enough = omega (arith, place-length statement t p l c 0);
   moved = omega arith;
   more = omega arith;
-  ready = record { position = w; cells-room = h; rows-room = g; tables = omega arith; count = omega arith };
+  ready = record { position = w; tables = omega arith; count = omega arith };
   few = omega arith;
   stand = λ cells'' y b. trees-none b t cells'' _;
   cells-kept = kept-all 0 _ _;
@@ -149,8 +142,8 @@ module _ {t : Bytes} {p₀ l₀ c₀ : ℕ} {cells₀ : List ℕ} {p l c k n : �
       pub froms-moved : (p < f.at.position) × (f.at.position ≤ length t)
       froms-moved = (took.moved, took.position.within)
 
-      pub froms-on : length cells' ≡ length cells → length rows' ≡ length rows → FromsLoop t p₀ l₀ c₀ cells₀ f.at.position f.at.line f.at.rows f.tables f.rows cells' rows'
-      froms-on cl rl = record {
+      pub froms-on : FromsLoop t p₀ l₀ c₀ cells₀ f.at.position f.at.line f.at.rows f.tables f.rows cells' rows'
+      froms-on = record {
         trees = took.value ∷ h.trees;
         fuel = h.fuel - 1;
         is = rw (reverse-cons took.value h.trees) (sym (prefixed-twice _ _ _) ∙ ap (prefixed (reverse h.trees)) (sym (froms-more (here t p l c k) (h.fuel - 1) e _ _ took.is)) ∙ rest-is);
@@ -159,8 +152,6 @@ module _ {t : Bytes} {p₀ l₀ c₀ : ℕ} {cells₀ : List ℕ} {p l c k n : �
         more = omega (arith, h.more, took.more);
         ready = record {
           position = took.position;
-          cells-room = cl ∙ h.ready.cells-room;
-          rows-room = rl ∙ h.ready.rows-room;
           tables = took.tables;
           count = omega (arith, took.count, h.ready.count);
         };

@@ -1,4 +1,5 @@
 -- One tree of FROM: the contracts of reading it and of closing a join.
+use Rattle.std.specs.Prelude as std
 use Rattle.std.specs.Prelude.{ℕ, ◌+◌, ◌*◌, ◌≤◌, ◌<◌, ◌≡◌, List, [], ◌∷◌, length, Result, Ok, Err}
 use Rattle.std.proofs.Math.Option.{Option}
 use Rattle.std.proofs.lemmas.List.Edits.{sets}
@@ -11,11 +12,14 @@ use Rattle.rules.specs.ReadStatement.{from_tree}
 use Rattle.numbers.specs.declared.refusals.Refusal as code
 use Rattle.numbers.specs.Reasons.{told}
 use Rattle.numbers.specs.Kept.{Kept}
-use Rattle.ast.specs.Table.{row_size, table_size}
+use Rattle.ast.specs.Table.{row_size}
 use Rattle.read_expression.specs.Reading.{here, Position}
 use Rattle.from.specs.Layout.{predicate_at, trees_before}
 use Rattle.from.specs.Rows.{sides_before}
 use Rattle.from.specs.Numbers.{number_of}
+use Rattle.numbers.specs.declared.refusals.Reason.TheVariants.{LimitPassed}
+use Rattle.text.specs.declared.places.Place.{Place}
+use Rattle.from.specs.Records.{alias_first, alias_second}
 use Rattle.from.specs.declared.Froms.{Froms}
 use Rattle.from.specs.declared.Open.{Open}
 
@@ -25,6 +29,12 @@ pub record Closed (t : Bytes) (c n : ℕ) (v : Open) (cells cells' rows rows' : 
   pub written : rows' ≡ sets rows (row_size * n) (number_of v.kind ∷ v.line ∷ number ∷ 0 ∷ 0 ∷ 0 ∷ 0 ∷ sides_before rows n ∷ [])
   pub stands : (cells'' : List ℕ) → Kept 0 (row_size * c') cells' cells'' → (b : Bytes) → predicate_at b t cells'' number ≡ e
   pub cells-kept : Kept 0 (row_size * c) cells cells'
+
+-- A table more in FROM, whose record ends at e, where there may be one more: its row, and what stands behind it.
+unfoldable pub TableAdded : (f : Froms) (e : ℕ) (name : Place) (alias : std.Option Place) (rows rows' : List ℕ) → Result Froms code.Refusal → Type 0
+TableAdded f e name alias rows rows' (Ok g) = (f.tables < most_from_tables) × (rows' ≡ sets rows (row_size * f.rows) (1 ∷ f.at.line ∷ 0 ∷ name.address ∷ name.length ∷ alias_first alias ∷ alias_second alias ∷ 0 ∷ []))
+    × (g ≡ record { at = record { position = e; line = f.at.line + 1; rows = f.at.rows }; tables = f.tables + 1; rows = f.rows + 1 })
+TableAdded f e name alias rows rows' (Err w) = (most_from_tables ≤ f.tables) × (rows' ≡ rows) × (w ≡ record { reason = LimitPassed; line = f.at.line })
 
 -- a tree that was read behind k tables and n FROM rows: it stands before the trees of those rows
 pub record TreeTook (t : Bytes) (p l c k n : ℕ) (cells cells' rows rows' : List ℕ) (p' l' c' k' n' : ℕ) : Type 0 where
@@ -44,9 +54,7 @@ TreeRead t p l c k n cells cells' rows rows' (Ok f) = TreeTook t p l c k n cells
 TreeRead t p l c k n cells cells' rows rows' (Err w) = turns from_tree (here t p l c k) ≡ refused (told statement w)
 
 -- a tree may stand here, and its rows have room
-pub record TreeReady (t : Bytes) (p l c k n : ℕ) (cells rows : List ℕ) : Type 0 where
+pub record TreeReady (t : Bytes) (p l c k n : ℕ) : Type 0 where
   pub position : Position t p l c
-  pub cells-room : length cells ≡ table_size
-  pub rows-room : length rows ≡ 248
   pub tables : k ≤ most_from_tables
   pub count : n ≤ 2 * k

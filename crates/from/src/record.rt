@@ -33,24 +33,16 @@ fn table_record(f: Line) -> Option<FromRecord>
     ensures { (t : List ℕ) (p l c k : ℕ) → LineAt t p f
         → IsFromRow t f.next (table_fields (rest (here t p l c k))) result }
 {
-    match f.count {
-        2 => {
-            let name = name_at(f.starts[1], f.lens[1])?;
-            Some(FromRecord {
-                said: Said::Table(name, None),
-                next: f.next,
-            })
-        }
-        3 => {
-            let name = name_at(f.starts[1], f.lens[1])?;
-            let alias = name_at(f.starts[2], f.lens[2])?;
-            Some(FromRecord {
-                said: Said::Table(name, Some(alias)),
-                next: f.next,
-            })
-        }
-        _ => None,
-    }
+    let alias = match f.count {
+        2 => None,
+        3 => Some(name_at(f.fields[2])?),
+        _ => return None,
+    };
+    let name = name_at(f.fields[1])?;
+    Some(FromRecord {
+        said: Said::Table(name, alias),
+        next: f.next,
+    })
 }
 
 // A join's two words.
@@ -98,8 +90,5 @@ pub fn from_stands(t: &[u8], p: usize) -> bool
 {
     let f = text::fields(t, p);
     let word = f.field(t, 0);
-    if text::equal(word, b"from") {
-        return true;
-    }
-    text::equal(word, b"join")
+    text::equal(word, b"from") || text::equal(word, b"join")
 }

@@ -5,7 +5,8 @@ ghost use Rattle.text.specs.Places.{place_of};
 ghost use Rattle.from.specs.Access as access;
 ghost use Rattle.from.specs.Numbers.{number_of};
 
-use ast::rows::at;
+use ast::rows::{at, place_at};
+use numbers::options::of_number;
 use text::places::Place;
 
 // The kinds of rows, by their numbers in the rows, which are lent zeroed (reader_read_texts) and so stay numbers.
@@ -60,7 +61,7 @@ pub fn line(rows: &[u32], r: u32) -> u32
 pub fn predicate_of(rows: &[u32], r: u32) -> Option<u32>
     ensures { result ≡ access.predicate_row (access.predicate_number rows.now r) }
 {
-    at(rows, r as usize, 2).checked_sub(1)
+    of_number(at(rows, r as usize, 2))
 }
 
 // The place of a table's name.
@@ -68,10 +69,7 @@ pub fn name(rows: &[u32], r: u32) -> Place
     ensures address { result.address ≡ access.name_address rows.now r }
     ensures length { result.length ≡ access.name_length rows.now r }
 {
-    Place {
-        address: at(rows, r as usize, 3),
-        length: at(rows, r as usize, 4),
-    }
+    place_at(rows, r as usize, 3)
 }
 
 // That of its alias.

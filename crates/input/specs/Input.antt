@@ -1,5 +1,5 @@
 -- How far a text was read into its buffer.
-use Rattle.std.specs.Prelude.{ℕ, ◌≡◌, ◌≤◌, ◌<◌, List, length, take, Result, Ok, Err, Option}
+use Rattle.std.specs.Prelude.{ℕ, ◌+◌, ◌≡◌, ◌≤◌, ◌<◌, List, length, take, Result, Ok, Err, Option}
 use Rattle.std.specs.Io.KnownBytes.{Consumes, IsAtEnd}
 use Rattle.std.proofs.Common.{arith, sym, length-take-le}
 use Rattle.io.specs.Counts.{IsPrefixLen}
@@ -19,6 +19,10 @@ Whole s (Err e) = Unit {0}
 abbrev pub Took : {E : Type 0} → Option (List ℕ) → Option (List ℕ) → List ℕ → Result ℕ E → Type 0
 Took before after s (Ok n) = Consumes before after (take n s) × (n < length s → IsAtEnd after)
 Took before after s (Err e) = Unit {0}
+
+-- a text is the next bytes that the reader had, where those are known: all of them, or one byte more than a text may have
+abbrev pub Gave : Option (List ℕ) → Option (List ℕ) → List ℕ → Type 0
+Gave before after t = Consumes before after t × (length t ≤ most_bytes → IsAtEnd after) × (length t ≤ most_bytes + 1)
 
 pub whole : {E : Type 0} (s : List ℕ) (r : Result ℕ E) → most_bytes < length s → Within s r → Whole s r
 whole s (Ok n) l h = (h, λ m. omega arith)

@@ -1,10 +1,13 @@
 // What a reader has, and a text from one, read as far as it takes to see that it is too long.
 #![tactic(auto)]
 
-ghost use Rattle.input.specs.Input.{Within, Whole, Took};
+ghost use Rattle.std.specs.Prelude.{IfOk};
+ghost use Rattle.input.specs.Input.{Within, Whole, Took, Gave};
 
+use anyhow::{Context, Result};
 use std::io;
 use std::io::Read;
+use text::places::Texts;
 
 pub const SIZE: usize = 65537;
 
@@ -34,4 +37,22 @@ pub fn read_text<R: Read>(from: &mut R, text: &mut Buffer) -> io::Result<usize>
     ensures took { Took (R.remaining from.old) (R.remaining from.new) text.new result }
 {
     fill(from, text)
+}
+
+// Both texts, each in a buffer that is lent: the catalog's from the file, the statement's from the standard input.
+pub fn read_texts<'t, C: Read, S: Read>(
+    file: &mut C,
+    stdin: &mut S,
+    catalog: &'t mut Buffer,
+    statement: &'t mut Buffer,
+) -> Result<Texts<'t>>
+    ensures { IfOk result (λ texts. Gave (C.remaining file.old) (C.remaining file.new) texts.catalog.now
+        × Gave (S.remaining stdin.old) (S.remaining stdin.new) texts.statement.now) }
+{
+    let n = read_text(file, catalog).context("catalog.txt")?;
+    let m = read_text(stdin, statement).context("standard input")?;
+    Ok(Texts {
+        catalog: &catalog[..n],
+        statement: &statement[..m],
+    })
 }

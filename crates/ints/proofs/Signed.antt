@@ -1,6 +1,7 @@
 -- What the machine reads back of a signed number of 64 bits.
 use mathlib.Core.Bool.{true, false, false≢true}
-use mathlib.Core.Path.{◌≡◌, refl, sym, ap, ◌∙◌, subst⁻¹}
+use mathlib.Core.Path.{◌≡◌, refl, sym, ap, ◌∙◌, subst, subst⁻¹}
+use native.Mathlib.Omega.{arith}
 use Prim.Native.Nat.{ℕ, ◌<◌, ◌^◌, zero-le}
 use lib.IntN.{ℤ, pos, negsuc, nat_abs}
 use lib.Signed.{mag, lt_z}
@@ -8,6 +9,7 @@ use borrow.Author.Tests.{le-ltb}
 use mir.Syntax.{w64}
 use mir.Val.{SFits, to_z, of_z}
 use mir.ValLaws.{to_z-of_z}
+use Rattle.std.specs.Int.{FitsUnsignedBits}
 use Rattle.rules.specs.Area.{bits}
 
 abbrev pub stored : ℤ → ℤ
@@ -42,3 +44,18 @@ module _ (x : ℤ) (f : SFits w64 x) where
       go : (x : ℤ) → lt_z x (pos 0) ≡ false → pos (nat_abs x) ≡ x
       go (pos n) e = refl
       go (negsuc n) e = absurd (false≢true (sym e))
+
+  -- what a conversion to a number with no sign says
+  pub unconverted : (FitsUnsignedBits 64 (stored x) → ⊥) → (P : ℤ → Type 0) → ((n : ℕ) → P (negsuc n)) → P x
+  unconverted h P k = go x (λ g. h (subst⁻¹ (FitsUnsignedBits 64) (read x f) g)) f
+    where
+      go : (x : ℤ) → (FitsUnsignedBits 64 x → ⊥) → SFits w64 x → P x
+      go (pos n) h f = let l : mag (pos n) < 2 ^ 63 = f.sfits in absurd (h (omega (arith, l)))
+      go (negsuc n) h f = k n
+
+  pub converted : (n : ℕ) → FitsUnsignedBits 64 (stored x) → n ≡ nat_abs (stored x) → x ≡ pos n
+  converted n h e = go x (subst (FitsUnsignedBits 64) (read x f) h) (e ∙ ap nat_abs (read x f))
+    where
+      go : (x : ℤ) → FitsUnsignedBits 64 x → n ≡ nat_abs x → x ≡ pos n
+      go (pos m) h e = ap pos (sym e)
+      go (negsuc m) h e = absurd h

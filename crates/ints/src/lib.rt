@@ -59,9 +59,7 @@ pub fn rem(x: i64, y: i64) -> Result<i64, Reason>
 pub fn pow(x: i64, e: u64) -> Result<i64, Reason>
     ensures { checked result ≡ raised x (pos e) }
 {
-    let Ok(exponent) = u32::try_from(e) else {
-        return Err(Reason::IntegerOverflow);
-    };
+    let exponent = u32::try_from(e).map_err(|_| Reason::IntegerOverflow)?;
     x.checked_pow(exponent).ok_or(Reason::IntegerOverflow)
 }
 

@@ -67,6 +67,10 @@ unfolding text_number text_name bytes words_of push
 text-word catalog = refl
 text-word statement = refl
 
+pub refusal-listed : (n l : ℕ) (t : Text) → (bytes "refused" ∷ decimal_of n ∷ text_name t ∷ decimal_of l ∷ []) ∷ [] ≡ refusal_line n (text_number t) l
+unfolding refusal_line
+refusal-listed n l t = rw (text-word t)
+
 pub refusal-shown : (r : Refusal)
     → show_lines (refusal_line (refusal_number r.reason) (text_number r.text) r.line) ≡ show_answer (refused r)
 unfolding refusal_line show_answer show_refusal

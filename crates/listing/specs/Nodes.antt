@@ -1,9 +1,7 @@
 -- The lines of nodes, from their numbers.
 use Rattle.std.specs.Prelude.{ℕ, zero, suc, ◌+◌, ◌*◌, ◌-◌, ◌/◌, ◌^◌, ◌≡◌, true, false, List, [], ◌∷◌, ◌++◌, eqb, length, get_or, drop, take}
-use Rattle.std.specs.Prelude.{◌≤◌, refl}
+use Rattle.std.specs.Prelude.{refl}
 use Rattle.std.proofs.Common.{arith, sym, ap, ◌∙◌, eq-eqb, ne_eqb}
-use Rattle.std.proofs.Math.Decide.{dec_lt}
-use Rattle.std.proofs.lemmas.List.{get_or_past}
 use Rattle.text.specs.Words.{words_of, push}
 use Rattle.plan.specs.Kinds.{node_number}
 use Rattle.plan.specs.declared.nodes.Kind.{Kind}
@@ -13,7 +11,7 @@ use Rattle.rules.specs.Lines.{bytes}
 use Rattle.rules.specs.Places.{bytes_at}
 use Rattle.rules.specs.Print.{decimal_of}
 use Rattle.rules.specs.Area.{header_size}
-use Rattle.listing.specs.Words.{word_of}
+use Rattle.listing.specs.Words.{word_of, no-word}
 use Rattle.listing.specs.Choices.{choose, choose-none, Misses}
 use Rattle.listing.specs.Lines.{listed, each}
 
@@ -134,20 +132,11 @@ node-words K.Remap = refl
 pub node-is : (k : ℕ) (kind : Kind) → k ≡ node_number kind → node_named kind ≡ node_word k
 node-is k kind e = node-words kind ∙ ap node_word (sym e)
 
-node-first : [] ≡ node_word 0
-unfolding node_word bytes words_of push
-node-first = refl
-
-node-past : (k : ℕ) → 11 ≤ k → node_word k ≡ []
-unfolding node_word bytes words_of push
-node-past k h = get_or_past (words_of (bytes " scan values join filter aggregate project order offset limit remap ")) k [] h
-
 -- and there is none where no kind has the number
 pub node-none : (k : ℕ) → ((kind : Kind) → k ≡ node_number kind → ⊥) → [] ≡ node_word k
-node-none k n = elim (dec_lt k 11) [
-  | yes y ↦ let z : k ≡ 0 = omega (arith, y, n K.Scan, n K.Values, n K.Join, n K.Filter, n K.Aggregate, n K.Project, n K.Order, n K.Offset, n K.Limit, n K.Remap) in node-first ∙ ap node_word (sym z)
-  | no y ↦ sym (node-past k (omega (arith, y)))
-]
+unfolding node_word bytes words_of push
+node-none k n = no-word (bytes " scan values join filter aggregate project order offset limit remap ") 11 k refl (omega arith)
+    (λ y. omega (arith, y, n K.Scan, n K.Values, n K.Join, n K.Filter, n K.Aggregate, n K.Project, n K.Order, n K.Offset, n K.Limit, n K.Remap))
 
 -- what a node's line has behind its number: its kind, how many numbers it has, and those
 unfoldable pub node_fields : Bytes → Bytes → List ℕ → List Bytes

@@ -1,11 +1,9 @@
 -- The statement's own lines and the whole listing, from the numbers of an area.
 use Rattle.std.specs.Prelude.{ℕ, ◌-◌, ◌≡◌, true, false, List, [], ◌∷◌, ◌++◌, eqb, get_or, drop}
-use Rattle.std.specs.Prelude.{◌≤◌, refl, Option, Some, None, Result, Ok, Err, MatchOption, MatchResult, IsSomeAnd}
+use Rattle.std.specs.Prelude.{refl, Option, Some, None, Result, Ok, Err, MatchOption, MatchResult, IsSomeAnd}
 use Rattle.std.specs.Option.{unwrap_or}
 use Rattle.std.specs.Result.{result_ok}
 use Rattle.std.proofs.Common.{Bor, arith, sym, ap, ◌∙◌, eq-eqb, ne_eqb}
-use Rattle.std.proofs.Math.Decide.{dec_lt}
-use Rattle.std.proofs.lemmas.List.{get_or_past}
 use Rattle.text.specs.Words.{words_of, push}
 use Rattle.plan.specs.Kinds.{statement_number}
 use Rattle.plan.specs.declared.finish.Kind.{Kind}
@@ -14,7 +12,7 @@ use Rattle.rules.specs.Lists.{Bytes}
 use Rattle.rules.specs.Lines.{bytes}
 use Rattle.rules.specs.Places.{bytes_at}
 use Rattle.rules.specs.Print.{decimal_of, show_lines}
-use Rattle.listing.specs.Words.{word_of}
+use Rattle.listing.specs.Words.{word_of, no-word}
 use Rattle.listing.specs.Choices.{choose, choose-none, Misses}
 use Rattle.listing.specs.Lines.{each}
 use Rattle.listing.specs.Cells.{value_rest, cell_lines}
@@ -111,20 +109,11 @@ statement-words K.Update = refl
 pub statement-is : (k : ℕ) (kind : Kind) → k ≡ statement_number kind → statement_named kind ≡ statement_word k
 statement-is k kind e = statement-words kind ∙ ap statement_word (sym e)
 
-statement-first : [] ≡ statement_word 0
-unfolding statement_word bytes words_of push
-statement-first = refl
-
-statement-past : (k : ℕ) → 7 ≤ k → statement_word k ≡ []
-unfolding statement_word bytes words_of push
-statement-past k h = get_or_past (words_of (bytes " select create drop delete insert update ")) k [] h
-
 -- and there is none where no kind has the number
 pub statement-none : (k : ℕ) → ((kind : Kind) → k ≡ statement_number kind → ⊥) → [] ≡ statement_word k
-statement-none k n = elim (dec_lt k 7) [
-  | yes y ↦ let z : k ≡ 0 = omega (arith, y, n K.Select, n K.Create, n K.Drop, n K.Delete, n K.Insert, n K.Update) in statement-first ∙ ap statement_word (sym z)
-  | no y ↦ sym (statement-past k (omega (arith, y)))
-]
+unfolding statement_word bytes words_of push
+statement-none k n = no-word (bytes " select create drop delete insert update ") 7 k refl (omega arith)
+    (λ y. omega (arith, y, n K.Select, n K.Create, n K.Drop, n K.Delete, n K.Insert, n K.Update))
 
 unfoldable pub header_line : List ℕ → List (List Bytes)
 header_line a =

@@ -21,8 +21,9 @@ pub record PartLoop (w w' : Writer) (n : ℕ) (e : Bytes → Bytes → List ℕ 
   pub rest : (c q : Bytes) → done c q ++ parts n (e c q) (chunks_exact_rest it) ≡ parts n (e c q) s
 
 module _ {n : ℕ} (e : Bytes → Bytes → List ℕ → List Bytes) (s : List ℕ) where
-  pub parts-begin : {w : Writer} {it : ChunksExact ℕ} → chunks_exact_size it ≡ n → chunks_exact_rest it ≡ s → PartLoop w w n e s it
-  parts-begin g f = record { size = g; done = λ c q. []; put = fields-none; rest = λ c q. rw f refl }
+  pub parts-begin : {w : Writer} {it chunks : ChunksExact ℕ} → it ≡ chunks → chunks_exact_size chunks ≡ n → chunks_exact_rest chunks ≡ s
+      → PartLoop w w n e s it
+  parts-begin i g f = record { size = ap chunks_exact_size i ∙ g; done = λ c q. []; put = fields-none; rest = λ c q. rw (i, f) refl }
 
   pub parts-more : {w w' w'' : Writer} {it it' : ChunksExact ℕ} (x : Bor (List ℕ)) → PartLoop w w' n e s it → chunks_exact_steps it (Some x) it'
       → 0 < n → ((c q : Bytes) (u t : List ℕ) → length u ≡ n → e c q (u ++ t) ≡ e c q u)

@@ -1,7 +1,5 @@
 // The lines of an area's cells: four numbers each, the first of them the kind.
 ghost use Rattle.std.specs.Prelude.{◌≡◌, get_or, drop};
-ghost use Rattle.rules.specs.Area.{option_number};
-ghost use Rattle.numbers.specs.Options.{option_of};
 ghost use Rattle.listing.specs.Fields.{FieldsIn};
 ghost use Rattle.listing.specs.Lines.{LinesIn};
 ghost use Rattle.listing.specs.Places.{place_at, optional_place_at};
@@ -29,11 +27,7 @@ pub fn tail(s: &[u32], p: usize) -> &[u32]
 pub fn place_at(s: &[u32], p: usize) -> Place
     ensures { result ≡ place_at s.now p }
 {
-    let from = tail(s, p);
-    Place {
-        address: number(from, 0),
-        length: number(from, 1),
-    }
+    Place::at(tail(s, p), 0)
 }
 
 // The place that two numbers have as `place_at` says; none where its length is 0.
@@ -42,13 +36,6 @@ pub fn optional_place_at(s: &[u32], p: usize) -> Option<Place>
 {
     let place = place_at(s, p);
     Place::of_numbers(place.address, place.length)
-}
-
-// A number that stands as one more than it is; none where 0 stands for it.
-pub fn optional(x: u32) -> Option<u32>
-    ensures { option_number (option_of result) ≡ x }
-{
-    x.checked_sub(1)
 }
 
 impl<'a> Writer<'a> {

@@ -10,7 +10,7 @@ pub mod put; // put.rt: bytes and fields
 ghost use Rattle.std.specs.Prelude.{◌≡◌, drop};
 ghost use Rattle.rules.specs.Refusals.{refusal_number};
 ghost use Rattle.rules.specs.Entry.{text_number};
-ghost use Rattle.rules.specs.Print.{show_lines};
+ghost use Rattle.rules.specs.Print.{text_name, show_lines};
 ghost use Rattle.numbers.specs.Reasons.{reason_of};
 ghost use Rattle.numbers.specs.Texts.{text_of};
 ghost use Rattle.listing.specs.Lines.{Lines, LinesIn};
@@ -19,7 +19,7 @@ ghost use Rattle.listing.specs.Listed.{Told, Holds, refusal_line};
 
 use cells::tail;
 use numbers::number;
-use numbers::refusals::TextRefusal;
+use numbers::refusals::{Text, TextRefusal};
 use plan::finish::Kind;
 use put::Writer;
 use text::places::Texts;
@@ -52,6 +52,17 @@ fn kind_word(kind: Kind) -> &'static [u8]
         Kind::Delete => b"delete",
         Kind::Insert => b"insert",
         Kind::Update => b"update",
+    }
+}
+
+// The word of a text.
+#[tactic(auto, unfolding(numbers::specs::Texts::text_of, rules::specs::Print::text_name, rules::specs::Lines::bytes))]
+fn text_word(text: Text) -> &'static [u8]
+    ensures { result.now ≡ text_name (text_of text) }
+{
+    match text {
+        Text::Catalog => b"catalog",
+        Text::Statement => b"statement",
     }
 }
 
@@ -88,7 +99,7 @@ impl<'a> Writer<'a> {
     {
         self.bytes(b"refused");
         self.number(u32::from(refusal.reason));
-        self.word(&[b"", b"catalog", b"statement"], u32::from(refusal.text));
+        self.field(text_word(refusal.text));
         self.number(refusal.line);
         self.byte(b'\n');
     }

@@ -7,9 +7,10 @@ ghost use Rattle.listing.specs.Nodes.{order_fields, limit_fields, remap_fields, 
 ghost use Rattle.listing.specs.Nodes.{node_lines};
 ghost use Rattle.plan.specs.Kinds.{node_number};
 
-use crate::cells::{optional, optional_place_at, place_at, tail};
+use crate::cells::{optional_place_at, place_at, tail};
 use crate::put::Writer;
 use numbers::halves::joined;
+use numbers::options::of_number;
 use numbers::{first, number};
 use plan::nodes::Kind;
 use plan::{CELL_SIZE, HEADER_SIZE};
@@ -46,7 +47,7 @@ impl<'a> Writer<'a> {
     {
         self.place(place_at(s, 0));
         self.alias(optional_place_at(s, 3));
-        self.given(optional(number(s, 2)));
+        self.given(of_number(number(s, 2)));
     }
 
     fn join(&mut self, s: &[u32])
@@ -55,7 +56,7 @@ impl<'a> Writer<'a> {
         self.number(number(s, 0));
         self.number(number(s, 1));
         self.word(&[b"inner", b"outer"], number(s, 2));
-        self.given(optional(number(s, 3)));
+        self.given(of_number(number(s, 3)));
     }
 
     fn filter(&mut self, s: &[u32])

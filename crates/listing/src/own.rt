@@ -9,9 +9,10 @@ ghost use Rattle.listing.specs.Own.{update_lines, own_lines};
 ghost use Rattle.listing.specs.Places.{reference_of};
 ghost use Rattle.plan.specs.Kinds.{statement_number};
 
-use crate::cells::{optional, optional_place_at, place_at, tail};
+use crate::cells::{optional_place_at, place_at, tail};
 use crate::put::{Writer, nth_word};
 use numbers::number;
+use numbers::options::of_number;
 use plan::finish::Kind;
 use text::places::Place;
 
@@ -146,7 +147,7 @@ impl<'a> Writer<'a> {
         ensures { LinesIn self.old self.new (λ c q. insert_lines c q n s.now) }
     {
         self.name_line(b"insert", n, s);
-        self.map(optional(number(s, 2)), tail(s, 3));
+        self.map(of_number(number(s, 2)), tail(s, 3));
     }
 
     fn update(&mut self, n: u32, s: &[u32])

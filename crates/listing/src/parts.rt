@@ -10,9 +10,10 @@ ghost use Rattle.listing.specs.Nodes.{row_fields};
 ghost use Rattle.listing.specs.Places.{alias_of};
 ghost use Rattle.listing.specs.Rows.{row_field};
 
-use crate::cells::{optional, optional_place_at};
+use crate::cells::optional_place_at;
 use crate::put::Writer;
 use numbers::number;
+use numbers::options::of_number;
 use text::places::Place;
 
 // The loops below differ in one call: a function that takes it as a closure is no plainer.
@@ -110,7 +111,7 @@ impl<'a> Writer<'a> {
         ensures { Fields self.old self.new (targets_fields s.now) }
     {
         for x in s {
-            self.column_target(optional(*x));
+            self.column_target(of_number(*x));
         }
     }
 

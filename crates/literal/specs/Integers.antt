@@ -1,5 +1,5 @@
 -- Integers in text, by their sign and their decimal.
-use Rattle.std.specs.Prelude.{◌≡◌, ℕ, suc, ◌+◌, ◌-◌, ◌%◌, ◌^◌, ◌<◌, ◌≤◌, min, [], ◌∷◌, length, take, drop, ℤ, pos, ◌≢◌, slice_index, slice_index_or, refl}
+use Rattle.std.specs.Prelude.{◌≡◌, ℕ, suc, ◌+◌, ◌-◌, ◌%◌, ◌^◌, ◌<◌, ◌≤◌, min, [], ◌∷◌, length, take, drop, ℤ, pos, ◌≢◌, slice_index, slice_index_or}
 use Rattle.std.proofs.Common.{arith, sym, ap}
 use Rattle.std.proofs.Math.Option.{Option, none, some}
 use Rattle.std.proofs.Math.Seq.{take_all}
@@ -38,26 +38,21 @@ module _ (m : ℕ) where
       rw (within, le-leb m (greatest + 1) h, signed_high n (omega arith), q) (ap negated (ap some (sym k)))
 
 -- BY THE SIGN
-pub integer_empty : (x : Bytes) → length x ≡ 0 → integer x ≡ none
-unfolding integer
-integer_empty [] h = refl
-integer_empty (x ∷ xs) h = absurd (omega arith)
-
-module _ (x : Bytes) (d : Option ℕ) (z : length x ≢ 0) where
-  pub integer-minus : slice_index_or x 0 0 ≡ 45 → d ≡ map_option (min (greatest + 2)) (decimal (take (length x - 1) (drop 1 x))) → negated (within (greatest + 1) d) ≡ integer x
+module _ (x : Bytes) (d : Option ℕ) where
+  pub integer-minus : 0 < length x → slice_index_or x 0 0 ≡ 45 → d ≡ map_option (min (greatest + 2)) (decimal (take (length x - 1) (drop 1 x))) → negated (within (greatest + 1) d) ≡ integer x
   unfolding integer
-  integer-minus e v = go x z e v
+  integer-minus z e v = go x z e v
     where
-      go : (x : Bytes) → (length x ≢ 0) → slice_index x 0 ≡ 45 → d ≡ map_option (min (greatest + 2)) (decimal (take (length x - 1) (drop 1 x))) → negated (within (greatest + 1) d) ≡ integer x
-      go [] k f w = absurd (k refl)
+      go : (x : Bytes) → 0 < length x → slice_index x 0 ≡ 45 → d ≡ map_option (min (greatest + 2)) (decimal (take (length x - 1) (drop 1 x))) → negated (within (greatest + 1) d) ≡ integer x
+      go [] k f w = absurd (omega arith)
       go (y ∷ ys) k f w =
           let t : take (suc (length ys) - 1) ys ≡ ys = take_all _ ys (omega arith) in
           rw (w, t, within-min (greatest + 1) (greatest + 2) (decimal ys) (omega arith), integer, eq-eqb y 45 f)
 
-  pub integer-plain : (slice_index x 0 ≢ 45) → d ≡ map_option (min (greatest + 2)) (decimal x) → map_option pos (within greatest d) ≡ integer x
-  unfolding integer
-  integer-plain e v = go x z e v
+  pub integer-plain : (0 < length x → slice_index x 0 ≡ 45 → ⊥) → d ≡ map_option (min (greatest + 2)) (decimal x) → map_option pos (within greatest d) ≡ integer x
+  unfolding integer decimal map_option within
+  integer-plain e v = go x e v
     where
-      go : (x : Bytes) → (length x ≢ 0) → (slice_index x 0 ≢ 45) → d ≡ map_option (min (greatest + 2)) (decimal x) → map_option pos (within greatest d) ≡ integer x
-      go [] k f w = absurd (k refl)
-      go (y ∷ ys) k f w = rw (w, within-min greatest (greatest + 2) (decimal (y ∷ ys)) (omega arith), integer, ne_eqb y 45 f)
+      go : (x : Bytes) → (0 < length x → slice_index x 0 ≡ 45 → ⊥) → d ≡ map_option (min (greatest + 2)) (decimal x) → map_option pos (within greatest d) ≡ integer x
+      go [] f w = rw w
+      go (y ∷ ys) f w = rw (w, within-min greatest (greatest + 2) (decimal (y ∷ ys)) (omega arith), integer, ne_eqb y 45 (f (omega arith)))

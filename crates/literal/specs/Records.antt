@@ -15,7 +15,7 @@ use Rattle.rules.specs.Area.{halves, flag, span, value_numbers}
 use Rattle.numbers.specs.Bits.{signed, bits-signed}
 use Rattle.numbers.specs.Values.{WordFits, ValueFits, LiteralFits}
 use Rattle.text.specs.declared.Line.{Line}
-use Rattle.text.specs.Lines.{field, Fields}
+use Rattle.text.specs.Lines.{nth_field, field, Fields}
 use Rattle.text.specs.Beside.{beside, beside-named}
 use Rattle.text.specs.Words.{find, words_of, push, keys, nth, nth-none}
 use Rattle.text.specs.Reading.{place, text_of, field_of, one-of, rest-none, rest-one, rest-other}
@@ -55,13 +55,13 @@ no-literal-as base t e = rw e (record { is = refl; fits = λ k e c q f. tt })
 
 -- BY THE KEYWORD AND THE FIELD
 module _ (base : ℕ) (t : Bytes) (w : Word) (r : Literal) where
-  pub int-some : (v : ℕ) → map_option signed (some v) ≡ Lines.integer w.bytes → v < 2 ^ 64 → (r.kind ≡ L.Int) × (r.first ≡ v % 2 ^ 32) × (r.second ≡ v / 2 ^ 32) → IsLiteral base t (literal_by 2 w) (std.Some r)
+  pub int-some : (v : ℕ) → map_option signed (some v) ≡ Lines.integer w.bytes → v < 2 ^ 64 → r ≡ record { kind = L.Int; first = v % 2 ^ 32; second = v / 2 ^ 32 } → IsLiteral base t (literal_by 2 w) (std.Some r)
   unfolding literal_by literals nth apply one_field map_option
-  int-some v e l g = let b = bits-signed v l in rw (← e) (record { is = unfold value_numbers halves kind_number in rw (b, g.0, g.1, g.2); fits = λ k e c q f. unfold LiteralFits ValueFits in ap signed b })
+  int-some v e l g = let b = bits-signed v l in rw (← e) (record { is = unfold value_numbers halves kind_number in rw (g, b); fits = λ k e c q f. unfold LiteralFits ValueFits in ap signed b })
 
-  pub float-some : (v : ℕ) → some v ≡ Lines.float w.bytes → (r.kind ≡ L.Float) × (r.first ≡ v % 2 ^ 32) × (r.second ≡ v / 2 ^ 32) → IsLiteral base t (literal_by 3 w) (std.Some r)
+  pub float-some : (v : ℕ) → some v ≡ Lines.float w.bytes → r ≡ record { kind = L.Float; first = v % 2 ^ 32; second = v / 2 ^ 32 } → IsLiteral base t (literal_by 3 w) (std.Some r)
   unfolding literal_by literals nth apply one_field map_option
-  float-some v e g = rw (← e) (record { is = unfold value_numbers halves kind_number in rw (g.0, g.1, g.2); fits = λ k e c q f. unfold LiteralFits ValueFits in tt })
+  float-some v e g = rw (← e) (record { is = unfold value_numbers halves kind_number in rw g; fits = λ k e c q f. unfold LiteralFits ValueFits in tt })
 
 module _ (w : Word) where
   pub int-none : map_option {A = ℕ} signed none ≡ Lines.integer w.bytes → literal_by 2 w ≡ none
@@ -121,7 +121,7 @@ literal-words = refl
 
 -- r is the line at p
 module _ (x : Text) (t : Bytes) (p l c n : ℕ) (r : Line) (f : Fields t p r) where
-  module _ (k : ℕ) (words : Bytes) (e : keys literals ≡ words_of words) (h : k ≡ find (words_of words) (take (slice_index r.lens 0) (drop (slice_index r.starts 0) t))) where
+  module _ (k : ℕ) (words : Bytes) (e : keys literals ≡ words_of words) (h : k ≡ find (words_of words) (take (nth_field r.fields 0).length (drop (nth_field r.fields 0).start t))) where
     literal-is : one_of literals (line_here (place x t p l c n)) ≡ apply (nth literals k) (rest (place x t p l c n))
     literal-is = one-of x t p l c n r f literals words k e h
 
@@ -133,7 +133,7 @@ module _ (x : Text) (t : Bytes) (p l c n : ℕ) (r : Line) (f : Fields t p r) wh
     unfolding literals nth apply map_option
     literal-null-not z m = literal-is ∙ rw (z, no-field _ (rest-other x t p l c n r f 0 (omega arith) m))
 
-    pub literal-field : r.count ≡ 2 → one_of literals (line_here (place x t p l c n)) ≡ literal_by k (field (base_address x) t (slice_index r.starts 1) (slice_index r.lens 1))
+    pub literal-field : r.count ≡ 2 → one_of literals (line_here (place x t p l c n)) ≡ literal_by k (field (base_address x) t (nth_field r.fields 1).start (nth_field r.fields 1).length)
     unfolding literal_by field_of
     literal-field m = literal-is ∙ ap (apply (nth literals k)) (rest-one x t p l c n r f m)
 

@@ -41,13 +41,10 @@ fn negative(m: u64) -> Option<u64>
 pub fn int(x: &[u8]) -> Option<u64>
     ensures { map_option signed (option_of result) ≡ lines.integer x.now }
 {
-    if x.is_empty() {
-        return None;
+    match x {
+        [b'-', rest @ ..] => negative(text::decimal(rest, GREATEST + 2)?),
+        _ => positive(text::decimal(x, GREATEST + 2)?),
     }
-    if x[0] == b'-' {
-        return negative(text::decimal(&x[1..], GREATEST + 2)?);
-    }
-    positive(text::decimal(x, GREATEST + 2)?)
 }
 
 // A hexadecimal digit's value.

@@ -23,10 +23,7 @@ pub fn in_plan(texts: &Texts, literal: Literal) -> Literal
         },
         LiteralKind::Int | LiteralKind::Float => literal,
         LiteralKind::Text => Literal {
-            second: texts.length_at(Place {
-                address: literal.first,
-                length: literal.second,
-            }),
+            second: texts.length_at(Place::of_literal(literal)),
             ..literal
         },
     }

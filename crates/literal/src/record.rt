@@ -1,5 +1,5 @@
 // The record of a literal, in the catalog or the statement.
-ghost use Rattle.std.specs.Prelude.{◌≡◌, ℕ, ◌/◌, ◌%◌, ◌^◌, ◌≤◌, length};
+ghost use Rattle.std.specs.Prelude.{◌≡◌, ℕ, ◌≤◌, length};
 ghost use Rattle.rules.specs.Limits.{most_bytes};
 ghost use Rattle.rules.specs.Refusals.{Text};
 ghost use Rattle.rules.specs.Lists.{Bytes, map_option, named};
@@ -9,20 +9,8 @@ ghost use Rattle.text.specs.Lines.{Fields};
 ghost use Rattle.text.specs.Reading.{place};
 ghost use Rattle.literal.specs.Records.{IsLiteral};
 
-use numbers::halves::{high, low};
 use numbers::literals::{Literal, LiteralKind};
 use text::{Line, words};
-
-// 64 bits in two halves, the low one first.
-fn halves(kind: LiteralKind, bits: u64) -> Literal
-    ensures { (result.kind ≡ kind) × (result.first ≡ bits % 2 ^ 32) × (result.second ≡ bits / 2 ^ 32) }
-{
-    Literal {
-        kind,
-        first: low(bits),
-        second: high(bits),
-    }
-}
 
 // A boolean by its field.
 fn flag(word: &[u8]) -> Option<Literal>
@@ -61,12 +49,12 @@ pub fn literal_at(t: &[u8], base: u32, p: usize, f: Line) -> Option<Literal>
     let value = f.field(t, 1);
     match word {
         words::BOOL => flag(value),
-        words::INT => Some(halves(LiteralKind::Int, crate::int(value)?)),
-        words::FLOAT => Some(halves(LiteralKind::Float, crate::float(value)?)),
+        words::INT => Some(Literal::of_bits(LiteralKind::Int, crate::int(value)?)),
+        words::FLOAT => Some(Literal::of_bits(LiteralKind::Float, crate::float(value)?)),
         words::TEXT => Some(Literal {
             kind: LiteralKind::Text,
-            first: base + f.starts[1] as u32,
-            second: f.lens[1] as u32,
+            first: base + f.fields[1].start as u32,
+            second: f.fields[1].length as u32,
         }),
         _ => None,
     }

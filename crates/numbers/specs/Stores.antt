@@ -1,9 +1,11 @@
 -- Stores in a row: what stands where, and runs one behind the other.
-use Rattle.std.specs.Prelude.{ℕ, zero, suc, ◌+◌, ◌≤◌, ◌<◌, ◌≡◌, refl, List, [], ◌∷◌, ◌++◌, length, get_or, set}
-use Rattle.std.proofs.Common.{arith, add-zero, ap, ◌∙◌, length-set, length-append, get_or-set_same, get_or-append-add}
+use Rattle.std.specs.Prelude.{ℕ, zero, suc, ◌+◌, ◌≤◌, ◌<◌, ◌≡◌, refl, List, [], ◌∷◌, ◌++◌, length, get_or, set, take, drop}
+use Rattle.std.proofs.Common.{arith, add-zero, ap, sym, ◌∙◌, length-set, length-append, get_or-set_same, get_or-append-add}
 use Rattle.std.proofs.Math.ListN.{get_or-append}
-use Rattle.std.proofs.lemmas.List.Edits.{sets}
-use Rattle.std.proofs.lemmas.List.{set_comm}
+use Rattle.std.proofs.lemmas.List.Edits.{sets, sets-eq, paste_all}
+use Rattle.std.proofs.lemmas.List.{set_comm, append_assoc}
+use Rattle.std.proofs.lemmas.Slice.{put_mid-paste}
+use borrow.Rule.Slice.PartMut.{put_mid}
 use Rattle.numbers.specs.Kept.{Kept, kept-sets-behind}
 
 -- WHAT STANDS
@@ -55,3 +57,13 @@ sets-in-front (x ∷ xs) ys s i =
     ap (λ m. sets m (suc i) xs) (set-sets ys s i (i + length (x ∷ xs)) x (omega arith))
     ∙ ap (λ n. sets (sets (set s i x) n ys) (suc i) xs) (omega arith)
     ∙ sets-in-front xs ys (set s i x) (suc i)
+
+-- A PART
+-- n numbers copied over those from i on are n stores
+pub part-stored : (i k : ℕ) (s ys xs : List ℕ) (n : ℕ) → ys ≡ xs → length xs ≡ n → k ≡ n → i + n ≤ length s
+    → put_mid i k s ys ≡ sets s i xs
+part-stored i k s ys xs n e m h l =
+    put_mid-paste i k s ys xs n e (sym h) (sym m)
+    ∙ paste_all s i xs n (sym m)
+    ∙ sym (append_assoc (take i s) xs (drop (i + n) s))
+    ∙ sym (rw m at (sets-eq xs s i (omega (arith, m, l))))

@@ -1,4 +1,4 @@
-// Numbers of 32 bits in a lent slice, and the first elements of any slice.
+// The numbers of document 01 (operators, literals, datatypes, aggregates, refusals) as enums, and numbers of 32 bits in a lent slice.
 #![tactic(auto)]
 
 pub mod aggregates; // aggregates.rt: the aggregate functions
@@ -11,6 +11,10 @@ pub mod refusals; // refusals.rt: why a statement is refused, and where
 
 ghost use Rattle.std.specs.Prelude.{◌≡◌, [], ◌∷◌, ◌+◌, ◌≤◌, length, get_or, take};
 ghost use Rattle.std.proofs.lemmas.List.Edits.{sets};
+
+// A number that no variant has.
+#[derive(Clone, Copy, Debug, PartialEq, Eq)]
+pub struct UnknownNumber;
 
 // The number at i, and 0 past the end.
 pub fn number(s: &[u32], i: usize) -> u32
@@ -26,13 +30,10 @@ pub fn first<T>(s: &[T], n: usize) -> &[T]
     &s[..n.min(s.len())]
 }
 
-// Four numbers from i on.
-pub fn put_four(s: &mut [u32], i: usize, a: u32, b: u32, c: u32, d: u32)
-    requires { i + 4 ≤ length s.old }
-    ensures { s.new ≡ sets s.old i (a ∷ b ∷ c ∷ d ∷ []) }
+// The numbers, from i on.
+pub fn put<const N: usize>(s: &mut [u32], i: usize, numbers: [u32; N])
+    requires { i + N ≤ length s.old }
+    ensures { s.new ≡ sets s.old i numbers.entry }
 {
-    s[i] = a;
-    s[i + 1] = b;
-    s[i + 2] = c;
-    s[i + 3] = d;
+    s[i..i + N].copy_from_slice(&numbers);
 }

@@ -1,13 +1,14 @@
 // Literals: a kind and two numbers (specs/Literals.antt).
-ghost use Rattle.std.specs.Prelude.{◌≡◌, ◌+◌, ◌≤◌, length};
+ghost use Rattle.std.specs.Prelude.{◌≡◌, ◌+◌, ◌/◌, ◌%◌, ◌^◌, ◌≤◌, length};
 ghost use Rattle.std.proofs.lemmas.List.Edits.{sets};
 ghost use Rattle.rules.specs.Lists.{Bytes};
 ghost use Rattle.rules.specs.Schema.{float};
 ghost use Rattle.rules.specs.BuildExpression.{is_null_or_nan};
-ghost use Rattle.numbers.specs.Literals.{kind_number, kind_at, literal_value, given_numbers};
+ghost use Rattle.numbers.specs.Bits as bits;
+ghost use Rattle.numbers.specs.Literals.{kind_number, kind_at, literal_value, numbered, given_numbers};
 
-use super::halves::joined;
-use super::put_four;
+use super::halves::{high, joined, low};
+use super::put;
 
 // The kinds of literals, with their numbers in the statement's table, which are those of their cells (docs/PLAN.md).
 #[derive(Clone, Copy, Debug, PartialEq, Eq)]
@@ -53,13 +54,42 @@ pub struct Literal {
 }
 
 impl Literal {
+    // The literal of three numbers.
+    pub fn of_numbers(kind: u32, first: u32, second: u32) -> Literal
+        ensures { result ≡ numbered kind first second }
+    {
+        Literal {
+            kind: LiteralKind::of_number(kind),
+            first,
+            second,
+        }
+    }
+
+    // The literal of 64 bits, the low half first.
+    pub fn of_bits(kind: LiteralKind, bits: u64) -> Literal
+        ensures { result ≡ record { kind = kind; first = bits % 2 ^ 32; second = bits / 2 ^ 32 } }
+    {
+        Literal {
+            kind,
+            first: low(bits),
+            second: high(bits),
+        }
+    }
+
+    // Its 64 bits, if it is an integer or a float.
+    pub fn bits(self) -> u64
+        ensures { result ≡ bits.joined self.first self.second }
+    {
+        joined(self.first, self.second)
+    }
+
     #[tactic(auto, unfolding(crate::specs::Literals::literal_of, rules::specs::BuildExpression::is_null_or_nan))]
     pub fn is_null_or_nan(self) -> bool
         ensures { (c q : Bytes) → result ≡ is_null_or_nan (literal_value c q self) }
     {
         match self.kind {
             LiteralKind::Null => true,
-            LiteralKind::Float => is_nan(joined(self.first, self.second)),
+            LiteralKind::Float => is_nan(self.bits()),
             LiteralKind::Bool | LiteralKind::Int | LiteralKind::Text => false,
         }
     }
@@ -72,8 +102,8 @@ pub fn put_given(s: &mut [u32], i: usize, literal: Option<Literal>)
     ensures { s.new ≡ sets s.old i (given_numbers literal) }
 {
     match literal {
-        None => put_four(s, i, 0, 0, 0, 0),
-        Some(x) => put_four(s, i, u32::from(x.kind), x.first, x.second, 0),
+        None => put(s, i, [0, 0, 0, 0]),
+        Some(x) => put(s, i, [u32::from(x.kind), x.first, x.second, 0]),
     }
 }
 

@@ -4,6 +4,8 @@ ghost use Rattle.rules.specs.Codes.{unary_code, binary_code};
 ghost use Rattle.numbers.specs.Codes.{Apart};
 ghost use Rattle.numbers.specs.Operators.{unary_operator, binary_operator};
 
+use crate::UnknownNumber;
+
 #[derive(Clone, Copy, Debug, PartialEq, Eq)]
 pub enum Unary {
     Not = 8,
@@ -33,10 +35,6 @@ pub enum Binary {
     NotEqual,
 }
 
-// A code that no operator of the kind has.
-#[derive(Clone, Copy, Debug, PartialEq, Eq)]
-pub struct UnknownCode;
-
 impl From<Unary> for u32 {
     ghost from_gives = { λ operator code. code ≡ unary_code (unary_operator operator) };
 
@@ -47,18 +45,18 @@ impl From<Unary> for u32 {
 
 #[tactic(auto, unfolding(crate::specs::Operators::unary_operator, rules::specs::Codes::unary_code))]
 impl TryFrom<u32> for Unary {
-    type Error = UnknownCode;
+    type Error = UnknownNumber;
 
     ghost try_from_gives = { λ code r. MatchResult r (λ operator. unary_code (unary_operator operator) ≡ code) (λ _. Apart code 8 5) };
 
-    fn try_from(code: u32) -> Result<Unary, UnknownCode> {
+    fn try_from(code: u32) -> Result<Unary, UnknownNumber> {
         match code {
             8 => Ok(Unary::Not),
             9 => Ok(Unary::Factorial),
             10 => Ok(Unary::Identity),
             11 => Ok(Unary::Negate),
             12 => Ok(Unary::SquareRoot),
-            _ => Err(UnknownCode),
+            _ => Err(UnknownNumber),
         }
     }
 }
@@ -73,11 +71,11 @@ impl From<Binary> for u32 {
 
 #[tactic(auto, unfolding(crate::specs::Operators::binary_operator, rules::specs::Codes::binary_code, rules::specs::Codes::plain_code))]
 impl TryFrom<u32> for Binary {
-    type Error = UnknownCode;
+    type Error = UnknownNumber;
 
     ghost try_from_gives = { λ code r. MatchResult r (λ operator. binary_code (binary_operator operator) ≡ code) (λ _. Apart code 16 15) };
 
-    fn try_from(code: u32) -> Result<Binary, UnknownCode> {
+    fn try_from(code: u32) -> Result<Binary, UnknownNumber> {
         match code {
             16 => Ok(Binary::And),
             17 => Ok(Binary::Or),
@@ -94,7 +92,7 @@ impl TryFrom<u32> for Binary {
             28 => Ok(Binary::GreaterThanOrEqual),
             29 => Ok(Binary::LessThanOrEqual),
             30 => Ok(Binary::NotEqual),
-            _ => Err(UnknownCode),
+            _ => Err(UnknownNumber),
         }
     }
 }

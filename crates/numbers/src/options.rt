@@ -14,3 +14,11 @@ pub fn number_of(x: Option<u32>) -> u32
         None => 0,
     }
 }
+
+// The number that stands as one more than it is; none where 0 stands for it.
+#[tactic(auto, unfolding(rules::specs::Area::option_number))]
+pub fn of_number(x: u32) -> Option<u32>
+    ensures { option_number (option_of result) ≡ x }
+{
+    x.checked_sub(1)
+}

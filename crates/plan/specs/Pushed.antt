@@ -7,6 +7,10 @@ use Rattle.std.proofs.Math.Seq.{length-sets}
 use Rattle.plan.specs.Appended.{Appended, appended-none, appended-on, appended-as, appended-sets, appended-count}
 use Rattle.plan.specs.declared.nodes.Nodes.{Nodes}
 
+-- n numbers more have room
+abbrev pub NodeRoom : ℕ → Nodes → Type 0
+NodeRoom n s = s.used + n ≤ length s.numbers.now
+
 -- the lent slice stays the same one, as long as it was
 pub record Kept (s t : Nodes) : Type 0 where
   pub same : t.numbers.ghost_name ≡ s.numbers.ghost_name

@@ -1,5 +1,5 @@
 // Cells appended to the plan in the lent area, the first of them the n-th. Operands are given by their cells. (The next cell stays
-// beside the area: by it a step names the cells that it makes, and it is what building an expression gives.)
+// beside the area: `let m = build(.., n)?` names an operand, which with a count in the area would be `build(..)?; let m = cells.used`.)
 ghost use Rattle.std.specs.Prelude.{◌≡◌, [], ◌∷◌, ◌+◌};
 ghost use Rattle.rules.specs.Lists.{Bytes};
 ghost use Rattle.rules.specs.Ast as ast;
@@ -15,7 +15,7 @@ use super::{CELL_SIZE, HEADER_SIZE};
 use literal::planned::in_plan;
 use numbers::literals::{Literal, LiteralKind};
 use numbers::operators::{Binary, Unary};
-use numbers::put_four;
+use numbers::put;
 use text::places::Texts;
 
 // The kinds of cells that are neither a literal's nor an operator's: docs/PLAN.md.
@@ -31,7 +31,7 @@ fn put_cell(area: &mut [u32], n: u32, kind: u32, a: u32, b: u32, c: u32)
     ensures { (x : rules.Cell) → cell_numbers x ≡ kind ∷ a ∷ b ∷ c ∷ []
         → Puts n (x ∷ []) area.old area.new }
 {
-    put_four(area, HEADER_SIZE + CELL_SIZE * n as usize, kind, a, b, c);
+    put(area, HEADER_SIZE + CELL_SIZE * n as usize, [kind, a, b, c]);
 }
 
 // The column i.

@@ -8,10 +8,10 @@ ghost use Rattle.plan.specs.Kinds.{statement_number};
 ghost use Rattle.plan.specs.declared.finish.Kind.{Kind};
 ghost use Rattle.plan.specs.Finished.{cleared, finished};
 
-use crate::nodes::{Nodes, UnknownKind};
+use crate::nodes::Nodes;
 use crate::steps::Step;
 use crate::{CELL_SIZE, HEADER_SIZE};
-use numbers::put_four;
+use numbers::{UnknownNumber, put};
 
 // The kinds of statement, by their numbers in the plan. (Their conversions stand beside those of `nodes::Kind`: each names its own
 // kinds, and std derives none.)
@@ -34,11 +34,11 @@ impl From<Kind> for u32 {
 }
 
 impl TryFrom<u32> for Kind {
-    type Error = UnknownKind;
+    type Error = UnknownNumber;
 
     ghost try_from_gives = { λ number r. MatchResult r (λ kind. number ≡ statement_number kind) (λ _. (kind : Kind) → number ≡ statement_number kind → ⊥) };
 
-    fn try_from(number: u32) -> Result<Kind, UnknownKind> {
+    fn try_from(number: u32) -> Result<Kind, UnknownNumber> {
         match number {
             1 => Ok(Kind::Select),
             2 => Ok(Kind::Create),
@@ -46,7 +46,7 @@ impl TryFrom<u32> for Kind {
             4 => Ok(Kind::Delete),
             5 => Ok(Kind::Insert),
             6 => Ok(Kind::Update),
-            _ => Err(UnknownKind),
+            _ => Err(UnknownNumber),
         }
     }
 }
@@ -54,19 +54,12 @@ impl TryFrom<u32> for Kind {
 // The number of this layout.
 pub const LAYOUT: u32 = 1;
 
-// Where in the header the place of the own numbers stands, and how many numbers there are in all.
-const OWN_PLACE: usize = 4;
-
-const ALL_PLACE: usize = 5;
-
 // The statement's kind, how many cells and nodes there are, where the own numbers start, and where all end.
 fn put_header(area: &mut [u32], kind: Kind, cells: u32, nodes: u32, own: u32, all: u32)
     requires { header_size ≤ length area.old }
     ensures { area.new ≡ sets area.old 0 (layout ∷ statement_number kind ∷ cells ∷ nodes ∷ own ∷ all ∷ []) }
 {
-    put_four(area, 0, LAYOUT, u32::from(kind), cells, nodes);
-    area[OWN_PLACE] = own;
-    area[ALL_PLACE] = all;
+    put(area, 0, [LAYOUT, u32::from(kind), cells, nodes, own, all]);
 }
 
 // The numbers of the nodes that are in use, from place i on.

@@ -2,7 +2,7 @@
 // those. A number that may be missing stands as one more than it, or 0.
 #![tactic(auto, using(numbers::specs::Flags::byte_flag), unfolding(rules::specs::Area::record_numbers, rules::specs::Area::sized, rules::specs::Area::row_numbers, rules::specs::Area::halves, crate::specs::Records::rows_numbers))]
 
-ghost use Rattle.std.specs.Prelude.{◌≡◌, [], ◌∷◌, ◌+◌, ◌≤◌, ◌<◌, ◌^◌, length, MatchResult};
+ghost use Rattle.std.specs.Prelude.{◌≡◌, [], ◌∷◌, ◌<◌, ◌^◌, MatchResult};
 ghost use Rattle.std.proofs.Math.Option.{Option};
 ghost use Rattle.rules.specs.Lines.{Word};
 ghost use Rattle.rules.specs.Schema.{Table};
@@ -10,7 +10,7 @@ ghost use Rattle.rules.specs.Nodes.{scan, values, join, filter};
 ghost use Rattle.rules.specs.Area.{span, option_span, option_number, record_numbers};
 ghost use Rattle.numbers.specs.Options.{option_of};
 ghost use Rattle.plan.specs.Layout.{record_head, scan_size, empty_row_size, join_size, filter_size, rows_size};
-ghost use Rattle.plan.specs.Pushed.{Pushed};
+ghost use Rattle.plan.specs.Pushed.{NodeRoom, Pushed};
 ghost use Rattle.plan.specs.Kinds.{node_number};
 ghost use Rattle.plan.specs.declared.nodes.Kind.{Kind};
 ghost use Rattle.plan.specs.Places.{place_numbers};
@@ -19,7 +19,7 @@ ghost use Rattle.plan.specs.Records.{rows_numbers};
 
 use numbers::halves::{high, low};
 use numbers::options::number_of;
-use numbers::put_four;
+use numbers::{UnknownNumber, put};
 use text::places::Place;
 
 // A lent slice, and how many of its numbers are in use: those of the nodes, and behind them the statement's own.
@@ -33,38 +33,28 @@ pub struct Nodes<'n> {
 
 impl<'n> Nodes<'n> {
     pub fn push(&mut self, x: u32)
-        requires { self.old.used + 1 ≤ length self.old.numbers.now }
+        requires { NodeRoom 1 self.old }
         ensures { Pushed (x ∷ []) self.old self.new }
     {
         self.numbers[self.used] = x;
         self.used += 1;
     }
 
-    pub fn pair(&mut self, x: u32, y: u32)
-        requires { self.old.used + 2 ≤ length self.old.numbers.now }
-        ensures { Pushed (x ∷ y ∷ []) self.old self.new }
+    pub fn extend<const N: usize>(&mut self, numbers: [u32; N])
+        requires { NodeRoom N self.old }
+        ensures { Pushed numbers.entry self.old self.new }
     {
-        self.push(x);
-        self.push(y);
-    }
-
-    pub fn four(&mut self, a: u32, b: u32, c: u32, d: u32)
-        requires { self.old.used + 4 ≤ length self.old.numbers.now }
-        ensures { Pushed (a ∷ b ∷ c ∷ d ∷ []) self.old self.new }
-    {
-        put_four(self.numbers, self.used, a, b, c, d);
-        self.used += 4;
+        put(self.numbers, self.used, numbers);
+        self.used += N;
     }
 
     // The address and the length of a place, or two zeros for none.
     pub fn place(&mut self, place: Option<Place>)
-        requires { self.old.used + 2 ≤ length self.old.numbers.now }
+        requires { NodeRoom 2 self.old }
         ensures { Pushed (option_numbers place) self.old self.new }
     {
-        match place {
-            Some(place) => self.pair(place.address, place.length),
-            None => self.pair(0, 0),
-        }
+        let (address, length) = Place::numbers(place);
+        self.extend([address, length]);
     }
 }
 
@@ -83,10 +73,6 @@ pub enum Kind {
     Remap,
 }
 
-// A number that no kind has.
-#[derive(Clone, Copy, Debug, PartialEq, Eq)]
-pub struct UnknownKind;
-
 impl From<Kind> for u32 {
     ghost from_gives = { λ kind number. number ≡ node_number kind };
 
@@ -96,11 +82,11 @@ impl From<Kind> for u32 {
 }
 
 impl TryFrom<u32> for Kind {
-    type Error = UnknownKind;
+    type Error = UnknownNumber;
 
     ghost try_from_gives = { λ number r. MatchResult r (λ kind. number ≡ node_number kind) (λ _. (kind : Kind) → number ≡ node_number kind → ⊥) };
 
-    fn try_from(number: u32) -> Result<Kind, UnknownKind> {
+    fn try_from(number: u32) -> Result<Kind, UnknownNumber> {
         match number {
             1 => Ok(Kind::Scan),
             2 => Ok(Kind::Values),
@@ -112,7 +98,7 @@ impl TryFrom<u32> for Kind {
             8 => Ok(Kind::Offset),
             9 => Ok(Kind::Limit),
             10 => Ok(Kind::Remap),
-            _ => Err(UnknownKind),
+            _ => Err(UnknownNumber),
         }
     }
 }
@@ -130,15 +116,15 @@ const ROWS_LENGTH: u32 = 3;
 
 // The head of a record: its kind, and how many numbers follow.
 pub fn head(nodes: &mut Nodes, kind: Kind, count: u32)
-    requires { nodes.old.used + record_head ≤ length nodes.old.numbers.now }
+    requires { NodeRoom record_head nodes.old }
     ensures { Pushed (node_number kind ∷ count ∷ []) nodes.old nodes.new }
 {
-    nodes.pair(u32::from(kind), count);
+    nodes.extend([u32::from(kind), count]);
 }
 
 // The rows of a table by its name; its alias; its filter's root.
 pub fn scan(nodes: &mut Nodes, name: Place, alias: Option<Place>, filter: Option<u32>)
-    requires room { nodes.old.used + scan_size ≤ length nodes.old.numbers.now }
+    requires room { NodeRoom scan_size nodes.old }
     requires root { option_number (option_of filter) < 2 ^ 32 }
     ensures { (t : Table) (w : Option Word) → span t.name ≡ place_numbers name → option_span w ≡ option_numbers alias
         → Pushed (record_numbers (scan t w (option_of filter))) nodes.old nodes.new }
@@ -151,7 +137,7 @@ pub fn scan(nodes: &mut Nodes, name: Place, alias: Option<Place>, filter: Option
 
 // One row of no columns: the source of a SELECT that has no FROM.
 pub fn empty_row(nodes: &mut Nodes)
-    requires { nodes.old.used + empty_row_size ≤ length nodes.old.numbers.now }
+    requires { NodeRoom empty_row_size nodes.old }
     ensures { Pushed (record_numbers (values ([] ∷ []))) nodes.old nodes.new }
 {
     head(nodes, Kind::Values, EMPTY_ROW_LENGTH);
@@ -160,29 +146,28 @@ pub fn empty_row(nodes: &mut Nodes)
 
 // A join of two nodes, with its predicate's root.
 pub fn join(nodes: &mut Nodes, left: u32, right: u32, outer: bool, predicate: Option<u32>)
-    requires room { nodes.old.used + join_size ≤ length nodes.old.numbers.now }
+    requires room { NodeRoom join_size nodes.old }
     requires root { option_number (option_of predicate) < 2 ^ 32 }
     ensures { Pushed (record_numbers (join left right (option_of predicate) outer)) nodes.old nodes.new }
 {
     head(nodes, Kind::Join, JOIN_LENGTH);
-    nodes.four(left, right, u32::from(outer), number_of(predicate));
+    nodes.extend([left, right, u32::from(outer), number_of(predicate)]);
 }
 
 // The rows of a source for which a condition holds.
 pub fn filter(nodes: &mut Nodes, source: u32, root: u32)
-    requires { nodes.old.used + filter_size ≤ length nodes.old.numbers.now }
+    requires { NodeRoom filter_size nodes.old }
     ensures { Pushed (record_numbers (filter source root)) nodes.old nodes.new }
 {
     head(nodes, Kind::Filter, FILTER_LENGTH);
-    nodes.pair(source, root);
+    nodes.extend([source, root]);
 }
 
 // All rows of a source but the first n, or the first n alone, by the kind; the low half of n first.
 pub fn rows(nodes: &mut Nodes, kind: Kind, source: u32, n: u64)
-    requires { nodes.old.used + rows_size ≤ length nodes.old.numbers.now }
+    requires { NodeRoom rows_size nodes.old }
     ensures { Pushed (rows_numbers (node_number kind) source n) nodes.old nodes.new }
 {
     head(nodes, kind, ROWS_LENGTH);
-    nodes.push(source);
-    nodes.pair(low(n), high(n));
+    nodes.extend([source, low(n), high(n)]);
 }

@@ -2,7 +2,7 @@
 // statements would be no plainer, as each says whose numbers it appends.
 #![tactic(auto, using(numbers::specs::Flags::byte_flag), unfolding(rules::specs::Area::own_numbers, rules::specs::Area::mapping_numbers, rules::specs::Area::set_numbers, crate::specs::Own::inserting, crate::specs::Own::updating, crate::specs::Own::creating, rules::specs::Lists::concat))]
 
-ghost use Rattle.std.specs.Prelude.{◌≡◌, [], ◌∷◌, ℕ, ◌+◌, ◌≤◌, ◌<◌, ◌^◌, length};
+ghost use Rattle.std.specs.Prelude.{◌≡◌, [], ◌∷◌, ℕ, ◌<◌, ◌^◌};
 ghost use Rattle.std.proofs.Math.Option.{Option};
 ghost use Rattle.rules.specs.Lines.{Word};
 ghost use Rattle.rules.specs.Schema.{Value, Table};
@@ -13,7 +13,7 @@ ghost use Rattle.numbers.specs.Options.{option_of};
 ghost use Rattle.numbers.specs.Datatypes.{type_of};
 ghost use Rattle.numbers.specs.Literals.{given_numbers};
 ghost use Rattle.plan.specs.Layout.{cell_size, own_size, own_head, set_size, mapping_size, column_size};
-ghost use Rattle.plan.specs.Pushed.{Pushed};
+ghost use Rattle.plan.specs.Pushed.{NodeRoom, Pushed};
 ghost use Rattle.plan.specs.Places.{place_numbers};
 ghost use Rattle.text.specs.Places.{option_numbers};
 ghost use Rattle.plan.specs.Own.{inserting, updating, creating, column_numbers};
@@ -27,15 +27,14 @@ use text::places::Place;
 
 // A name and a number.
 fn named(nodes: &mut Nodes, name: Place, x: u32)
-    requires { nodes.old.used + own_size ≤ length nodes.old.numbers.now }
+    requires { NodeRoom own_size nodes.old }
     ensures { Pushed (name.address ∷ name.length ∷ x ∷ []) nodes.old nodes.new }
 {
-    nodes.place(Some(name));
-    nodes.push(x);
+    nodes.extend([name.address, name.length, x]);
 }
 
 pub fn drop(nodes: &mut Nodes, name: Place, exists: bool)
-    requires { nodes.old.used + own_size ≤ length nodes.old.numbers.now }
+    requires { NodeRoom own_size nodes.old }
     ensures { (w : Word) → span w ≡ place_numbers name → Pushed (own_numbers
         (plan.drop w exists)) nodes.old nodes.new }
 {
@@ -43,7 +42,7 @@ pub fn drop(nodes: &mut Nodes, name: Place, exists: bool)
 }
 
 pub fn delete(nodes: &mut Nodes, name: Place, key: u32)
-    requires { nodes.old.used + own_size ≤ length nodes.old.numbers.now }
+    requires { NodeRoom own_size nodes.old }
     ensures { (t : Table) (p : Node ℕ) → span t.name ≡ place_numbers name → t.key ≡ key
         → Pushed (own_numbers (delete t p)) nodes.old nodes.new }
 {
@@ -52,7 +51,7 @@ pub fn delete(nodes: &mut Nodes, name: Place, key: u32)
 
 // INSERT: 0 for no column map, or one more than its length; then the map.
 pub fn insert(nodes: &mut Nodes, name: Place, columns: Option<u32>)
-    requires room { nodes.old.used + own_size ≤ length nodes.old.numbers.now }
+    requires room { NodeRoom own_size nodes.old }
     requires columns { option_number (option_of columns) < 2 ^ 32 }
     ensures { (t : Table) → span t.name ≡ place_numbers name → Pushed
         (inserting t (option_number (option_of columns)) []) nodes.old nodes.new }
@@ -61,35 +60,35 @@ pub fn insert(nodes: &mut Nodes, name: Place, columns: Option<u32>)
 }
 
 pub fn mapping(nodes: &mut Nodes, column: u32, value: u32)
-    requires { nodes.old.used + mapping_size ≤ length nodes.old.numbers.now }
+    requires { NodeRoom mapping_size nodes.old }
     ensures { Pushed (mapping_numbers (record { column = cindex column; value = vindex value })) nodes.old
         nodes.new }
 {
-    nodes.pair(column, value);
+    nodes.extend([column, value]);
 }
 
 // UPDATE: the table, and how many sets there are; then each set's column and root.
 pub fn update(nodes: &mut Nodes, name: Place, key: u32, sets: u32)
-    requires { nodes.old.used + own_head ≤ length nodes.old.numbers.now }
+    requires { NodeRoom own_head nodes.old }
     ensures { (t : Table) → span t.name ≡ place_numbers name → t.key ≡ key
         → Pushed (updating t sets []) nodes.old nodes.new }
 {
-    nodes.four(name.address, name.length, key, sets);
+    nodes.extend([name.address, name.length, key, sets]);
 }
 
 pub fn set(nodes: &mut Nodes, column: u32, root: u32)
-    requires { nodes.old.used + set_size ≤ length nodes.old.numbers.now }
+    requires { NodeRoom set_size nodes.old }
     ensures { Pushed (set_numbers ((column, root) ∷ [])) nodes.old nodes.new }
 {
-    nodes.pair(column, root);
+    nodes.extend([column, root]);
 }
 
 // CREATE: the table, and how many columns it has; then each column and its default.
 pub fn create(nodes: &mut Nodes, name: Place, key: u32, columns: u32)
-    requires { nodes.old.used + own_head ≤ length nodes.old.numbers.now }
+    requires { NodeRoom own_head nodes.old }
     ensures { (w : Word) → span w ≡ place_numbers name → Pushed (creating w key columns []) nodes.old nodes.new }
 {
-    nodes.four(name.address, name.length, key, columns);
+    nodes.extend([name.address, name.length, key, columns]);
 }
 
 // A column by its name, its type, and the name of the table that it refers to.
@@ -102,24 +101,25 @@ pub fn column(
     index: bool,
     reference: Option<Place>,
 )
-    requires { nodes.old.used + column_size ≤ length nodes.old.numbers.now }
+    requires { NodeRoom column_size nodes.old }
     ensures { (c : Made) → span c.name ≡ place_numbers name → c.type ≡ type_of datatype → c.nullable ≡ nullable
         → c.unique ≡ unique → c.index ≡ index → option_span c.reference ≡ option_numbers reference
         → Pushed (column_numbers c) nodes.old nodes.new }
 {
-    nodes.four(
+    nodes.extend([
         name.address,
         name.length,
         u32::from(datatype),
         u32::from(nullable),
-    );
-    nodes.pair(u32::from(unique), u32::from(index));
+        u32::from(unique),
+        u32::from(index),
+    ]);
     nodes.place(reference);
 }
 
 // A column's default: its numbers, all 0 for none.
 pub fn default_value(nodes: &mut Nodes, default: Option<Literal>)
-    requires { nodes.old.used + cell_size ≤ length nodes.old.numbers.now }
+    requires { NodeRoom cell_size nodes.old }
     ensures { (d : Option Value) → default_numbers d ≡ given_numbers default
         → Pushed (default_numbers d) nodes.old nodes.new }
 {

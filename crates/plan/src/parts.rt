@@ -2,14 +2,14 @@
 // storing it. Rows of values, groups and remap targets are pushed as they are.
 #![tactic(auto, using(numbers::specs::Flags::byte_flag), unfolding(rules::specs::Area::function_numbers, rules::specs::Area::item_numbers, rules::specs::Area::key_numbers))]
 
-ghost use Rattle.std.specs.Prelude.{◌≡◌, [], ◌∷◌, ◌+◌, ◌-◌, ◌≤◌, length};
+ghost use Rattle.std.specs.Prelude.{◌≡◌, [], ◌∷◌, ◌+◌, ◌-◌};
 ghost use Rattle.std.proofs.Math.Option.{Option};
 ghost use Rattle.rules.specs.Lines.{Word};
 ghost use Rattle.rules.specs.Nodes.{values, aggregate};
 ghost use Rattle.rules.specs.Area.{option_span, function_numbers, item_numbers, key_numbers};
 ghost use Rattle.numbers.specs.Aggregates.{aggregate_of};
 ghost use Rattle.plan.specs.Layout.{record_head, source_head, aggregate_head, length_place, groups_place, function_size, item_size, key_size};
-ghost use Rattle.plan.specs.Pushed.{Pushed, Stored, Countable};
+ghost use Rattle.plan.specs.Pushed.{NodeRoom, Pushed, Stored, Countable};
 ghost use Rattle.plan.specs.Kinds.{node_number};
 ghost use Rattle.text.specs.Places.{option_numbers};
 ghost use Rattle.plan.specs.Records.{opened, over_numbers};
@@ -25,23 +25,23 @@ const GROUPS: usize = 3;
 
 // BEGINNINGS
 pub fn begin_values(nodes: &mut Nodes)
-    requires { nodes.old.used + record_head ≤ length nodes.old.numbers.now }
+    requires { NodeRoom record_head nodes.old }
     ensures { Pushed (opened (values [])) nodes.old nodes.new }
 {
     head(nodes, Kind::Values, 0);
 }
 
 pub fn begin_aggregate(nodes: &mut Nodes, source: u32)
-    requires { nodes.old.used + aggregate_head ≤ length nodes.old.numbers.now }
+    requires { NodeRoom aggregate_head nodes.old }
     ensures { Pushed (opened (aggregate source [] [])) nodes.old nodes.new }
 {
     head(nodes, Kind::Aggregate, 0);
-    nodes.pair(source, 0);
+    nodes.extend([source, 0]);
 }
 
 // A projection, an order or a remap of a source, by the kind.
 pub fn begin(nodes: &mut Nodes, kind: Kind, source: u32)
-    requires { nodes.old.used + source_head ≤ length nodes.old.numbers.now }
+    requires { NodeRoom source_head nodes.old }
     ensures { Pushed (over_numbers (node_number kind) source) nodes.old nodes.new }
 {
     head(nodes, kind, 0);
@@ -51,15 +51,15 @@ pub fn begin(nodes: &mut Nodes, kind: Kind, source: u32)
 // PARTS
 // An aggregate function of an argument.
 pub fn function(nodes: &mut Nodes, aggregate: Aggregate, root: u32)
-    requires { nodes.old.used + function_size ≤ length nodes.old.numbers.now }
+    requires { NodeRoom function_size nodes.old }
     ensures { Pushed (function_numbers ((aggregate_of aggregate, root) ∷ [])) nodes.old nodes.new }
 {
-    nodes.pair(u32::from(aggregate), root);
+    nodes.extend([u32::from(aggregate), root]);
 }
 
 // An item of a projection and its alias.
 pub fn item(nodes: &mut Nodes, root: u32, alias: Option<Place>)
-    requires { nodes.old.used + item_size ≤ length nodes.old.numbers.now }
+    requires { NodeRoom item_size nodes.old }
     ensures { (w : Option Word) → option_span w ≡ option_numbers alias → Pushed (item_numbers
         ((root, w) ∷ [])) nodes.old nodes.new }
 {
@@ -69,10 +69,10 @@ pub fn item(nodes: &mut Nodes, root: u32, alias: Option<Place>)
 
 // A key of an order.
 pub fn key(nodes: &mut Nodes, root: u32, descending: bool)
-    requires { nodes.old.used + key_size ≤ length nodes.old.numbers.now }
+    requires { NodeRoom key_size nodes.old }
     ensures { Pushed (key_numbers ((root, descending) ∷ [])) nodes.old nodes.new }
 {
-    nodes.pair(root, u32::from(descending));
+    nodes.extend([root, u32::from(descending)]);
 }
 
 // ENDS

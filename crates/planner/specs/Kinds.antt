@@ -1,9 +1,12 @@
 -- A statement that was read: what is known of it, and what is built of it by its kind.
 use Rattle.std.specs.Prelude.{ℕ, ◌≤◌, ◌≡◌, Bool, true, false, List, leb, length, Err}
-use Rattle.std.proofs.Math.Path.{refl, ap}
+use denote.Enum.Bare.{sameb}
+use Rattle.std.proofs.Math.Path.{refl, sym, ap}
 use Rattle.std.proofs.Common.{leb-true}
 use Rattle.std.proofs.lemmas.Bool.{false≢true}
-use Rattle.rules.specs.Refusals.{other_statement}
+use Rattle.rules.specs.Refusals.{Answer, other_statement}
+use Rattle.rules.specs.Plan.{Built, Plan}
+use Rattle.text.specs.declared.places.Texts.{Texts}
 use Rattle.rules.specs.Limits.{least_area}
 use Rattle.rules.specs.Lists.{Bytes}
 use Rattle.rules.specs.Schema.{Catalog}
@@ -11,11 +14,11 @@ use Rattle.rules.specs.Ast as Ast
 use Rattle.rules.specs.BuildSelect.{build_select}
 use Rattle.rules.specs.BuildStatement.{build_statement}
 use Rattle.claims.specs.Within.{TextsWithin}
-use Rattle.ast.specs.Table.{table_size}
 use Rattle.schema.specs.Layout.{catalog_at}
 use Rattle.statement.specs.Layout.{statement_at}
 use Rattle.statement.specs.Access.{kind_number, line_at, from_rows, kind_of, select_at, statement_of, statement-kind}
 use Rattle.statement.specs.Stays.{SectionsStay}
+use Rattle.statement.specs.contracts.access.Kind.{the_type}
 use Rattle.statement.specs.declared.access.Kind.{Kind}
 use Rattle.statement.specs.declared.access.Kind.TheVariants as K
 use Rattle.plan.specs.Emits.{Written}
@@ -34,6 +37,10 @@ pub record StatementReady (c q : Bytes) (tables cells froms parts : List ℕ) : 
   pub within : TextsWithin c q (catalog_at c q tables) (statement_at c q cells froms parts)
   pub stay : K.Select ≡ kind_of (kind_number parts) → SectionsStay q cells parts
 
+-- what the rules build of the statement that stands in the numbers, over the catalog that does
+abbrev pub statement_plan : Texts → (tables cells froms parts : List ℕ) → Answer (Plan Built)
+statement_plan x tables cells froms parts = build_statement (catalog_at x.catalog.now x.statement.now tables) (statement_at x.catalog.now x.statement.now cells froms parts)
+
 -- A SELECT OVER AT MOST ONE TABLE
 unfoldable pub one_table_of : Kind → ℕ → Bool
 one_table_of K.Select n = leb n 1
@@ -47,15 +54,27 @@ one_table_of K.Other n = false
 abbrev pub has_one_table : List ℕ → Bool
 has_one_table parts = one_table_of (kind_of (kind_number parts)) (from_rows parts)
 
-pub one-table-other : (k : Kind) (n : ℕ) → (k ≡ K.Select → ⊥) → one_table_of k n ≡ false
+-- few rows where the kind is SELECT
+pub one-table-select : (k : Kind) (n : ℕ) → sameb the_type k K.Select ≡ true → leb n 1 ≡ one_table_of k n
 unfolding one_table_of
-one-table-other K.Select n f = absurd (f refl)
-one-table-other K.Create n f = refl
-one-table-other K.Drop n f = refl
-one-table-other K.Delete n f = refl
-one-table-other K.Insert n f = refl
-one-table-other K.Update n f = refl
-one-table-other K.Other n f = refl
+one-table-select K.Select n h = refl
+one-table-select K.Create n h = absurd (false≢true h)
+one-table-select K.Drop n h = absurd (false≢true h)
+one-table-select K.Delete n h = absurd (false≢true h)
+one-table-select K.Insert n h = absurd (false≢true h)
+one-table-select K.Update n h = absurd (false≢true h)
+one-table-select K.Other n h = absurd (false≢true h)
+
+-- none where it is another
+pub one-table-other : (k : Kind) (n : ℕ) → sameb the_type k K.Select ≡ false → false ≡ one_table_of k n
+unfolding one_table_of
+one-table-other K.Select n h = absurd (false≢true (sym h))
+one-table-other K.Create n h = refl
+one-table-other K.Drop n h = refl
+one-table-other K.Delete n h = refl
+one-table-other K.Insert n h = refl
+one-table-other K.Update n h = refl
+one-table-other K.Other n h = refl
 
 pub one-table-by : (parts : List ℕ) {k : Kind} {n : ℕ} → k ≡ kind_of (kind_number parts) → n ≡ from_rows parts
     → one_table_of k n ≡ has_one_table parts
@@ -95,13 +114,13 @@ module _ (c q : Bytes) (cells froms parts : List ℕ) where
     select-is = statement-kind c q cells froms parts K.Select e
 
     select-ready : {tables area : List ℕ} {nodes : Nodes} → StatementReady c q tables cells froms parts
-        → length cells ≡ table_size → SelectRoom (select_at c q cells froms parts) area nodes → nodes.used ≡ 0
+        → SelectRoom (select_at c q cells froms parts) area nodes → nodes.used ≡ 0
         → SelectReady c q tables cells froms parts area nodes
-    select-ready h l f z = record { within = rw select-is at h.within; table = l; stay = h.stay e; free = f; none = z }
+    select-ready h f z = record { within = rw select-is at h.within; stay = h.stay e; free = f; none = z }
 
     pub select-any : {tables area : List ℕ} {nodes : Nodes} → StatementReady c q tables cells froms parts
-        → length cells ≡ table_size → Free area nodes → SelectReady c q tables cells froms parts area nodes
-    select-any h l f = select-ready h l (any-tables (rw select-is at h.within) f.area_room f.nodes_room) f.none
+        → Free area nodes → SelectReady c q tables cells froms parts area nodes
+    select-any h f = select-ready h (any-tables (rw select-is at h.within) f.area_room f.nodes_room) f.none
 
     pub select-built : (ts : Catalog) → build_statement ts (statement_at c q cells froms parts)
         ≡ build_select ts (select_at c q cells froms parts)
@@ -111,11 +130,11 @@ module _ (c q : Bytes) (cells froms parts : List ℕ) where
   -- SELECT over at most one table
   module _ (e : has_one_table parts ≡ true) where
     pub one-table-ready : {tables area : List ℕ} {nodes : Nodes} → StatementReady c q tables cells froms parts
-        → length cells ≡ table_size → least_area ≤ length area → length nodes.numbers.now ≡ one_table_size → nodes.used ≡ 0
+        → least_area ≤ length area → length nodes.numbers.now ≡ one_table_size → nodes.used ≡ 0
         → SelectReady c q tables cells froms parts area nodes
-    one-table-ready h l a n z =
+    one-table-ready h a n z =
         let o = has-one-table parts e in
-        select-ready o.select h l (one_table c q cells froms parts o.rows a n) z
+        select-ready o.select h (one_table c q cells froms parts o.rows a n) z
 
     pub one-table-built : (ts : Catalog) → build_statement ts (statement_at c q cells froms parts)
         ≡ build_select ts (select_at c q cells froms parts)

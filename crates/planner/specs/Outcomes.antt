@@ -1,6 +1,8 @@
 -- What the entry answers, and the area at exit: those of the rules.
-use Rattle.std.specs.Prelude.{ℕ, ◌≤◌, ◌<◌, ◌≡◌, refl, List, length, replicate, Result, Ok, Err}
+use Rattle.std.specs.Prelude.{ℕ, ◌≤◌, ◌<◌, ◌≡◌, refl, List, length, replicate, Result, MatchResult, IsErrAnd, is_err, true, false, Ok, Err}
 use Rattle.std.proofs.Common.{arith, sym, ap, ◌∙◌, lt-ltb}
+use Rattle.std.proofs.lemmas.Bool.{false≢true}
+use Rattle.std.proofs.lemmas.Result.{err_from_is_err_and}
 use Rattle.rules.specs.Refusals.{refusal_number, Refusal, Answer, ok, refused, ◌>>=◌}
 use Rattle.rules.specs.Limits.{least_area}
 use Rattle.rules.specs.Lists.{Bytes}
@@ -19,6 +21,7 @@ use Rattle.reader.specs.Texts.{read_texts}
 use Rattle.reader.specs.Entry.{planned, entry-reads}
 use Rattle.numbers.specs.Texts.{text_of}
 use Rattle.numbers.specs.declared.refusals.TextRefusal.{TextRefusal}
+use Rattle.numbers.specs.declared.refusals.Text.TheVariants as T
 use Rattle.build_statement.specs.Plans.{planned_of, Plans}
 use Rattle.planner.specs.declared.Outcome.{Outcome}
 
@@ -35,6 +38,11 @@ unfoldable pub told : Result ℕ TextRefusal → Outcome
 told (Ok n) = record { number = 0; text = 0; line = 0; count = n }
 told (Err w) = record { number = refusal_number (reason_of w.reason); text = text_number (text_of w.text); line = w.line; count = 0 }
 
+-- the area behind planning: a refusal clears it
+unfoldable pub cleared_by : Result ℕ TextRefusal → List ℕ → List ℕ
+cleared_by (Ok n) area = area
+cleared_by (Err w) area = replicate (length area) 0
+
 -- A REFUSAL: the area is cleared
 pub record Refused (number text line : ℕ) (area area' : List ℕ) (r : Outcome) : Type 0 where
   pub number_is : r.number ≡ number
@@ -46,10 +54,9 @@ pub record Refused (number text line : ℕ) (area area' : List ℕ) (r : Outcome
 abbrev pub RefusedWith : TextRefusal → List ℕ → List ℕ → Outcome → Type 0
 RefusedWith w = Refused (refusal_number (reason_of w.reason)) (text_number (text_of w.text)) w.line
 
-pub refused-told : (w : TextRefusal) {area area' : List ℕ} → area' ≡ replicate (length area) 0
-    → RefusedWith w area area' (told (Err w))
-unfolding told
-refused-told w z = (record { number_is = refl; text-is = refl; line-is = refl; none = refl; zero = z })
+pub refused-told : (w : TextRefusal) (area : List ℕ) → RefusedWith w area (cleared_by (Err w) area) (told (Err w))
+unfolding told cleared_by
+refused-told w area = record { number_is = refl; text-is = refl; line-is = refl; none = refl; zero = refl }
 
 pub refused-answer : {a : Answer (Plan Built)} (area₀ : List ℕ) {x t l : ℕ} {area area' : List ℕ} {r : Outcome} (w : Refusal)
     → a ≡ refused w → least_area ≤ length area₀ → length area ≡ length area₀ → x ≡ refusal_number w.reason
@@ -67,12 +74,12 @@ refused-answer area₀ w e m k fx ft fl h = rw e (record {
 built-done : (a : Answer (Plan Built)) (n : ℕ) → ◌≡◌ {A = Written} (Ok n) (planned_of a) → (p : Plan Built) × (a ≡ ok p)
 unfolding planned_of
 built-done (ok p) n e = (p, refl)
-built-done (refused w) n e = absurd (let z : ◌≡◌ {A = ℕ} 0 1 = cc in omega arith)
+built-done (refused w) n e = grind arith
 
 built-refused : (a : Answer (Plan Built)) (v : code.Refusal) → ◌≡◌ {A = Written} (Err v) (planned_of a)
     → (w : Refusal) × (a ≡ refused w)
 unfolding planned_of
-built-refused (ok p) v e = absurd (let z : ◌≡◌ {A = ℕ} 0 1 = cc in omega arith)
+built-refused (ok p) v e = grind arith
 built-refused (refused w) v e = (w, refl)
 
 pub planned-answer : {a : Answer (Plan Built)} {area area' : List ℕ} {x : Written} {r : Outcome} (n : ℕ)
@@ -106,6 +113,37 @@ building-refused ts s area₀ {y = y} v x h e m n z =
     let fl : v.line ≡ w.line = ap (λ (y : code.Refusal). y.line) u in
     let g = (statement-refusals ts s).refusal w b.1 in
     refused-answer area₀ w b.1 m h.kept fx (rw g.text) fl z
+
+-- what is built of a statement, its refusal told as one of its text
+pub building-answer : (ts : Catalog) (s : Statement) (area₀ : List ℕ) {area : List ℕ} (y : Written) (r : Result ℕ TextRefusal)
+    {Q : code.Refusal → TextRefusal → Type 0} → Plans (build_statement ts s) area₀ area y → least_area ≤ length area₀
+    → MatchResult y (λ n. r ≡ Ok n) (λ v. IsErrAnd r (Q v))
+    → ((v : code.Refusal) (w : TextRefusal) → Q v w → w ≡ record { reason = v.reason; text = T.Statement; line = v.line })
+    → Answers (outcome area₀ (build_statement ts s)) (told r) (cleared_by r area)
+unfolding told cleared_by text_number text_of
+building-answer ts s area₀ (Ok n) r h m c g = rw c (planned-answer n h refl refl refl refl refl)
+building-answer ts s area₀ {area} (Err v) r h m c g =
+    let w = err_from_is_err_and r c in
+    let u : TextRefusal = record { reason = v.reason; text = T.Statement; line = v.line } in
+    rw (w.1 ∙ ap Err (g v w.0 w.2)) (building-refused ts s area₀ v _ h refl m refl (refused-told u area))
+
+-- cleared where it is refused
+module _ {o : rules.Outcome} (r : Result ℕ TextRefusal) (area : List ℕ) (a : Answers o (told r) (cleared_by r area)) where
+  pub answer-refused : {area' : List ℕ} → is_err r ≡ true → area' ≡ replicate (length area) 0 → Answers o (told r) area'
+  unfolding cleared_by
+  answer-refused {area'} h e = go r a h
+    where
+      go : (x : Result ℕ TextRefusal) → Answers o (told x) (cleared_by x area) → is_err x ≡ true → Answers o (told x) area'
+      go (Ok n) b z = absurd (false≢true z)
+      go (Err w) b z = rw e b
+
+  pub answer-planned : is_err r ≡ false → Answers o (told r) area
+  unfolding cleared_by
+  answer-planned h = go r a h
+    where
+      go : (x : Result ℕ TextRefusal) → Answers o (told x) (cleared_by x area) → is_err x ≡ false → Answers o (told x) area
+      go (Ok n) b z = b
+      go (Err w) b z = absurd (false≢true (sym z))
 
 -- BOTH TEXTS
 -- what the entry gives where the area is long enough

@@ -1,13 +1,9 @@
 // A statement that was read, planned by its kind (planner.rs, Planner::build).
 ghost use Rattle.std.specs.Prelude.{◌≡◌, ◌≤◌, length, true};
 ghost use Rattle.rules.specs.Limits.{least_area};
-ghost use Rattle.rules.specs.BuildStatement.{build_statement};
-ghost use Rattle.ast.specs.Table.{table_size};
-ghost use Rattle.schema.specs.Layout.{catalog_at};
-ghost use Rattle.statement.specs.Layout.{statement_at};
 ghost use Rattle.build_statement.specs.Plans.{Plans};
 ghost use Rattle.build_statement.specs.Kinds.{Free};
-ghost use Rattle.planner.specs.Kinds.{StatementReady, has_one_table};
+ghost use Rattle.planner.specs.Kinds.{StatementReady, statement_plan, has_one_table};
 
 use ast::Expressions;
 use build_insert::insert::build_insert;
@@ -19,6 +15,7 @@ use build_update::update::build_update;
 use numbers::refusals::{Reason, Refusal};
 use plan::NODES_SIZE;
 use plan::nodes::Nodes;
+use statement::CELL_NUMBERS;
 use statement::access::{Kind, from_rows, kind_of, line};
 use text::places::Texts;
 
@@ -26,7 +23,7 @@ use text::places::Texts;
 fn build_kind(
     texts: &Texts,
     tables: &[u32],
-    cells: &mut [u32],
+    cells: &mut [u32; CELL_NUMBERS],
     froms: &[u32],
     parts: &[u32],
     area: &mut [u32],
@@ -34,12 +31,8 @@ fn build_kind(
 ) -> Result<u32, Refusal>
     requires statement_ready { StatementReady texts.now.catalog.now texts.now.statement.now tables.now cells.old froms.now
         parts.now }
-    requires cells_len { length cells.old ≡ table_size }
     requires free { Free area.old nodes.old }
-    ensures { Plans (build_statement
-        (catalog_at texts.now.catalog.now texts.now.statement.now tables.now)
-        (statement_at texts.now.catalog.now texts.now.statement.now cells.old froms.now parts.now))
-        area.old area.new result }
+    ensures { Plans (statement_plan texts.now tables.now cells.old froms.now parts.now) area.old area.new result }
 {
     let kind = kind_of(parts);
     let exprs = Expressions {
@@ -64,31 +57,24 @@ fn build_kind(
 fn has_one_table(parts: &[u32]) -> bool
     ensures { result ≡ has_one_table parts.now }
 {
-    match kind_of(parts) {
-        Kind::Select => from_rows(parts) <= 1,
-        _ => false,
-    }
+    kind_of(parts) == Kind::Select && from_rows(parts) <= 1
 }
 
-// A SELECT over at most one table, in few numbers for its nodes. Each of the two arrays has a function of its own, since a function
-// that holds both writes the zeros of both.
+// A SELECT over at most one table, in few numbers for its nodes. Each of the two arrays has a function of its own: of arrays that
+// `Nodes` borrows, a function that holds both would write the zeros of both.
 fn build_one_table(
     texts: &Texts,
     tables: &[u32],
-    cells: &mut [u32],
+    cells: &mut [u32; CELL_NUMBERS],
     froms: &[u32],
     parts: &[u32],
     area: &mut [u32],
 ) -> Result<u32, Refusal>
     requires statement_ready { StatementReady texts.now.catalog.now texts.now.statement.now tables.now cells.old froms.now
         parts.now }
-    requires cells_len { length cells.old ≡ table_size }
     requires area_room { least_area ≤ length area.old }
     requires one_table { has_one_table parts.now ≡ true }
-    ensures { Plans (build_statement
-        (catalog_at texts.now.catalog.now texts.now.statement.now tables.now)
-        (statement_at texts.now.catalog.now texts.now.statement.now cells.old froms.now parts.now))
-        area.old area.new result }
+    ensures { Plans (statement_plan texts.now tables.now cells.old froms.now parts.now) area.old area.new result }
 {
     let mut numbers = [0u32; ONE_TABLE_SIZE];
     let mut nodes = Nodes {
@@ -102,19 +88,15 @@ fn build_one_table(
 fn build_any(
     texts: &Texts,
     tables: &[u32],
-    cells: &mut [u32],
+    cells: &mut [u32; CELL_NUMBERS],
     froms: &[u32],
     parts: &[u32],
     area: &mut [u32],
 ) -> Result<u32, Refusal>
     requires statement_ready { StatementReady texts.now.catalog.now texts.now.statement.now tables.now cells.old froms.now
         parts.now }
-    requires cells_len { length cells.old ≡ table_size }
     requires area_room { least_area ≤ length area.old }
-    ensures { Plans (build_statement
-        (catalog_at texts.now.catalog.now texts.now.statement.now tables.now)
-        (statement_at texts.now.catalog.now texts.now.statement.now cells.old froms.now parts.now))
-        area.old area.new result }
+    ensures { Plans (statement_plan texts.now tables.now cells.old froms.now parts.now) area.old area.new result }
 {
     let mut numbers = [0u32; NODES_SIZE];
     let mut nodes = Nodes {
@@ -128,19 +110,15 @@ fn build_any(
 pub fn build(
     texts: &Texts,
     tables: &[u32],
-    cells: &mut [u32],
+    cells: &mut [u32; CELL_NUMBERS],
     froms: &[u32],
     parts: &[u32],
     area: &mut [u32],
 ) -> Result<u32, Refusal>
     requires statement_ready { StatementReady texts.now.catalog.now texts.now.statement.now tables.now cells.old froms.now
         parts.now }
-    requires cells_len { length cells.old ≡ table_size }
     requires area_room { least_area ≤ length area.old }
-    ensures { Plans (build_statement
-        (catalog_at texts.now.catalog.now texts.now.statement.now tables.now)
-        (statement_at texts.now.catalog.now texts.now.statement.now cells.old froms.now parts.now))
-        area.old area.new result }
+    ensures { Plans (statement_plan texts.now tables.now cells.old froms.now parts.now) area.old area.new result }
 {
     if has_one_table(parts) {
         return build_one_table(texts, tables, cells, froms, parts, area);

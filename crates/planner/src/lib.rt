@@ -5,18 +5,13 @@ mod building; // building.rt: a statement that was read, by its kind
 
 ghost use Rattle.std.specs.Prelude.{◌≡◌, ◌≤◌, length};
 ghost use Rattle.rules.specs.Limits.{least_area};
-ghost use Rattle.rules.specs.Area.{layout};
-ghost use Rattle.rules.specs.BuildStatement.{build_statement};
 ghost use Rattle.rules.specs.Entry.{outcome, plan};
-ghost use Rattle.schema.specs.Layout.{catalog_at};
 ghost use Rattle.schema.specs.Room.{numbers_for};
-ghost use Rattle.statement.specs.Layout.{statement_at};
-ghost use Rattle.planner.specs.Outcomes.{built_of, told, Answers, RefusedWith};
-ghost use Rattle.planner.specs.Kinds.{StatementReady};
+ghost use Rattle.planner.specs.Outcomes.{built_of, cleared_by, told, Answers};
 
 use building::build;
 use numbers::refusals::{Reason, Text, TextRefusal};
-use plan::finish::{LAYOUT, clear};
+use plan::finish::clear;
 use reader::read_texts;
 use schema::NUMBERS;
 use schema::read::{SMALL_NUMBERS, numbers_for};
@@ -59,51 +54,33 @@ impl From<Result<u32, TextRefusal>> for Outcome {
     }
 }
 
-// A refusal: the area is all zero.
-fn refuse(area: &mut [u32], refusal: TextRefusal) -> Result<u32, TextRefusal>
-    ensures { RefusedWith refusal area.old area.new (told result) }
-{
-    clear(area);
-    Err(refusal)
-}
-
-// The plan of a statement that was read.
-fn plan_read(
-    texts: &Texts,
-    tables: &[u32],
-    cells: &mut [u32; CELL_NUMBERS],
-    froms: &[u32; FROM_NUMBERS],
-    parts: &[u32; PART_NUMBERS],
-    area: &mut [u32],
-) -> Result<u32, TextRefusal>
-    requires statement_ready { StatementReady texts.now.catalog.now texts.now.statement.now tables.now cells.old froms.now
-        parts.now }
-    requires area_room { least_area ≤ length area.old }
-    ensures { Answers (outcome area.old (build_statement
-        (catalog_at texts.now.catalog.now texts.now.statement.now tables.now)
-        (statement_at texts.now.catalog.now texts.now.statement.now cells.old froms.now parts.now)))
-        (told result) area.new }
-{
-    match build(texts, tables, cells, froms, parts, area) {
-        Ok(n) => Ok(n),
-        Err(w) => refuse(area, Text::Statement.refuses(w)),
-    }
-}
-
-// Both texts read and planned; `tables` has enough numbers for the catalog.
+// Both texts read and planned, but that a refusal does not clear the area; `tables` has enough numbers for the catalog.
 fn plan_with(texts: &Texts, tables: &mut [u32], area: &mut [u32]) -> Result<u32, TextRefusal>
     requires tables_room { numbers_for (length texts.now.catalog.now) ≤ length tables.old }
     requires area_room { least_area ≤ length area.old }
     ensures { Answers (outcome area.old (built_of texts.now.catalog.now texts.now.statement.now)) (told result)
-        area.new }
+        (cleared_by result area.new) }
 {
     let mut cells = [0u32; CELL_NUMBERS];
     let mut froms = [0u32; FROM_NUMBERS];
     let mut parts = [0u32; PART_NUMBERS];
-    match read_texts(texts, tables, &mut cells, &mut froms, &mut parts) {
-        Err(w) => refuse(area, w),
-        Ok(_) => plan_read(texts, tables, &mut cells, &froms, &parts, area),
+    read_texts(texts, tables, &mut cells, &mut froms, &mut parts)?;
+    let planned = build(texts, tables, &mut cells, &froms, &parts, area);
+    planned.map_err(|refusal| Text::Statement.refuses(refusal))
+}
+
+// The same with few numbers for the catalog, where they are enough.
+fn plan_long(texts: &Texts, area: &mut [u32]) -> Result<u32, TextRefusal>
+    requires { least_area ≤ length area.old }
+    ensures { Answers (outcome area.old (built_of texts.now.catalog.now texts.now.statement.now)) (told result)
+        (cleared_by result area.new) }
+{
+    if numbers_for(texts.catalog.len()) <= SMALL_NUMBERS {
+        let mut small = [0u32; SMALL_NUMBERS];
+        return plan_with(texts, &mut small, area);
     }
+    let mut tables = [0u32; NUMBERS];
+    plan_with(texts, &mut tables, area)
 }
 
 // The plan of the statement over the catalog, in the area, and how many cells it has: whatever the texts are, and whatever
@@ -114,32 +91,9 @@ pub fn plan(texts: &Texts, area: &mut [u32]) -> Result<u32, TextRefusal>
     if area.len() < LEAST_AREA {
         return Err(Text::Statement.refuses(Reason::ShortArea.at(0)));
     }
-    if numbers_for(texts.catalog.len()) <= SMALL_NUMBERS {
-        let mut small = [0u32; SMALL_NUMBERS];
-        return plan_with(texts, &mut small, area);
+    let planned = plan_long(texts, area);
+    if planned.is_err() {
+        clear(area);
     }
-    let mut tables = [0u32; NUMBERS];
-    plan_with(texts, &mut tables, area)
-}
-
-// As `plan`, with the texts and the answer as C has them.
-pub fn planner_plan(catalog: &[u8], statement: &[u8], area: &mut [u32]) -> Outcome
-    ensures { Answers (plan catalog.now statement.now area.old) result area.new }
-{
-    let texts = Texts { catalog, statement };
-    Outcome::from(plan(&texts, area))
-}
-
-// The number of the area's layout, which is the first of a plan's numbers.
-pub fn planner_layout() -> u32
-    ensures { result ≡ layout }
-{
-    LAYOUT
-}
-
-// The least numbers of an area.
-pub fn planner_area_length() -> usize
-    ensures { result ≡ least_area }
-{
-    LEAST_AREA
+    planned
 }

@@ -7,14 +7,16 @@ ghost use Rattle.rules.specs.Area.{layout};
 ghost use Rattle.rules.specs.Entry.{plan};
 ghost use Rattle.planner.specs.Outcomes.{Answers};
 
-use planner::Outcome;
+use plan::finish::LAYOUT;
+use planner::{LEAST_AREA, Outcome, plan};
+use text::places::Texts;
 
 // The plan of the statement over the catalog, in the area: whatever the texts are, and whatever the area holds.
 #[unsafe(no_mangle)]
 pub extern "C" fn planner_plan(catalog: &[u8], statement: &[u8], area: &mut [u32]) -> Outcome
     ensures { Answers (plan catalog.now statement.now area.old) result area.new }
 {
-    planner::planner_plan(catalog, statement, area)
+    Outcome::from(plan(&Texts { catalog, statement }, area))
 }
 
 // The number of the area's layout, which is the first of a plan's numbers.
@@ -22,7 +24,7 @@ pub extern "C" fn planner_plan(catalog: &[u8], statement: &[u8], area: &mut [u32
 pub extern "C" fn planner_layout() -> u32
     ensures { result ≡ layout }
 {
-    planner::planner_layout()
+    LAYOUT
 }
 
 // The least numbers of an area.
@@ -30,5 +32,5 @@ pub extern "C" fn planner_layout() -> u32
 pub extern "C" fn planner_area_length() -> usize
     ensures { result ≡ least_area }
 {
-    planner::planner_area_length()
+    LEAST_AREA
 }

@@ -7,6 +7,7 @@ use Rattle.rules.specs.Lists.{Bytes}
 use Rattle.rules.specs.Plan.{Built, Plan}
 use Rattle.rules.specs.Entry.{text_number, entry, outcome, plan}
 use Rattle.lines.specs.Spans.{nth_line}
+use Rattle.text.specs.Reading.{text_of}
 use Rattle.numbers.specs.declared.refusals.Text as Tx
 use Rattle.numbers.specs.declared.refusals.Text.TheVariants as T
 use Rattle.numbers.specs.declared.refusals.TextRefusal.{TextRefusal}
@@ -30,13 +31,6 @@ shown_line (x ∷ xs) = (x ∷ xs) ++ (10 ∷ [])
 abbrev pub shown_record : Bytes → Bytes → Outcome → Bytes
 shown_record c q o = if o.number == 0 then [] else if o.text == 1 then shown_line (nth_line c o.line) else shown_line (nth_line q o.line)
 
-abbrev pub text_of : Bytes → Bytes → Text → Bytes
-text_of c q catalog = c
-text_of c q statement = q
-
-abbrev pub the_text : Tx.Text → Text
-the_text = code.text_of
-
 -- a plan has none, and of a refusal it is the line in its text
 module _ (c q : Bytes) {x : Result ℕ TextRefusal} where
   pub planned-record : {n : ℕ} → x ≡ Ok n → shown_record c q (told x) ≡ []
@@ -44,18 +38,18 @@ module _ (c q : Bytes) {x : Result ℕ TextRefusal} where
   planned-record e = rw e refl
 
   pub refused-record : {w : TextRefusal} → x ≡ Err w
-      → shown_record c q (told x) ≡ shown_line (nth_line (text_of c q (the_text w.text)) w.line)
-  unfolding told code.text_of text_number
+      → shown_record c q (told x) ≡ shown_line (nth_line (text_of (code.text_of w.text) c q) w.line)
+  unfolding told code.text_of text_of text_number
   refused-record {w} e = rw (e, not-zero (reason_of w.reason)) (side w.text)
     where
-      side : (y : Tx.Text) → (if text_number (the_text y) == 1 then shown_line (nth_line c w.line) else shown_line (nth_line q w.line))
-          ≡ shown_line (nth_line (text_of c q (the_text y)) w.line)
+      side : (y : Tx.Text) → (if text_number (code.text_of y) == 1 then shown_line (nth_line c w.line) else shown_line (nth_line q w.line))
+          ≡ shown_line (nth_line (text_of (code.text_of y) c q) w.line)
       side T.Catalog = refl
       side T.Statement = refl
 
 abbrev pub record_of : Bytes → Bytes → Answer (Plan Built) → Bytes
 record_of c q (ok p) = []
-record_of c q (refused r) = shown_line (nth_line (text_of c q r.text) r.line)
+record_of c q (refused r) = shown_line (nth_line (text_of r.text c q) r.line)
 
 -- THE RECORD AT FAULT: where the rules refuse both texts, the line that their refusal points at
 unfoldable pub fault_record : Bytes → Bytes → Bytes
@@ -64,14 +58,14 @@ fault_record c q = record_of c q (entry least_area c q)
 -- the numbers of the rules' answer point at it
 pub fault-shown : (c q a : List ℕ) {area : List ℕ} {o : Outcome} → Answers (plan c q a) o area → length a ≡ least_area
     → shown_record c q o ≡ fault_record c q
-unfolding plan outcome fault_record text_number
+unfolding plan outcome fault_record text_number text_of
 fault-shown c q a {area} {o} h l = go (entry (length a) c q) h.number h.text h.line ∙ ap (λ k. record_of c q (entry k c q)) l
   where
-    side : (x : Text) → (if text_number x == 1 then shown_line (nth_line c o.line) else shown_line (nth_line q o.line)) ≡ shown_line (nth_line (text_of c q x) o.line)
+    side : (x : Text) → (if text_number x == 1 then shown_line (nth_line c o.line) else shown_line (nth_line q o.line)) ≡ shown_line (nth_line (text_of x c q) o.line)
     side catalog = refl
     side statement = refl
 
     go : (x : Answer (Plan Built)) → o.number ≡ (outcome a x).number → o.text ≡ (outcome a x).text → o.line ≡ (outcome a x).line
         → shown_record c q o ≡ record_of c q x
     go (ok p) n t i = rw n refl
-    go (refused r) n t i = rw (n, not-zero r.reason, t) (side r.text ∙ ap (λ k. shown_line (nth_line (text_of c q r.text) k)) i)
+    go (refused r) n t i = rw (n, not-zero r.reason, t) (side r.text ∙ ap (λ k. shown_line (nth_line (text_of r.text c q) k)) i)

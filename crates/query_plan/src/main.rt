@@ -9,7 +9,9 @@ ghost use Rattle.listing.specs.Listed.{Holds};
 ghost use Rattle.planner.specs.Outcomes.{told};
 ghost use Rattle.plan_listing.specs.Shown.{shown};
 ghost use Rattle.lines.specs.Spans.{nth_line};
-ghost use Rattle.query_plan.specs.Written.{window_of, shown_line, shown_record, fault_record, text_of, the_text};
+ghost use Rattle.numbers.specs.Texts as code;
+ghost use Rattle.text.specs.Reading.{text_of};
+ghost use Rattle.query_plan.specs.Written.{window_of, shown_line, shown_record, fault_record};
 
 use anyhow::{Context, Result};
 use input::SIZE;
@@ -80,7 +82,7 @@ fn print<W: Write>(
         (listing texts.now.catalog.now texts.now.statement.now)) }
 {
     for k in 0..MOST_WINDOWS {
-        if !print_window(to, texts, planned, area, k * 65536)? {
+        if !print_window(to, texts, planned, area, k * WINDOW as u32)? {
             return Ok(());
         }
     }
@@ -100,9 +102,9 @@ fn show_line<W: Write>(to: &mut W, text: &[u8], n: u32) -> io::Result<()>
 }
 
 // The bytes of one of the texts.
-#[tactic(auto, unfolding(numbers::specs::Texts::text_of))]
+#[tactic(auto, unfolding(numbers::specs::Texts::text_of, text::specs::Reading::text_of))]
 fn text_of<'t>(texts: &Texts<'t>, text: Text) -> &'t [u8]
-    ensures { result.now ≡ text_of texts.now.catalog.now texts.now.statement.now (the_text text) }
+    ensures { result.now ≡ text_of (code.text_of text) texts.now.catalog.now texts.now.statement.now }
 {
     match text {
         Text::Catalog => texts.catalog,
@@ -142,14 +144,8 @@ fn plan<O: Write, E: Write>(out: &mut O, errors: &mut E, texts: &Texts) -> Resul
 }
 
 fn main(rt: HostRuntime) -> Result<()> {
-    let mut catalog = [0u8; SIZE];
     let mut file = File::open(&rt, "catalog.txt").context("catalog.txt")?;
-    let n = input::read_text(&mut file, &mut catalog).context("catalog.txt")?;
-    let mut statement = [0u8; SIZE];
-    let m = input::read_text(&mut rt.stdin(), &mut statement).context("standard input")?;
-    let texts = Texts {
-        catalog: &catalog[..n],
-        statement: &statement[..m],
-    };
+    let (mut catalog, mut statement) = ([0u8; SIZE], [0u8; SIZE]);
+    let texts = input::read_texts(&mut file, &mut rt.stdin(), &mut catalog, &mut statement)?;
     plan(&mut rt.stdout(), &mut rt.stderr(), &texts)
 }

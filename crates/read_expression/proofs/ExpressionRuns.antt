@@ -35,7 +35,7 @@ use Rattle.read_expression.specs.Reading.{here, Position, Took, Given, Rows, IsR
 use Rattle.read_expression.specs.RecordHere.{row-of-none, row-of-some, row-of-is, row-of-not-is, head-inside, literal-inside, position-next, line-passed, literal-wrong, literal-read, deep-wrong, deep-full, deep-cut, deep-read}
 use Rattle.read_expression.specs.Times.{joined, joined-none, before, before-none, before-twice, times-end, times-no, times-on, times-count}
 use Rattle.read_expression.specs.Given.{given-done, given-refused, gives-done, gives-refused, gives-wrong, gives-limit}
-use Rattle.read_expression.proofs.Rows.{rows_none, rows_join, rows-length}
+use Rattle.read_expression.proofs.Rows.{rows_none, rows_join}
 use Rattle.read_expression.proofs.Built.{build, built, operands-ok, operands-no, is-wrong, is_read, one_ok, is-built}
 
 -- EXPRESSIONS IN A ROW
@@ -54,9 +54,6 @@ loop-start {cells = cells} w = record { so_far = nil; is = sym (before-none _); 
 
 module _ {t : Bytes} {e : Read Expr} {n p₀ l₀ c₀ : ℕ} {cells₀ : List ℕ} {k p l c left : ℕ} {cells : List ℕ}
     (h : Loop t e n p₀ l₀ c₀ cells₀ k p l c left cells) where
-  pub loop-length : length cells ≡ length cells₀
-  loop-length = rows-length h.rows
-
   pub loop-end : left ≤ 0 → Given (times n e) (Rows t c₀ cells₀ cells) t p₀ l₀ c₀ k (Ok (record { position = p; line = l; rows = c }))
   unfolding before
   loop-end z = gives-done _ _ _ _ _ _ _ p l c (record {
@@ -94,12 +91,11 @@ module _ {t : Bytes} (p l d k : ℕ) {r : std.Option Literal} (s : (x : Text) (l
   unfolding base_address
   is-row-wrong H z = gives-wrong _ H _ _ _ _ _ l (literal-wrong t p l d k (literal-none (s statement l d k refl) z))
 
-  pub is_row : (c line : ℕ) {q m : ℕ} (v : Literal) (cells : List ℕ) {cells' : List ℕ} → Position t p l d → r ≡ std.Some v → q ≡ line_end t p
-      → m ≡ kind_number v.kind
-      → cells' ≡ sets cells (row_size * c) (7 ∷ line ∷ (d - c) ∷ m ∷ v.first ∷ v.second ∷ 0 ∷ 0 ∷ [])
+  pub is_row : (c line : ℕ) {q : ℕ} (v : Literal) (cells : List ℕ) {cells' : List ℕ} → Position t p l d → r ≡ std.Some v → q ≡ line_end t p
+      → cells' ≡ sets cells (row_size * c) (7 ∷ line ∷ (d - c) ∷ kind_number v.kind ∷ v.first ∷ v.second ∷ 0 ∷ 0 ∷ [])
       → Given literal_here (IsRow t c d line cells cells') t p l d k (Ok (record { position = q; line = l + 1; rows = d }))
   unfolding base_address text_of
-  is_row c line {q} x cells w z f g e =
+  is_row c line {q} x cells w z f e =
       let v = literal-some x (s statement l d k refl) z in
       let i = literal-inside t p l d k v.0 v.1 in
       gives-done _ _ _ _ _ _ _ q (l + 1) d (record {
@@ -109,7 +105,7 @@ module _ {t : Bytes} (p l d k : ℕ) {r : std.Option Literal} (s : (x : Text) (l
         moved = line-passed t i f;
         more = omega arith;
         holds = record {
-          written = rw g at e ∙ ap (sets cells (row_size * c)) (is-numbers line (d - c) v.0 v.2);
+          written = e ∙ ap (sets cells (row_size * c)) (is-numbers line (d - c) v.0 v.2);
           rows = refl;
           fits = λ b. v.3 statement refl b t refl;
         };

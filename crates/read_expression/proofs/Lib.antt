@@ -3,3 +3,4 @@ pub mod TreesBack
 pub mod Rows
 pub mod Built
 pub mod ExpressionRuns
+pub mod Missing

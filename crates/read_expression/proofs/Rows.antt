@@ -1,7 +1,6 @@
 -- The rows that a reader wrote: what they keep, one run behind another, and the expressions read back from them.
 use Rattle.std.specs.Prelude.{ℕ, ◌+◌, ◌*◌, ◌≤◌, ◌≡◌, refl, List, length}
-use Rattle.std.proofs.Common.{arith, add-zero, sym, ap, ◌∙◌, append-nil}
-use Rattle.std.proofs.Math.Seq.{length-sets}
+use Rattle.std.proofs.Common.{arith, add-zero, sym, append-nil}
 use Rattle.rules.specs.Limits.{most_cells}
 use Rattle.rules.specs.Lists.{Bytes}
 use Rattle.rules.specs.Ast.{Expr, Exprs, nil, cons, size_all}
@@ -32,11 +31,6 @@ rows_join {t} {c} {c₁} {s = s} {as' = as'} {bs = bs} f g =
     }
 
 -- READ BACK
-pub rows-length : {t : Bytes} {c c' : ℕ} {cells cells' : List ℕ} {es : Exprs} → Rows t c cells cells' c' es
-    → length cells' ≡ length cells
-rows-length {c = c} {cells = cells} {es = es} r =
-    ap length r.written ∙ length-sets cells (row_size * c) (encode_all es)
-
 pub rows-kept : {t : Bytes} {c c' : ℕ} {cells cells' : List ℕ} {es : Exprs} → Rows t c cells cells' c' es
     → Kept 0 (row_size * c) cells cells'
 rows-kept {c = c} {cells = cells} {es = es} r =

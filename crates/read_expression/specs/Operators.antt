@@ -1,7 +1,7 @@
 -- The operators' rows, by their number in the table of words.
 use Rattle.std.specs.Prelude.{ℕ, ◌≤◌, ◌≡◌, refl, [], ◌∷◌, Some}
 use Rattle.std.specs.Prelude as std
-use Rattle.std.proofs.Common.{arith, sym, ◌∙◌}
+use Rattle.std.proofs.Common.{arith, ◌∙◌}
 use Rattle.std.proofs.Math.Option.{none, some}
 use Rattle.rules.specs.Lists.{Bytes, named}
 use Rattle.rules.specs.Lines.{bytes}
@@ -10,6 +10,8 @@ use Rattle.rules.specs.Ast.{Unary, Binary}
 use Rattle.rules.specs.ReadExpression.{Head, star_head, is_head, unary_head, binary_head, operators}
 use Rattle.text.specs.Words.{find, words_of, push, keys, nth, named_by, nth-none}
 use Rattle.text.specs.Packed.{Keywords, number, numbers, are_bytes, is_word, are_words}
+use Rattle.ast.specs.Row.{number_of}
+use Rattle.ast.specs.declared.row.Kind.{Kind}
 use Rattle.read_expression.specs.declared.heads.Row.{Row}
 use Rattle.read_expression.specs.Encode.{head_numbers, arity}
 use Rattle.read_expression.specs.Fits.{HeadFits}
@@ -22,13 +24,13 @@ pub record Plainly (h : Head) (kind code n : ℕ) : Type 0 where
   pub small : n ≤ 2
   pub fits : (c t : Bytes) → HeadFits c t h
 
-pub row-of-plain : (t : Bytes) (h : Head) (r : Row) (kind code n : ℕ) → Plainly h kind code n → Plain r kind code n → RowOf t (some h) (Some r)
+pub row-of-plain : (t : Bytes) (h : Head) (r : Row) (kind : Kind) (code n : ℕ) → Plainly h (number_of kind) code n → Plain r kind code n → RowOf t (some h) (Some r)
 unfolding RowSays
 row-of-plain t h r kind code n p e = record {
   says = record {
-    is = p.is ∙ sym e.0;
-    many = e.1 ∙ p.many;
-    small = omega (arith, e.1, p.small);
+    is = rw e p.is;
+    many = rw e p.many;
+    small = rw e (omega (arith, p.small));
     fits = λ c. p.fits c t;
   };
 }

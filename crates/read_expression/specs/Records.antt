@@ -1,5 +1,5 @@
 -- Records by the number of their keyword and of their fields.
-use Rattle.std.specs.Prelude.{ℕ, suc, ◌≤◌, ◌<◌, ◌≡◌, refl, Bool, true, false, List, [], ◌∷◌, ◌++◌, length, get_or, take, drop}
+use Rattle.std.specs.Prelude.{ℕ, suc, ◌≤◌, ◌<◌, ◌≡◌, refl, Bool, true, false, List, [], ◌∷◌, ◌++◌, length, take, drop}
 use Rattle.std.proofs.Common.{arith, ◌∙◌}
 use Rattle.std.proofs.Math.Path.{ap}
 use Rattle.std.proofs.Math.Option.{Option, none, some}
@@ -10,7 +10,7 @@ use Rattle.rules.specs.Lines.{Word, bytes}
 use Rattle.rules.specs.Schema.{Value}
 use Rattle.rules.specs.Reader.{Place, key, rest, key_of, rest_of, line_here, apply, one_of, no_field, one_field, name, count_field, word, literals}
 use Rattle.rules.specs.ReadExpression.{Head, star_head, value_head, operators, column_fields, call_fields, value_heads, heads}
-use Rattle.text.specs.Lines.{field, kept_fields, Fields}
+use Rattle.text.specs.Lines.{nth_field, field, kept_fields, Fields}
 use Rattle.text.specs.Words.{find, words_of, push, keys, nth, named_by, nth-none}
 use Rattle.text.specs.Reading.{place, key-is, rest-none, rest-other, with-one, with-two}
 use Rattle.text.specs.Records.{no-field, one_field_lem, two_fields_lem}
@@ -77,7 +77,7 @@ module _ (t : Bytes) (p l c n : ℕ) (r : Line) (f : Fields t p r) where
   without = rest-other statement t p l c n r f
 
   -- EXPRESSION RECORDS
-  module _ (k : ℕ) (words : Bytes) (e : keys others ≡ words_of words) (h : k ≡ find (words_of words) (take (get_or r.lens 0 0) (drop (get_or r.starts 0 0) t))) where
+  module _ (k : ℕ) (words : Bytes) (e : keys others ≡ words_of words) (h : k ≡ find (words_of words) (take (nth_field r.fields 0).length (drop (nth_field r.fields 0).start t))) where
     other-is : named others (key (here t p l c n)) ≡ nth others k
     other-is = ap (named others) (key-is statement t p l c n r f) ∙ named_by others words _ k e h
 
@@ -99,7 +99,7 @@ module _ (t : Bytes) (p l c n : ℕ) (r : Line) (f : Fields t p r) where
     at_op : k ≡ 0 → one_of heads (line_here (here t p l c n)) ≡ one_field (word operators) (rest (here t p l c n))
     at_op z = head-by (one_field (word operators)) (unfold others nth in rw z)
 
-    pub head-op : k ≡ 0 → r.count ≡ 2 → one_of heads (line_here (here t p l c n)) ≡ word operators (field most_bytes t (get_or r.starts 1 0) (get_or r.lens 1 0))
+    pub head-op : k ≡ 0 → r.count ≡ 2 → one_of heads (line_here (here t p l c n)) ≡ word operators (field most_bytes t (nth_field r.fields 1).start (nth_field r.fields 1).length)
     unfolding one_field
     head-op z m = at_op z ∙ rw (with-one t p l c n r f m)
 
@@ -109,11 +109,11 @@ module _ (t : Bytes) (p l c n : ℕ) (r : Line) (f : Fields t p r) where
     at-column : k ≡ 1 → one_of heads (line_here (here t p l c n)) ≡ column_fields (rest (here t p l c n))
     at-column z = head-by column_fields (unfold others nth in rw z)
 
-    pub head-column : k ≡ 1 → r.count ≡ 2 → one_of heads (line_here (here t p l c n)) ≡ column_fields (field most_bytes t (get_or r.starts 1 0) (get_or r.lens 1 0) ∷ [])
+    pub head-column : k ≡ 1 → r.count ≡ 2 → one_of heads (line_here (here t p l c n)) ≡ column_fields (field most_bytes t (nth_field r.fields 1).start (nth_field r.fields 1).length ∷ [])
     head-column z m = at-column z ∙ ap column_fields (with-one t p l c n r f m)
 
     pub head-qualified : k ≡ 1 → r.count ≡ 3
-        → one_of heads (line_here (here t p l c n)) ≡ column_fields (field most_bytes t (get_or r.starts 1 0) (get_or r.lens 1 0) ∷ field most_bytes t (get_or r.starts 2 0) (get_or r.lens 2 0) ∷ [])
+        → one_of heads (line_here (here t p l c n)) ≡ column_fields (field most_bytes t (nth_field r.fields 1).start (nth_field r.fields 1).length ∷ field most_bytes t (nth_field r.fields 2).start (nth_field r.fields 2).length ∷ [])
     head-qualified z m = at-column z ∙ ap column_fields (with-two t p l c n r f m)
 
     pub head-column-not : k ≡ 1 → (r.count ≡ 2 → ⊥) → (r.count ≡ 3 → ⊥) → one_of heads (line_here (here t p l c n)) ≡ none
@@ -123,7 +123,7 @@ module _ (t : Bytes) (p l c n : ℕ) (r : Line) (f : Fields t p r) where
     at_call z = head-by call_fields (unfold others nth in rw z)
 
     pub head-call : k ≡ 2 → r.count ≡ 3
-        → one_of heads (line_here (here t p l c n)) ≡ call_fields (field most_bytes t (get_or r.starts 1 0) (get_or r.lens 1 0) ∷ field most_bytes t (get_or r.starts 2 0) (get_or r.lens 2 0) ∷ [])
+        → one_of heads (line_here (here t p l c n)) ≡ call_fields (field most_bytes t (nth_field r.fields 1).start (nth_field r.fields 1).length ∷ field most_bytes t (nth_field r.fields 2).start (nth_field r.fields 2).length ∷ [])
     head-call z m = at_call z ∙ ap call_fields (with-two t p l c n r f m)
 
     pub head-call-not : k ≡ 2 → (r.count ≡ 3 → ⊥) → one_of heads (line_here (here t p l c n)) ≡ none

@@ -6,6 +6,7 @@ use Rattle.rules.specs.Limits.{most_cells}
 use Rattle.rules.specs.Lists.{Bytes}
 use Rattle.rules.specs.ReadExpression.{Head}
 use Rattle.ast.specs.Row.{number_of}
+use Rattle.ast.specs.declared.row.Kind.{Kind}
 use Rattle.read_expression.specs.declared.heads.Row.{Row}
 use Rattle.read_expression.specs.Encode.{head_numbers, arity}
 use Rattle.read_expression.specs.Fits.{HeadFits}
@@ -14,8 +15,8 @@ abbrev pub numbers_of : Row → List ℕ
 numbers_of r = number_of r.kind ∷ r.code ∷ r.a ∷ r.b ∷ r.c ∷ r.d ∷ []
 
 -- a row with no place and no literal
-abbrev pub Plain : Row → ℕ → ℕ → ℕ → Type 0
-Plain r kind code n = (numbers_of r ≡ kind ∷ code ∷ 0 ∷ 0 ∷ 0 ∷ 0 ∷ []) × (r.operands ≡ n)
+abbrev pub Plain : Row → Kind → ℕ → ℕ → Type 0
+Plain r kind code n = r ≡ record { code = code; a = 0; b = 0; c = 0; d = 0; operands = n; kind = kind }
 
 -- the row of a record of the statement t
 pub record RowIs (t : Bytes) (h : Head) (r : Row) : Type 0 where

@@ -1,5 +1,5 @@
 // What one record says of an expression, as the numbers of its row (specs/Table.antt).
-ghost use Rattle.std.specs.Prelude.{List, [], ◌∷◌, ℕ, ◌≤◌, Some};
+ghost use Rattle.std.specs.Prelude.{◌≡◌, List, [], ◌∷◌, ℕ, ◌≤◌, Some};
 ghost use Rattle.std.proofs.Math.Option.{Option, some};
 ghost use Rattle.rules.specs.Refusals.{statement};
 ghost use Rattle.rules.specs.Limits.{most_bytes};
@@ -12,7 +12,8 @@ ghost use Rattle.text.specs.Reading.{place};
 ghost use Rattle.text.specs.Fields.{Inside};
 ghost use Rattle.numbers.specs.Operators.{unary_operator, binary_operator};
 ghost use Rattle.literal.specs.Records.{IsLiteral};
-ghost use Rattle.ast.specs.Row.{number_of};
+ghost use Rattle.ast.specs.declared.row.Kind.TheVariants as K;
+ghost use Rattle.numbers.specs.Literals.{kind_number};
 ghost use Rattle.read_expression.specs.Reading.{LineAt};
 ghost use Rattle.read_expression.specs.RowOf.{Plain, RowOf};
 
@@ -20,8 +21,8 @@ use ast::row::Kind;
 use literal::record::literal_at;
 use numbers::literals::Literal;
 use numbers::operators::{Binary, Unary};
-use text::places::name_at;
-use text::{Line, MOST_BYTES};
+use text::places::{Place, name_at};
+use text::{Field, Line, MOST_BYTES};
 
 // A row but its line and its size, and how many operands follow its record. The code is an operator's, a literal's kind by its number, or how
 // many arguments a call has: a number, as it stands in the table.
@@ -38,7 +39,7 @@ pub struct Row {
 
 // A row with no place and no literal.
 fn plain_row(kind: Kind, code: u32, operands: u32) -> Row
-    ensures { Plain result (number_of kind) code operands }
+    ensures { Plain result kind code operands }
 {
     Row {
         kind,
@@ -93,75 +94,88 @@ fn operator(word: &[u8]) -> Option<Row>
 }
 
 // A column's name.
-fn column(a: usize, n: usize) -> Option<Row>
-    requires { (a ≤ 65536) × (n ≤ 65536) }
-    ensures { (t : List ℕ) → Inside t a n → RowOf t (column_fields (field most_bytes t a n ∷ [])) result }
+fn column(name: Field) -> Option<Row>
+    requires { (name.start ≤ 65536) × (name.length ≤ 65536) }
+    ensures { (t : List ℕ) → Inside t name.start name.length
+        → RowOf t (column_fields (field most_bytes t name.start name.length ∷ [])) result }
 {
-    let name = name_at(a, n)?;
+    let name = name_at(name)?;
     Some(Row {
-        kind: Kind::Column,
-        code: 0,
         a: name.address,
         b: name.length,
-        c: 0,
-        d: 0,
-        operands: 0,
+        ..plain_row(Kind::Column, 0, 0)
     })
 }
 
-// A column's table and name.
-fn qualified(a: usize, n: usize, b: usize, m: usize) -> Option<Row>
-    requires table { (a ≤ 65536) × (n ≤ 65536) }
-    requires name { (b ≤ 65536) × (m ≤ 65536) }
-    ensures { (t : List ℕ) → Inside t a n → Inside t b m
-        → RowOf t (column_fields (field most_bytes t a n ∷ field most_bytes t b m ∷ [])) result }
+// A qualified column by its table's name and its own.
+pub(crate) fn qualified_row(table: Place, name: Place) -> Row
+    ensures { result ≡ record {
+      code = 0;
+      a = name.address;
+      b = name.length;
+      c = table.address;
+      d = table.length;
+      operands = 0;
+      kind = K.Qualified;
+    } }
 {
-    let table = name_at(a, n)?;
-    let name = name_at(b, m)?;
-    Some(Row {
-        kind: Kind::Qualified,
-        code: 0,
+    Row {
         a: name.address,
         b: name.length,
         c: table.address,
         d: table.length,
-        operands: 0,
-    })
+        ..plain_row(Kind::Qualified, 0, 0)
+    }
+}
+
+// A column's table and name.
+fn qualified(table: Field, name: Field) -> Option<Row>
+    requires table { (table.start ≤ 65536) × (table.length ≤ 65536) }
+    requires name { (name.start ≤ 65536) × (name.length ≤ 65536) }
+    ensures { (t : List ℕ) → Inside t table.start table.length → Inside t name.start name.length → RowOf t
+        (column_fields (field most_bytes t table.start table.length ∷ field most_bytes t name.start name.length ∷ []))
+        result }
+{
+    let table = name_at(table)?;
+    let name = name_at(name)?;
+    Some(qualified_row(table, name))
 }
 
 // A function's name and the number of its arguments.
-fn call(a: usize, n: usize, arguments: &[u8]) -> Option<Row>
-    requires { (a ≤ 65536) × (n ≤ 65536) }
-    ensures { (t : List ℕ) (o : ℕ) → Inside t a n
-        → RowOf t (call_fields (field most_bytes t a n ∷ record { bytes = arguments.now; start = o } ∷ [])) result }
+fn call(name: Field, arguments: &[u8]) -> Option<Row>
+    requires { (name.start ≤ 65536) × (name.length ≤ 65536) }
+    ensures { (t : List ℕ) (o : ℕ) → Inside t name.start name.length → RowOf t
+        (call_fields (field most_bytes t name.start name.length ∷ record { bytes = arguments.now; start = o } ∷ []))
+        result }
 {
-    let name = name_at(a, n)?;
+    let name = name_at(name)?;
     let v = text::count(arguments)?;
     let k = v as u32;
     Some(Row {
-        kind: Kind::Call,
-        code: k,
         a: name.address,
         b: name.length,
-        c: 0,
-        d: 0,
-        operands: k,
+        ..plain_row(Kind::Call, k, k)
     })
 }
 
 // A literal as an expression.
-fn literal_row(literal: Literal) -> Row
-    ensures { (t : List ℕ) (o : Option Value) → IsLiteral most_bytes t o (Some literal)
+pub(crate) fn literal_row(literal: Literal) -> Row
+    ensures says { (t : List ℕ) (o : Option Value) → IsLiteral most_bytes t o (Some literal)
         → RowOf t (map_option value_head o) (Some result) }
+    ensures row { result ≡ record {
+      code = kind_number literal.kind;
+      a = literal.first;
+      b = literal.second;
+      c = 0;
+      d = 0;
+      operands = 0;
+      kind = K.Literal;
+    } }
 {
     Row {
-        kind: Kind::Literal,
-        code: u32::from(literal.kind),
         a: literal.first,
         b: literal.second,
-        c: 0,
-        d: 0,
-        operands: 0,
+        ..plain_row(Kind::Literal, u32::from(literal.kind), 0)
     }
 }
 
@@ -176,12 +190,12 @@ pub fn head(t: &[u8], p: usize, f: Line) -> Option<Row>
             _ => None,
         },
         text::words::COL => match f.count {
-            2 => column(f.starts[1], f.lens[1]),
-            3 => qualified(f.starts[1], f.lens[1], f.starts[2], f.lens[2]),
+            2 => column(f.fields[1]),
+            3 => qualified(f.fields[1], f.fields[2]),
             _ => None,
         },
         text::words::FN => match f.count {
-            3 => call(f.starts[1], f.lens[1], f.field(t, 2)),
+            3 => call(f.fields[1], f.field(t, 2)),
             _ => None,
         },
         text::words::STAR => match f.count {

@@ -2,9 +2,8 @@
 ghost use Rattle.std.specs.Prelude.{◌≡◌};
 ghost use Rattle.read_expression.specs.Starred.{with_starred};
 
-use crate::heads::Row;
+use crate::heads::qualified_row;
 use crate::reading::put_row;
-use ast::row::Kind;
 use ast::rows::{STARRED_ROWS, STATEMENT_ROWS, TABLE_SIZE};
 use text::places::Place;
 
@@ -15,17 +14,9 @@ pub fn put_starred(cells: &mut [u32], k: u32, line: u32, table: Place, name: Pla
     if STARRED_ROWS <= k {
         return;
     }
-    if cells.len() != TABLE_SIZE {
+    let Some(cells) = cells.as_mut_array::<TABLE_SIZE>() else {
         return;
-    }
-    let h = Row {
-        kind: Kind::Qualified,
-        code: 0,
-        a: name.address,
-        b: name.length,
-        c: table.address,
-        d: table.length,
-        operands: 0,
     };
+    let h = qualified_row(table, name);
     put_row(cells, STATEMENT_ROWS + k, line, 1, h);
 }

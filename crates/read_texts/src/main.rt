@@ -56,14 +56,8 @@ fn print<W: Write>(to: &mut W, texts: &Texts) -> std::io::Result<()>
 }
 
 fn main(rt: HostRuntime) -> Result<()> {
-    let mut catalog = [0u8; SIZE];
     let mut file = File::open(&rt, "catalog.txt").context("catalog.txt")?;
-    let n = input::read_text(&mut file, &mut catalog).context("catalog.txt")?;
-    let mut statement = [0u8; SIZE];
-    let m = input::read_text(&mut rt.stdin(), &mut statement).context("standard input")?;
-    let texts = Texts {
-        catalog: &catalog[..n],
-        statement: &statement[..m],
-    };
+    let (mut catalog, mut statement) = ([0u8; SIZE], [0u8; SIZE]);
+    let texts = input::read_texts(&mut file, &mut rt.stdin(), &mut catalog, &mut statement)?;
     print(&mut rt.stdout(), &texts).context("standard output")
 }

@@ -30,13 +30,10 @@ use Rattle.numbers.specs.Texts.{text_named}
 use Rattle.numbers.specs.declared.refusals.Text.TheVariants as T
 
 -- REFUSED
-never : {A : Type 0} {ρ : Refusal} {x : A} → refused ρ ≡ ok x → ⊥
-never e = let z : ◌≡◌ {A = ℕ} 0 1 = cc in omega arith
-
 module _ {c q : Bytes} {tables cells froms parts : List ℕ} where
   refused-read : (ρ : Refusal) → read_texts c q ≡ refused ρ → TextsRead c q tables cells froms parts (Err (record { reason = named ρ.reason; text = text_named ρ.text; line = ρ.line }))
   unfolding texts_of
-  refused-read ρ e = record { is = sym (ap texts_of e); stands = λ x z. absurd (never (sym e ∙ z)); stays = λ x z. absurd (never (sym e ∙ z)) }
+  refused-read ρ e = record { is = sym (ap texts_of e); stands = λ x z. grind arith; stays = λ x z. grind arith }
 
   pub catalog-long : most_bytes < length c → TextsRead c q tables cells froms parts (Err (record { reason = LimitPassed; text = T.Catalog; line = 0 }))
   unfolding read_texts named text_named
@@ -78,7 +75,7 @@ same_read ts (Ast.drop d) x e = cc
 same_read ts (Ast.delete d) x e = cc
 same_read ts (Ast.insert d) x e = cc
 same_read ts (Ast.update d) x e = cc
-same_read ts (Ast.other l) x e = absurd (never e)
+same_read ts (Ast.other l) x e = grind arith
 
 tables-length : (c q : Bytes) (s : List ℕ) (i n : ℕ) → length (tables_at c q s i n) ≡ n
 unfolding tables_at

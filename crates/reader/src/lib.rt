@@ -1,4 +1,4 @@
-// Both texts read: the catalog and the statement as numbers, or document 01's 2, 3 or 4.
+// Both texts read: the catalog and the statement as numbers, or the refusal of one.
 #![tactic(auto)]
 
 ghost use Rattle.std.specs.Prelude.{◌≡◌, ◌≤◌, length};
@@ -51,11 +51,8 @@ pub fn read_texts(
     if (text::MOST_BYTES as usize) < texts.statement.len() {
         return Err(Text::Statement.refuses(Reason::LimitPassed.at(0)));
     }
-    if let Err(w) = read_catalog(texts.catalog, tables) {
-        return Err(Text::Catalog.refuses(w));
-    }
-    match read_statement(texts.statement, cells, froms, parts) {
-        Ok(n) => taken(kind_of(parts), line(parts), n, tables[0]),
-        Err(w) => Err(Text::Statement.refuses(w)),
-    }
+    read_catalog(texts.catalog, tables).map_err(|w| Text::Catalog.refuses(w))?;
+    let read = read_statement(texts.statement, cells, froms, parts);
+    let count = read.map_err(|w| Text::Statement.refuses(w))?;
+    taken(kind_of(parts), line(parts), count, tables[0])
 }

@@ -137,7 +137,7 @@ fn report<W: Write>(to: &mut W, list: &[u8]) -> io::Result<()> {
     told
 }
 
-// Apart from `main`, whose proof does not close with all that `fill` ensures of so large a buffer.
+// Apart from `main`: with the call in it the proof was tried, and did not close.
 fn read_list<R: Read>(from: &mut R, list: &mut List) -> io::Result<usize>
     ensures { Within list.new result }
 {

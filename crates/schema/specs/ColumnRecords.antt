@@ -1,5 +1,5 @@
 -- The column's record, field by field.
-use Rattle.std.specs.Prelude.{ℕ, ◌≡◌, refl, Bool, true, false, List, [], ◌∷◌, length, get_or, take, drop, Ok, Err, Some, None}
+use Rattle.std.specs.Prelude.{ℕ, ◌≡◌, refl, Bool, true, false, List, [], ◌∷◌, length, take, drop, Ok, Err, Some, None}
 use Rattle.std.proofs.Common.{arith, ◌∙◌}
 use Rattle.std.proofs.Math.Path.{sym, ap}
 use Rattle.std.proofs.Math.Option.{Option, none, some}
@@ -11,7 +11,7 @@ use Rattle.rules.specs.Reader.{rest, name, word}
 use Rattle.rules.specs.ReadColumn.{column_fields, datatypes, nullables, ◌>>=◌}
 use Rattle.rules.specs.Places.{word_at}
 use Rattle.text.specs.declared.Line.{Line}
-use Rattle.text.specs.Lines.{Fields, field}
+use Rattle.text.specs.Lines.{nth_field, Fields, field}
 use Rattle.text.specs.Words.{words_of, push, keys, nth, named_by}
 use Rattle.text.specs.Packed.{Packed, find_number, packed-word}
 use Rattle.text.specs.Tables.{nullable-table}
@@ -50,16 +50,16 @@ module _ (n t u : Word) where
 
 -- its type and whether it may be null, by their words
 module _ (t : Bytes) (f : Line) (i : ℕ) where
-  type-as : {r : Option Datatype} → r ≡ named datatypes (take (get_or f.lens i 0) (drop (get_or f.starts i 0) t)) → word datatypes (field_of catalog t f i) ≡ r
+  type-as : {r : Option Datatype} → r ≡ named datatypes (take (nth_field f.fields i).length (drop (nth_field f.fields i).start t)) → word datatypes (field_of catalog t f i) ≡ r
   unfolding word field_of field
   type-as e = sym e
 
-  null-as : {r : Option Bool} → r ≡ named nullables (take (get_or f.lens i 0) (drop (get_or f.starts i 0) t)) → word nullables (field_of catalog t f i) ≡ r
+  null-as : {r : Option Bool} → r ≡ named nullables (take (nth_field f.fields i).length (drop (nth_field f.fields i).start t)) → word nullables (field_of catalog t f i) ≡ r
   unfolding word field_of field
   null-as e = sym e
 
 -- THE COLUMN'S LINE
-module _ (t : Bytes) (p line : ℕ) (f : Line) (g : Fields t p f) {b : Bool} (key : b ≡ same (take (get_or f.lens 0 0) (drop (get_or f.starts 0 0) t)) (bytes "column")) where
+module _ (t : Bytes) (p line : ℕ) (f : Line) (g : Fields t p f) {b : Bool} (key : b ≡ same (take (nth_field f.fields 0).length (drop (nth_field f.fields 0).start t)) (bytes "column")) where
   pub column-missing : b ≡ false → ColumnLine t p line (Ok None)
   unfolding column_said ColumnEnds column_here
   column-missing e = record { says = λ q l. sym (rw (column_here, at-is catalog t p l 0 0 f g (bytes "column"), ← key, e)); next = tt }
@@ -80,22 +80,22 @@ module _ (t : Bytes) (p line : ℕ) (f : Line) (g : Fields t p f) {b : Bool} (ke
       column-fields : (l : ℕ) (o : Option (Word × Datatype × Bool)) → column_fields (field_of catalog t f 1 ∷ field_of catalog t f 2 ∷ field_of catalog t f 3 ∷ []) ≡ o → column_fields (rest (here t p l)) ≡ o
       column-fields l o h = ap column_fields (rest-three catalog t p l 0 0 f g n) ∙ h
 
-      pub column-name : is_name (get_or f.lens 1 0) ≡ false → ColumnLine t p line (Err (record { reason = WrongRecord; line = line }))
+      pub column-name : is_name (nth_field f.fields 1).length ≡ false → ColumnLine t p line (Err (record { reason = WrongRecord; line = line }))
       column-name h = column-wrong (λ l. column-fields l none (column-name-no _ _ _ (name-no catalog t p l 0 0 f g 1 (omega arith) h)))
 
-      module _ (h : is_name (get_or f.lens 1 0) ≡ true) where
+      module _ (h : is_name (nth_field f.fields 1).length ≡ true) where
         named-as : (l : ℕ) → name (field_of catalog t f 1) ≡ some (field_of catalog t f 1)
         named-as l = name-yes catalog t p l 0 0 f g 1 (omega arith) h
 
-        pub column-type : none ≡ named datatypes (take (get_or f.lens 2 0) (drop (get_or f.starts 2 0) t)) → ColumnLine t p line (Err (record { reason = WrongRecord; line = line }))
+        pub column-type : none ≡ named datatypes (take (nth_field f.fields 2).length (drop (nth_field f.fields 2).start t)) → ColumnLine t p line (Err (record { reason = WrongRecord; line = line }))
         column-type m = column-wrong (λ l. column-fields l none (column-type-no _ _ _ (named-as l) (type-as t f 2 m)))
 
-        module _ (d : DataType) (m : some (type_of d) ≡ named datatypes (take (get_or f.lens 2 0) (drop (get_or f.starts 2 0) t))) where
-          pub column-null : none ≡ named nullables (take (get_or f.lens 3 0) (drop (get_or f.starts 3 0) t)) → ColumnLine t p line (Err (record { reason = WrongRecord; line = line }))
+        module _ (d : DataType) (m : some (type_of d) ≡ named datatypes (take (nth_field f.fields 2).length (drop (nth_field f.fields 2).start t))) where
+          pub column-null : none ≡ named nullables (take (nth_field f.fields 3).length (drop (nth_field f.fields 3).start t)) → ColumnLine t p line (Err (record { reason = WrongRecord; line = line }))
           column-null v = column-wrong (λ l. column-fields l none (column-null-no _ _ _ _ (named-as l) (type-as t f 2 m) (null-as t f 3 v)))
 
-          pub column-right : (b : Bool) → Position t p → some b ≡ named nullables (take (get_or f.lens 3 0) (drop (get_or f.starts 3 0) t))
-              → ColumnLine t p line (Ok (Some (record { name = record { address = get_or f.starts 1 0; length = get_or f.lens 1 0 }; datatype = d; nullable = b; next = f.next })))
+          pub column-right : (b : Bool) → Position t p → some b ≡ named nullables (take (nth_field f.fields 3).length (drop (nth_field f.fields 3).start t))
+              → ColumnLine t p line (Ok (Some (record { name = record { address = (nth_field f.fields 1).start; length = (nth_field f.fields 1).length }; datatype = d; nullable = b; next = f.next })))
           unfolding column_said ColumnEnds field_of
           column-right b w v = record {
             says = λ q l. sym (column-here l ∙ ap some (column-fields l _ (column-yes _ _ _ _ _ (named-as l) (type-as t f 2 m) (null-as t f 3 v)
@@ -103,7 +103,7 @@ module _ (t : Bytes) (p line : ℕ) (f : Line) (g : Fields t p f) {b : Bool} (ke
             next = g.next;
           }
             where
-              first : (q : Bytes) (l : ℕ) → field_of catalog t f 1 ≡ word_at t q (get_or f.starts 1 0) (get_or f.lens 1 0)
+              first : (q : Bytes) (l : ℕ) → field_of catalog t f 1 ≡ word_at t q (nth_field f.fields 1).start (nth_field f.fields 1).length
               first q l = field-here t q _ _ (field-most t p f g w 1 (omega arith))
 
 -- THE WORDS BY THEIR NUMBERS

@@ -14,7 +14,7 @@ use Rattle.rules.specs.ReadCatalog.{default_records}
 use Rattle.numbers.specs.Literals.{kind_number, given_value, literal-back}
 use Rattle.numbers.specs.Values.{value-back}
 use Rattle.text.specs.declared.Line.{Line}
-use Rattle.text.specs.Lines.{Fields}
+use Rattle.text.specs.Lines.{nth_field, Fields}
 use Rattle.text.specs.Order.{same_true, same_self}
 use Rattle.text.specs.Reading.{place, text_of, key-is, rest-none, rest-other}
 use Rattle.text.specs.Records.{no-field}
@@ -41,7 +41,7 @@ literal-named (e ∷ es) k r h = go (same e.0 k) refl (literal-named es k r h)
     go true g ih = rw (named, g)
     go false g ih = rw (named, g) ih
 
-module _ (t : Bytes) (p : ℕ) (f : Line) (g : Fields t p f) {b : Bool} (e : b ≡ same (take (get_or f.lens 0 0) (drop (get_or f.starts 0 0) t)) (bytes "nodefault")) (q : Bytes) (l : ℕ) where
+module _ (t : Bytes) (p : ℕ) (f : Line) (g : Fields t p f) {b : Bool} (e : b ≡ same (take (nth_field f.fields 0).length (drop (nth_field f.fields 0).start t)) (bytes "nodefault")) (q : Bytes) (l : ℕ) where
   module _ (h : b ≡ true) where
     none_here : one_of (default_records literals) (line_here (here t p l)) ≡ map_option (λ u. none) (no_field (rest (here t p l)))
     unfolding one_of key rest apply named default_records literals same bytes

@@ -13,7 +13,7 @@ use Rattle.rules.specs.ReadColumn.{column_fields}
 use Rattle.rules.specs.ReadCatalog.{table_fields}
 use Rattle.rules.specs.Places.{bytes_at, word_at}
 use Rattle.text.specs.declared.Line.{Line}
-use Rattle.text.specs.Lines.{Fields, line_end, field}
+use Rattle.text.specs.Lines.{nth_field, Fields, line_end, field}
 use Rattle.text.specs.Reading.{place, text_of, field-word, field-inside}
 use Rattle.numbers.specs.Literals.{given_value}
 use Rattle.numbers.specs.Datatypes.{type_of}
@@ -86,5 +86,5 @@ unfolding text_of base_address
 field-here t q a n h = field-word catalog t q a n h ∙ rw (zero-add a)
 
 -- a field's address and length are small
-pub field-most : (t : Bytes) (p : ℕ) (f : Line) → Fields t p f → Position t p → (i : ℕ) → i < f.count → get_or f.starts i 0 + get_or f.lens i 0 ≤ most_bytes
+pub field-most : (t : Bytes) (p : ℕ) (f : Line) → Fields t p f → Position t p → (i : ℕ) → i < f.count → (nth_field f.fields i).start + (nth_field f.fields i).length ≤ most_bytes
 field-most t p f g w i h = omega (arith, field-inside catalog t p 0 0 0 f g i w.within h, w.short)

@@ -5,7 +5,7 @@ use Rattle.std.proofs.Math.Numerals.{add-one}
 use Rattle.std.specs.Prelude.{◌≡◌, Bool, List, [], ◌∷◌, length, get_or, Some, None}
 use Rattle.std.specs.Prelude as std
 use Rattle.std.proofs.Math.Path.{refl, sym}
-use Rattle.std.proofs.Common.{ap, subst, ◌∙◌}
+use Rattle.std.proofs.Common.{ap, subst, ◌∙◌, ok_or}
 use Rattle.std.proofs.Math.Bool.{true, false}
 use Rattle.std.proofs.Math.Option.{Option, none, some}
 use Rattle.std.proofs.Math.Dec.{ltb}
@@ -15,7 +15,9 @@ use Rattle.rules.specs.Lines.{Word}
 use Rattle.rules.specs.Schema.{Column, Table, Catalog, get_table, column_at, default_at}
 use Rattle.rules.specs.Places.{bytes_at, word_at}
 use Rattle.numbers.specs.Values.{default_of}
-use Rattle.schema.specs.Layout.{table_start, column_start, column_of, columns_at, table_at, tables_at}
+use Rattle.numbers.specs.declared.refusals.Reason.TheVariants.{UnknownTable}
+use Rattle.numbers.specs.declared.refusals.Refusal.{Refusal}
+use Rattle.schema.specs.Layout.{table_start, column_start, column_of, columns_at, table_at, tables_at, catalog_at}
 
 -- what was found: a position, or none
 unfoldable pub found_of : std.Option ℕ → Option ℕ
@@ -112,6 +114,25 @@ module _ (c q : Bytes) (s : List ℕ) (x : Bytes) (n : ℕ) where
   unfolding table_named
   table-first None h = table-end (tables-passed n (omega arith) h) (omega arith)
   table-first (Some i) h = table-hit (tables-passed i (omega (arith, h.1)) h.3) h.1 refl refl refl h.2
+
+-- the position of the first table of the name x, or the refusal at line l where there is none
+pub record TablePosition (c q : Bytes) (s : List ℕ) (x : Bytes) (l : ℕ) (r : std.Result ℕ Refusal) : Type 0 where
+  pub is : std.MatchResult r (λ i. found_table c q s (Some i) ≡ table_from 0 (catalog_at c q s) x)
+      (λ w. (found_table c q s None ≡ table_from 0 (catalog_at c q s) x) × (w ≡ record { reason = UnknownTable; line = l }))
+
+module _ {c q : Bytes} {s : List ℕ} {x : Bytes} {l : ℕ} where
+  pub position-of : (r : std.Option ℕ) → found_table c q s r ≡ table_from 0 (catalog_at c q s) x
+      → TablePosition c q s x l (ok_or r (record { reason = UnknownTable; line = l }))
+  position-of (Some i) f = record { is = f }
+  position-of None f = record { is = (f, refl) }
+
+  module _ {r : std.Result ℕ Refusal} (p : TablePosition c q s x l r) where
+    pub position-found : (i : ℕ) → r ≡ std.Ok i → found_table c q s (Some i) ≡ table_from 0 (catalog_at c q s) x
+    position-found i e = rw e at p.is
+
+    pub position-missing : (w : Refusal) → r ≡ std.Err w
+        → (found_table c q s None ≡ table_from 0 (catalog_at c q s) x) × (w ≡ record { reason = UnknownTable; line = l })
+    position-missing w e = rw e at p.is
 
 -- COLUMNS
 -- the j-th of n columns of a table, which start with the f-th of all, is looked at next
@@ -223,10 +244,10 @@ module _ (s : List ℕ) (i j : ℕ) where
         (λ h z. rw (default-entry, entry-out c q s _ _ j h))
 
     module _ {k : ℕ} (e : Some k ≡ start_of s i j) where
-      pub name-there : {a n : ℕ} → a ≡ get_or s k 0 → n ≡ get_or s (k + 1) 0 → word_at c q a n ≡ name_at c q (table_at c q s i).columns j
+      pub name-there : word_at c q (get_or s k 0) (get_or s (k + 1) 0) ≡ name_at c q (table_at c q s i).columns j
       unfolding name_at table_at column_of
-      name-there ea en = by-start (Some k) e
-          (λ h z. rw (ea, en, at_same z, name_at, entry_in c q s _ _ j h))
+      name-there = by-start (Some k) e
+          (λ h z. rw (at_same z, name_at, entry_in c q s _ _ j h))
           (λ h z. absurd (never (sym z)))
 
       pub default-there : {a x y : ℕ} → a ≡ get_or s (k + 4) 0 → x ≡ get_or s (k + 5) 0 → y ≡ get_or s (k + 6) 0 → default_of c q a x y ≡ default_at (table_at c q s i).columns j
@@ -240,3 +261,7 @@ pub columns-length : (c q : Bytes) (s : List ℕ) (j n : ℕ) → length (column
 unfolding columns_at
 columns-length c q s j zero = refl
 columns-length c q s j (suc n) = ap suc (columns-length c q s (suc j) n)
+
+pub columns-counted : (c q : Bytes) (s : List ℕ) (i : ℕ) → length (table_at c q s i).columns ≡ get_or s (table_start i + 4) 0
+unfolding table_at
+columns-counted c q s i = columns-length c q s _ _

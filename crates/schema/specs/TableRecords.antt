@@ -13,7 +13,7 @@ use Rattle.rules.specs.Reader.{rest, name, count_field, both, two_fields}
 use Rattle.rules.specs.ReadCatalog.{table_fields}
 use Rattle.rules.specs.Places.{bytes_at, word_at}
 use Rattle.text.specs.declared.Line.{Line}
-use Rattle.text.specs.Lines.{Fields, field}
+use Rattle.text.specs.Lines.{nth_field, Fields, field}
 use Rattle.text.specs.Numbers.{is_name}
 use Rattle.text.specs.Reading.{field_of, at-is, rest-two, rest-other, name-yes, name-no}
 use Rattle.text.specs.Order.{same-swap}
@@ -73,7 +73,7 @@ module _ (w v : Word) where
   unfolding two_fields both
   two-yes k e f = rw (e, f)
 
-module _ (t : Bytes) (s : List ℕ) (n p : ℕ) (f : Line) (g : Fields t p f) {b : Bool} (key : b ≡ same (take (get_or f.lens 0 0) (drop (get_or f.starts 0 0) t)) (bytes "table")) where
+module _ (t : Bytes) (s : List ℕ) (n p : ℕ) (f : Line) (g : Fields t p f) {b : Bool} (key : b ≡ same (take (nth_field f.fields 0).length (drop (nth_field f.fields 0).start t)) (bytes "table")) where
   pub table-missing : b ≡ false → TableLine t s n p None
   unfolding table_said TableEnds table_here
   table-missing e = record { says = λ q l. sym (rw (table_here, at-is catalog t p l 0 0 f g (bytes "table"), ← key, e)); next = tt }
@@ -94,22 +94,22 @@ module _ (t : Bytes) (s : List ℕ) (n p : ℕ) (f : Line) (g : Fields t p f) {b
       table-fields : (l : ℕ) (o : Option (Word × ℕ)) → two_fields name count_field (field_of catalog t f 1 ∷ field_of catalog t f 2 ∷ []) ≡ o → two_fields name count_field (rest (here t p l)) ≡ o
       table-fields l o h = ap (two_fields name count_field) (rest-two catalog t p l 0 0 f g m) ∙ h
 
-      pub table-name : is_name (get_or f.lens 1 0) ≡ false → TableLine t s n p None
+      pub table-name : is_name (nth_field f.fields 1).length ≡ false → TableLine t s n p None
       table-name h = table-wrong (λ l. table-fields l none (two-name-no _ _ (name-no catalog t p l 0 0 f g 1 (omega arith) h)))
 
-      module _ (h : is_name (get_or f.lens 1 0) ≡ true) where
+      module _ (h : is_name (nth_field f.fields 1).length ≡ true) where
         table-named : (l : ℕ) → name (field_of catalog t f 1) ≡ some (field_of catalog t f 1)
         table-named l = name-yes catalog t p l 0 0 f g 1 (omega arith) h
 
-        counted : (v : Option ℕ) → ((o : ℕ) → v ≡ count_field (record { bytes = take (get_or f.lens 2 0) (drop (get_or f.starts 2 0) t); start = o })) → count_field (field_of catalog t f 2) ≡ v
+        counted : (v : Option ℕ) → ((o : ℕ) → v ≡ count_field (record { bytes = take (nth_field f.fields 2).length (drop (nth_field f.fields 2).start t); start = o })) → count_field (field_of catalog t f 2) ≡ v
         unfolding field_of field
         counted v e = sym (e _)
 
-        pub table-key : ((o : ℕ) → none ≡ count_field (record { bytes = take (get_or f.lens 2 0) (drop (get_or f.starts 2 0) t); start = o })) → TableLine t s n p None
+        pub table-key : ((o : ℕ) → none ≡ count_field (record { bytes = take (nth_field f.fields 2).length (drop (nth_field f.fields 2).start t); start = o })) → TableLine t s n p None
         table-key z = table-wrong (λ l. table-fields l none (two-count-no _ _ (table-named l) (counted none z)))
 
-        module _ {k : ℕ} (z : (o : ℕ) → some k ≡ count_field (record { bytes = take (get_or f.lens 2 0) (drop (get_or f.starts 2 0) t); start = o })) (w : Position t p) {x : Bool} (ex : x ≡ any (same (bytes_at t t (get_or f.starts 1 0) (get_or f.lens 1 0))) (names t s n)) where
-          table-first : (q : Bytes) (l : ℕ) → field_of catalog t f 1 ≡ word_at t q (get_or f.starts 1 0) (get_or f.lens 1 0)
+        module _ {k : ℕ} (z : (o : ℕ) → some k ≡ count_field (record { bytes = take (nth_field f.fields 2).length (drop (nth_field f.fields 2).start t); start = o })) (w : Position t p) {x : Bool} (ex : x ≡ any (same (bytes_at t t (nth_field f.fields 1).start (nth_field f.fields 1).length)) (names t s n)) where
+          table-first : (q : Bytes) (l : ℕ) → field_of catalog t f 1 ≡ word_at t q (nth_field f.fields 1).start (nth_field f.fields 1).length
           unfolding field_of
           table-first q l = field-here t q _ _ (field-most t p f g w 1 (omega arith))
 
@@ -124,7 +124,7 @@ module _ (t : Bytes) (s : List ℕ) (n p : ℕ) (f : Line) (g : Fields t p f) {b
           unfolding table_said TableEnds
           table_taken y = record { says = λ q l. sym (table_here_lem l ∙ fields-taken _ _ _ _ (table-both l) (table-any l ∙ y)); next = tt }
 
-          pub table-right : x ≡ false → TableLine t s n p (Some (record { name = record { address = get_or f.starts 1 0; length = get_or f.lens 1 0 }; key = k; next = f.next }))
+          pub table-right : x ≡ false → TableLine t s n p (Some (record { name = record { address = (nth_field f.fields 1).start; length = (nth_field f.fields 1).length }; key = k; next = f.next }))
           unfolding table_said TableEnds
           table-right y = record {
             says = λ q l. sym (table_here_lem l ∙ fields-some _ _ _ _ (table-both l) (table-any l ∙ y) ∙ ap (λ v. some (v, k)) (table-first q l));

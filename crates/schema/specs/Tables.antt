@@ -23,7 +23,7 @@ use Rattle.schema.specs.Records.{Position, here, names, table_here, table_said, 
 use Rattle.text.specs.Answers.{bind_ok, bind-no, then_ok, then-no, within-wrong, within-limit, within-ok, prefixed, give-first}
 use Rattle.schema.specs.Search.{columns-length}
 use Rattle.numbers.specs.Kept.{Kept, kept-part, kept_on, kept_sets, kept-sets-behind}
-use Rattle.numbers.specs.Stores.{Stored, stored-first, stored-sets, sets-append}
+use Rattle.numbers.specs.Stores.{Stored, stored-first, stored-sets}
 use Rattle.schema.specs.Room.{least_column, numbers_for}
 use Rattle.schema.specs.Store.{columns-kept, Ranges, names-kept, ranges-kept, tables-kept}
 use Rattle.schema.specs.Columns.{columns, ColumnReady, line-position}
@@ -183,13 +183,7 @@ module _ {t : Bytes} {s : List ℕ} {p l n f : ℕ} (w : TableReady t s p l n f)
           unfolding tables_from TableMoves reason_of place
           table-key v = record { says = λ q fuel. sym (tables-key _ fuel n _ _ _ left _ _ (said q) g _ _ (columns-done q) (rw (columns-length t q s₁ f m) v)); moves = tt }
 
-          module _ (v : k < m) {s₂ : List ℕ} {i : ℕ} (ei : i ≡ table_start n) (n₁ : length s₁ ≡ length s) (e₂ : s₂ ≡ sets s₁ i (a ∷ b ∷ k ∷ f ∷ [])) (n₂ : length s₂ ≡ length s₁) where
-            abbrev s₃ : List ℕ
-            s₃ = set s₂ (i + 4) m
-
-            five : s₃ ≡ sets s₁ i (a ∷ b ∷ k ∷ f ∷ m ∷ [])
-            five = rw e₂ (sym (sets-append (a ∷ b ∷ k ∷ f ∷ []) (m ∷ []) s₁ i))
-
+          module _ (v : k < m) {s₃ : List ℕ} {i : ℕ} (ei : i ≡ table_start n) (n₁ : length s₁ ≡ length s) (five : s₃ ≡ sets s₁ i (a ∷ b ∷ k ∷ f ∷ m ∷ [])) where
             stands : Stored s₃ i (a ∷ b ∷ k ∷ f ∷ m ∷ [])
             stands = rw five (stored-sets s₁ i (a ∷ b ∷ k ∷ f ∷ m ∷ []) (omega (arith, w.room)))
 

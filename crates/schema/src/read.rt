@@ -10,9 +10,9 @@ ghost use Rattle.schema.specs.Tables.{TableReady, TableRead};
 ghost use Rattle.schema.specs.TableRuns.{catalog_of, catalog_answer};
 
 use crate::record::{Cursor, column_record, default_record, table_record};
-use crate::{COLUMN_SIZE, COLUMNS, NUMBERS, TABLE_SIZE, TABLES};
+use crate::{COLUMN_SIZE, COLUMNS, NUMBERS, column_start, table_start};
 use numbers::literals::put_given;
-use numbers::put_four;
+use numbers::put;
 use numbers::refusals::{Reason, Refusal};
 
 // Most tables a catalog.
@@ -52,10 +52,14 @@ fn read_column(
     let Some(d) = default_record(catalog, c.next, f) else {
         return Err(Reason::WrongRecord.at(at.line + 1));
     };
-    let i = COLUMNS + COLUMN_SIZE * (first + index as usize);
+    let i = column_start(first + index as usize);
     let datatype = u32::from(c.datatype);
     let nullable = u32::from(c.nullable);
-    put_four(tables, i, c.name.address, c.name.length, datatype, nullable);
+    put(
+        tables,
+        i,
+        [c.name.address, c.name.length, datatype, nullable],
+    );
     put_given(tables, i + 4, d);
     Ok(Some(f.next))
 }
@@ -108,16 +112,18 @@ fn read_table(
     if run.count <= h.key {
         return Err(Reason::WrongRecord.at(at.line));
     }
-    let i = TABLES + TABLE_SIZE * (index as usize);
-    put_four(
+    let i = table_start(index);
+    put(
         tables,
         i,
-        h.name.address,
-        h.name.length,
-        h.key,
-        first as u32,
+        [
+            h.name.address,
+            h.name.length,
+            h.key,
+            first as u32,
+            run.count,
+        ],
     );
-    tables[i + 4] = run.count;
     Ok(run)
 }
 

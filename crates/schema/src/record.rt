@@ -63,7 +63,7 @@ pub fn column_record(catalog: &[u8], at: Cursor) -> Result<Option<ColumnRecord>,
     if f.count != 4 {
         return Err(Reason::WrongRecord.at(at.line));
     }
-    if !text::is_name(f.lens[1]) {
+    if !text::is_name(f.fields[1].length) {
         return Err(Reason::WrongRecord.at(at.line));
     }
     let Some(datatype) = words::datatype(f.field(catalog, 2)) else {
@@ -74,8 +74,8 @@ pub fn column_record(catalog: &[u8], at: Cursor) -> Result<Option<ColumnRecord>,
     };
     Ok(Some(ColumnRecord {
         name: Place {
-            address: f.starts[1] as u32,
-            length: f.lens[1] as u32,
+            address: f.fields[1].start as u32,
+            length: f.fields[1].length as u32,
         },
         datatype,
         nullable,
@@ -95,13 +95,13 @@ pub fn table_record(catalog: &[u8], tables: &[u32], n: u32, at: usize) -> Option
     if f.count != 3 {
         return None;
     }
-    if !text::is_name(f.lens[1]) {
+    if !text::is_name(f.fields[1].length) {
         return None;
     }
     let k = text::count(f.field(catalog, 2))?;
     let name = Place {
-        address: f.starts[1] as u32,
-        length: f.lens[1] as u32,
+        address: f.fields[1].start as u32,
+        length: f.fields[1].length as u32,
     };
     let texts = Texts {
         catalog,

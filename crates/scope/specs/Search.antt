@@ -1,6 +1,8 @@
 -- The searches of a lookup: one that has come to the i-th label, and one for a match.
 use Rattle.std.specs.Prelude.{ℕ, zero, suc, ◌+◌, ◌-◌, ◌≤◌, ◌<◌, ◌≡◌, Bool, true, false, not, List, [], ◌∷◌, ◌++◌, map, length, get_or, take, drop, Result, Ok, Err, is_some}
 use Rattle.std.specs.Prelude as std
+use Rattle.std.specs.Result.{IsErrAnd}
+use Rattle.std.proofs.lemmas.Result.{err_from_is_err_and}
 use Rattle.std.proofs.Common.{arith, ◌∙◌}
 use Rattle.std.proofs.Math.Numerals.{add-one}
 use Rattle.std.proofs.Math.Path.{refl, sym, ap}
@@ -106,6 +108,16 @@ module _ {F : rules.Scope → List ℕ → rules.Found} {t : Label → Bool} {f 
       → Sought F (positions t 0 (map f xs)) ms (Ok j)
   unfolding hits found_of
   seek-one {j = j} l z e = record { is = λ s d g. sym (k.rest s) ∙ rw (z, positions-end t f xs i l) (e s j) }
+
+  -- the answer, by what was hit
+  pub seek-end : {ms : List ℕ} {r : Result ℕ Reason} {Q : Reason → Type 0} → length xs ≤ i → std.MatchOption h (IsErrAnd r Q) (λ j. r ≡ Ok j)
+      → ((m : Reason) → Q m → Missing ms m) → ((s : rules.Scope) → F s [] ≡ not_found s) → ((s : rules.Scope) (j : ℕ) → F s (j ∷ []) ≡ rules.at j)
+      → Sought F (positions t 0 (map f xs)) ms r
+  seek-end {ms} {r} {Q} l c m e g = go h refl c
+    where
+      go : (o : std.Option ℕ) → h ≡ o → std.MatchOption o (IsErrAnd r Q) (λ j. r ≡ Ok j) → Sought F (positions t 0 (map f xs)) ms r
+      go std.None z c = let p = err_from_is_err_and r c in rw p.1 (seek-none l z e (m p.0 p.2))
+      go (std.Some j) z c = rw c (seek-one l z g)
 
 -- FROM THE END
 split_step : (b : Bool) (k : ℕ) (ps qs rs : List ℕ) → ps ≡ qs ++ rs

@@ -3,7 +3,6 @@
 
 mod endings;
 pub mod expressions;
-pub mod hidden;
 pub mod labels;
 pub mod lookup;
 pub mod matched;
@@ -93,10 +92,10 @@ impl Scope {
             labels[j as usize] = label(1, column_name(catalog, i, j));
         }
         Scope {
-            labels: labels,
+            labels,
             matches: [0u16; COLUMNS],
-            tables: tables,
-            width: width,
+            tables,
+            width,
             count: 1,
             hidden: 0,
         }
@@ -104,9 +103,9 @@ impl Scope {
 
     // A child scope of at most 256 groups and aggregates, by the rows of their expressions: each is matched to its row,
     // and has the label that it passes on.
-    pub fn add_aggregates(self, exprs: &Expressions, rows: &[usize]) -> Scope
-        requires { Aggregable self exprs.now.table.now rows.now }
-        ensures { AggregatesAdded exprs.now.texts.catalog.now exprs.now.texts.statement.now exprs.now.table.now self
+    pub fn add_aggregates(&self, exprs: &Expressions, rows: &[usize]) -> Scope
+        requires { Aggregable self.now exprs.now.table.now rows.now }
+        ensures { AggregatesAdded exprs.now.texts.catalog.now exprs.now.texts.statement.now exprs.now.table.now self.now
             rows.now result }
     {
         let view = self.view();
@@ -117,8 +116,8 @@ impl Scope {
             matches[j] = match_number(r);
         }
         Scope {
-            labels: labels,
-            matches: matches,
+            labels,
+            matches,
             tables: self.tables,
             width: rows.len() as u32,
             count: self.count,
@@ -140,9 +139,9 @@ impl Scope {
     }
 
     // Another scope's columns and tables behind its own.
-    pub fn merge(mut self, other: Scope) -> Scope
-        requires { Mergeable self other }
-        ensures { Merged self other result }
+    pub fn merge(mut self, other: &Scope) -> Scope
+        requires { Mergeable self other.now }
+        ensures { Merged self other.now result }
     {
         let w = self.width as usize;
         let t = self.count as usize;
@@ -185,7 +184,7 @@ impl Scope {
     {
         overwrite(&mut self.labels, 0, labels);
         for (j, &r) in rows.iter().enumerate() {
-            self.matches[j] = new_match(exprs, &self.matches, j as u32, r);
+            self.matches[j] = new_match(exprs, first(&self.matches, j), r);
         }
         self.width = rows.len() as u32;
         self.hidden = 0;
@@ -198,7 +197,7 @@ impl Scope {
         ensures { HiddenAdded exprs.now.texts.catalog.now exprs.now.texts.statement.now exprs.now.table.now self x m result }
     {
         let w = self.width as usize;
-        let passed = pass_match(exprs, &self.matches, self.width, m);
+        let passed = pass_match(exprs, first(&self.matches, w), m);
         self.labels[w] = x;
         self.matches[w] = passed;
         self.width += 1;

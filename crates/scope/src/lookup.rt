@@ -87,10 +87,7 @@ impl View<'_> {
                 hit = Some(i as u32);
             }
         }
-        match hit {
-            Some(i) => Ok(i),
-            None => Err(not_found(self.matches)),
-        }
+        hit.ok_or_else(|| not_found(self.matches))
     }
 
     // The last column of a name whose table has a name.
@@ -135,7 +132,7 @@ impl View<'_> {
             (qualifier_of texts.now.catalog.now texts.now.statement.now qualifier)
             (word_at texts.now.catalog.now texts.now.statement.now name.address name.length) result }
     {
-        if self.labels.len() == 0 {
+        if self.labels.is_empty() {
             return Err(Reason::ConstantOnly);
         }
         let sought = texts.bytes_at(name);

@@ -1,5 +1,5 @@
 // The columns that hold a whole expression: groups, aggregates, items (planner.rs, Scope::lookup_aggregate).
-ghost use Rattle.std.specs.Prelude.{◌≡◌, ◌<◌, IfSome, length, take};
+ghost use Rattle.std.specs.Prelude.{◌≡◌, ◌<◌, IfSome, length};
 ghost use Rattle.rules.specs.Scope.{match_at};
 ghost use Rattle.ast.specs.Expressions.{tree_in};
 ghost use Rattle.scope.specs.Scopes.{matches_of};
@@ -9,7 +9,6 @@ ghost use Rattle.scope.specs.NewMatch.{match_number, new_match, pass_match};
 use super::view::View;
 use ast::Expressions;
 use ast::equality::equal;
-use numbers::first;
 
 // The first match that is equal to the expression at row r. Where the rows are of two kinds, `equal` goes no further.
 fn matched(exprs: &Expressions, matches: &[u16], r: usize) -> Option<usize>
@@ -41,25 +40,23 @@ pub fn match_number(r: usize) -> u16
     r.min(MOST_ROW) as u16 + 1
 }
 
-// What is matched to a column behind the first n: row r, or nothing where an equal expression is matched before.
-pub fn new_match(exprs: &Expressions, matches: &[u16], n: u32, r: usize) -> u16
-    ensures { result ≡ new_match (tree_in exprs.now)
-        (take n matches.now) r }
+// What is matched to a column behind those of `matches`: row r, or nothing where an equal expression is matched before.
+pub fn new_match(exprs: &Expressions, matches: &[u16], r: usize) -> u16
+    ensures { result ≡ new_match (tree_in exprs.now) matches.now r }
 {
-    match matched(exprs, first(matches, n as usize), r) {
+    match matched(exprs, matches, r) {
         Some(_) => 0,
         None => match_number(r),
     }
 }
 
-// What is matched to a column that is passed on behind the first n: its match, or nothing where an equal expression is
+// What is matched to a column that is passed on behind those of `matches`: its match, or nothing where an equal expression is
 // matched before.
-pub fn pass_match(exprs: &Expressions, matches: &[u16], n: u32, m: u16) -> u16
-    ensures { result ≡ pass_match (tree_in exprs.now)
-        (take n matches.now) m }
+pub fn pass_match(exprs: &Expressions, matches: &[u16], m: u16) -> u16
+    ensures { result ≡ pass_match (tree_in exprs.now) matches.now m }
 {
     if m == 0 {
         return 0;
     }
-    new_match(exprs, matches, n, m as usize - 1)
+    new_match(exprs, matches, m as usize - 1)
 }

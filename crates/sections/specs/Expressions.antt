@@ -3,7 +3,7 @@ use Prim.Native.Nat.{ℕ, zero, suc, ◌+◌, ◌-◌, ◌^◌, ◌<◌, ◌≤�
 use Rattle.std.proofs.Common.{arith, ◌∙◌}
 use Rattle.std.specs.Prelude.{◌≡◌, true, false, List, [], ◌∷◌, eqb, length, unwrap_or}
 use Rattle.std.specs.Prelude as std
-use Rattle.std.proofs.Math.Path.{refl, sym, ap}
+use Rattle.std.proofs.Math.Path.{refl, ap}
 use borrow.Author.Tests.{eq-eqb, ne_eqb}
 use Rattle.rules.specs.Lists.{Bytes}
 use Rattle.rules.specs.Ast.{Expr, Exprs, star, nil, cons, list_of}
@@ -48,14 +48,11 @@ module _ (e : Entry) where
   unfolding first_row expr_row
   given-row {r} h = go e.expressions refl
     where
-      some_same : {x y : ℕ} → std.Some x ≡ std.Some y → x ≡ y
-      some_same g = cc
-
       go : (n : ℕ) → e.expressions ≡ n → (e.expressions ≡ 0 → ⊥) × (r ≡ expr_row e)
       go zero z = let g : std.Some r ≡ std.None = h ∙ row-none z in cc
       go (suc n) z =
           let m : (e.expressions ≡ 0 → ⊥) = λ f. omega (arith, z, f) in
-          (m, some_same (h ∙ row-some m) ∙ sym (first_some m))
+          (m, ap (λ o. unwrap_or o outside_row) h)
 
   pub no-row : std.None ≡ first_row e → e.expressions ≡ 0
   unfolding first_row

@@ -67,17 +67,15 @@ unfoldable pub entry_start : ℕ → ℕ → ℕ
 entry_start kind n = start_of kind + 1 + 12 * n
 
 -- the n-th entry may stand at p, on line l, behind c rows
-pub record EntryReady (t : Bytes) (p l c kind n : ℕ) (cells parts : List ℕ) : Type 0 where
+pub record EntryReady (t : Bytes) (p l c kind n : ℕ) : Type 0 where
   pub position : Position t p l c
   pub kinds : kind ≤ 11
   pub most : n ≤ most_of kind
-  pub cells-room : length cells ≡ table_size
-  pub parts-room : length parts ≡ numbers
 
 -- its numbers lie in the parts
-pub entry-room : {t : Bytes} {p l c kind n : ℕ} {cells parts : List ℕ} → EntryReady t p l c kind n cells parts → n < most_of kind → {i : ℕ} → i ≡ entry_start kind n → i + 12 ≤ length parts
+pub entry-room : {t : Bytes} {p l c kind n : ℕ} → EntryReady t p l c kind n → n < most_of kind → (parts : List ℕ) → length parts ≡ numbers → {i : ℕ} → i ≡ entry_start kind n → i + 12 ≤ length parts
 unfolding entry_start
-entry-room {t} {p} {l} {c} {kind} {n} w m e = omega (arith, w.parts-room, entry-within kind w.kinds n m, e)
+entry-room {t} {p} {l} {c} {kind} {n} w m parts g e = omega (arith, g, entry-within kind w.kinds n m, e)
 
 -- an entry that was read, behind one named b, and the name of it
 pub record EntryTook (t : Bytes) (p l c kind n : ℕ) (b : Option Bytes) (cells cells' parts parts' : List ℕ) (k p' l' c' : ℕ) (b' : Option Bytes) : Type 0 where
@@ -114,7 +112,7 @@ numbers_as {t} {kind} {b} {p} {r} v l c = ap (λ xs. l ∷ v.head.expressions �
 entered-twelve : {t : Bytes} {kind : ℕ} {b : Option Bytes} {p : Place} {r : Head} (v : Entered t kind b p r) (l c : ℕ) → length (l ∷ r.expressions ∷ c ∷ numbers_of r) ≡ 12
 entered-twelve v l c = sym (ap length (numbers_as v l c)) ∙ entry-twelve l c v.head
 
-module _ {t : Bytes} {p l c kind n : ℕ} {cells parts : List ℕ} (w : EntryReady t p l c kind n cells parts) (last : std.Option places.Place) {said : Result (std.Option Head) code.Refusal}
+module _ {t : Bytes} {p l c kind n : ℕ} (cells parts : List ℕ) (w : EntryReady t p l c kind n) (last : std.Option places.Place) {said : Result (std.Option Head) code.Refusal}
     (h : (l' c' k : ℕ) → IsHead t kind (last_name t last) l (here t p l' c' k) said) where
   pub entry-end : said ≡ Ok None → (k : ℕ) → EntryRead t p l c kind n last cells cells parts parts k (Ok None)
   unfolding EntryRead
@@ -136,10 +134,10 @@ module _ {t : Bytes} {p l c kind n : ℕ} {cells parts : List ℕ} (w : EntryRea
       moved : p < e
       moved = omega (arith, ee, line-moves t p (keyword-inside kind w.kinds t p l c 0 (entered 0).stands))
 
-      pub entry_next : Position t e (l + 1) c × ((r.expressions ≤ 513) × (length cells ≡ table_size))
+      pub entry_next : Position t e (l + 1) c × (r.expressions ≤ 513)
       entry_next = (
         record { short = w.position.short; within = omega (arith, ee, line-most t p, w.position.within); line = omega (arith, moved, w.position.line); rows = w.position.rows },
-        ((entered 0).few, w.cells-room),
+        (entered 0).few,
       )
 
       at_next : (k : ℕ) → next (here t p l c k) ≡ here t e (l + 1) c k
@@ -167,12 +165,12 @@ module _ {t : Bytes} {p l c kind n : ℕ} {cells parts : List ℕ} (w : EntryRea
           unfolding entry_start
           start-next = omega arith
 
-          module _ {i : ℕ} (ei : i ≡ entry_start kind n) {parts' : List ℕ} (v : parts' ≡ sets parts i (l ∷ r.expressions ∷ c ∷ numbers_of r)) where
+          module _ {i : ℕ} (ei : i ≡ entry_start kind n) {parts' : List ℕ} (v : parts' ≡ sets parts i (l ∷ r.expressions ∷ c ∷ numbers_of r)) (cl : length cells ≡ table_size) (pl : length parts ≡ numbers) where
             u : parts' ≡ sets parts (entry_start kind n) (l ∷ r.expressions ∷ c ∷ numbers_of r)
             u = v ∙ ap (λ j. sets parts j (l ∷ r.expressions ∷ c ∷ numbers_of r)) ei
 
             stored : (k : ℕ) → Stored parts' (entry_start kind n) (entry_numbers l c (entered k).head)
-            stored k = rw (u, numbers_as (entered k) l c) (stored-sets parts (entry_start kind n) (l ∷ r.expressions ∷ c ∷ numbers_of r) (rw (entered-twelve (entered k) l c) (entry-room w m refl)))
+            stored k = rw (u, numbers_as (entered k) l c) (stored-sets parts (entry_start kind n) (l ∷ r.expressions ∷ c ∷ numbers_of r) (rw (entered-twelve (entered k) l c) (entry-room w m parts pl refl)))
 
             pub entry-took : (k : ℕ) → EntryRead t p l c kind n last cells cells' parts parts' k (Ok (Some (record { at = q; count = n + 1; last = r.name })))
             unfolding EntryRead place
@@ -192,7 +190,7 @@ module _ {t : Bytes} {p l c kind n : ℕ} {cells parts : List ℕ} (w : EntryRea
                     few = m;
                     stands = λ cells'' parts'' α β b.
                         let f : Kept (entry_start kind n) (entry_start kind n + length (entry_numbers l c d.head)) parts' parts'' = rw (entry-twelve l c d.head, start-next) β in
-                        let z' = rows_back x.holds w.cells-room x.position.rows cells'' α b in
+                        let z' = rows_back x.holds cl x.position.rows cells'' α b in
                         let z = times-count d.head.expressions expression _ _ es x.is in
                         entry-back b t cells'' parts'' (entry_start kind n) l c d.head (d.named b) (d.refers b)
                         (stored-kept _ _ f (omega arith) (omega arith) (stored k)) es (ap (λ z. arguments_at (tree_at b t cells'') cells'' z c) (sym z)

@@ -21,7 +21,7 @@ use Rattle.entries.specs.Heads.{last_name}
 use Rattle.sections.specs.Terms.{end_of, SectionRead}
 use Rattle.sections.specs.Kinds.{end-within, turns-once, turns_more, turns-some}
 use Rattle.numbers.specs.Kept.{Kept, kept-part, kept_on, kept_set, kept-all, kept-first, kept-set-behind}
-use Rattle.ast.specs.Table.{row_size, table_size}
+use Rattle.ast.specs.Table.{row_size}
 use Rattle.sections.specs.Store.{entries-more}
 use Rattle.sections.specs.OneEntry.{entry_start, EntryReady, EntryTook, EntryRead}
 use Rattle.numbers.specs.declared.refusals.Refusal as code
@@ -135,9 +135,8 @@ section-begin t p l c kind cells parts w k =
 
 module _ {t : Bytes} {p₀ l₀ c₀ kind : ℕ} {cells₀ parts₀ : List ℕ} {p l c n : ℕ} {last : std.Option places.Place} {cells parts : List ℕ}
     (h : (k : ℕ) → SectionLoop t p₀ l₀ c₀ kind cells₀ parts₀ k p l c n last cells parts) where
-  pub section-ready : kind ≤ 11 → length cells ≡ table_size → length parts ≡ numbers
-      → EntryReady t p l c kind n cells parts
-  section-ready g a b = record { position = (h 0).read.position; kinds = g; most = (h 0).read.most; cells-room = a; parts-room = b }
+  pub section-ready : kind ≤ 11 → EntryReady t p l c kind n
+  section-ready g = record { position = (h 0).read.position; kinds = g; most = (h 0).read.most }
 
   left : turns_at t kind p₀ - n ≡ suc (turns_at t kind p₀ - (n + 1))
   left = omega (arith, (h 0).turn)

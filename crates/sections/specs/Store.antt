@@ -1,37 +1,18 @@
 -- Numbers that are stored, and the entry that twelve of them stand for.
-use Rattle.std.specs.Prelude.{ℕ, zero, suc, ◌+◌, ◌*◌, ◌<◌, ◌≡◌, refl, List, [], ◌∷◌, ◌++◌, length, Some}
-use Rattle.std.proofs.Common.{arith, add-zero, sym, ap, ◌∙◌}
+use Rattle.std.specs.Prelude.{ℕ, zero, suc, ◌+◌, ◌*◌, ◌<◌, ◌≡◌, refl, List, [], ◌∷◌, ◌++◌, length}
+use Rattle.std.proofs.Common.{arith, add-zero, ap, ◌∙◌}
 use Rattle.std.proofs.Math.Option.{Option, none, some}
 use Rattle.std.proofs.Math.ListN.{get_or}
-use Rattle.std.proofs.lemmas.List.Edits.{sets}
 use Rattle.rules.specs.Lists.{Bytes}
 use Rattle.rules.specs.Lines.{Word}
 use Rattle.rules.specs.Ast.{Exprs}
-use Rattle.rules.specs.Area.{flag, span, option_span, type_code}
-use Rattle.numbers.specs.Options.{option_of}
-use Rattle.numbers.specs.Datatypes.{type_of}
-use Rattle.text.specs.Places.{option_numbers}
-use Rattle.numbers.specs.Stores.{Stored, sets-append}
+use Rattle.rules.specs.Area.{span, option_span}
+use Rattle.numbers.specs.Stores.{Stored}
 use Rattle.ast.specs.Table.{arguments_at, tree_at}
 use Rattle.ast.specs.Names.{NameFits, names-back}
-use Rattle.entries.specs.Entries.{EntryHead, null_number}
-use Rattle.entries.specs.Heads.{head_numbers, words_numbers}
-use Rattle.entries.specs.declared.NewColumn.{NewColumn}
-use Rattle.entries.specs.declared.Words.TheVariants as W
+use Rattle.entries.specs.Entries.{EntryHead}
+use Rattle.entries.specs.Heads.{head_numbers}
 use Rattle.sections.specs.Layout.{head_at, entry_at, entries_at}
-
--- STORES
--- two stores one behind the other, the first of four numbers
-pub sets-two : (s s₁ s₂ : List ℕ) (i : ℕ) (xs ys : List ℕ) → length xs ≡ 4 → s₁ ≡ sets s i xs → s₂ ≡ sets s₁ (i + 4) ys → s₂ ≡ sets s i (xs ++ ys)
-sets-two s s₁ s₂ i xs ys m e₁ e₂ = e₂ ∙ rw e₁ (rw m at (sym (sets-append xs ys s i)))
-
--- of a new column
-pub sets-column : (s s₁ s₂ : List ℕ) (i l a d b u n e f : ℕ) (c : NewColumn) → a ≡ type_code (type_of c.datatype) → d ≡ flag c.key → b ≡ null_number (option_of c.nullable)
-    → u ≡ flag c.unique → n ≡ flag c.index → option_numbers c.reference ≡ e ∷ f ∷ []
-    → s₁ ≡ sets s i (l ∷ a ∷ d ∷ b ∷ []) → s₂ ≡ sets s₁ (i + 4) (u ∷ n ∷ e ∷ f ∷ []) → s₂ ≡ sets s i (l ∷ words_numbers (Some (W.Column c)))
-unfolding words_numbers
-sets-column s s₁ s₂ i l a d b u n e f c ha hd hb hu hn hr e₁ e₂ =
-    sets-two s s₁ s₂ i (l ∷ a ∷ d ∷ b ∷ []) (u ∷ n ∷ e ∷ f ∷ []) refl e₁ e₂ ∙ rw (ha, hd, hb, hu, hn, hr)
 
 -- ENTRIES
 -- the twelve numbers of an entry

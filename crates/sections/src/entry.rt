@@ -88,8 +88,8 @@ fn numbers_from(parts: &[u32], i: usize) -> Entry
     }
 }
 
-// Entry k of a section, from 0 on. (A `for` over the numbers asks for each: an iterator of our own would have a `next` with a contract
-// to carry through each loop, and save a line.)
+// Entry k of a section, from 0 on. (A `for` over the numbers asks for each: an iterator of our own would be a struct with a `next`,
+// to save a line at each.)
 pub fn entry_at(parts: &[u32], kind: Section, k: u32) -> Entry
     ensures { result ≡ access.numbers_at parts.now (number_of kind) k }
 {

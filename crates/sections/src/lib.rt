@@ -13,16 +13,22 @@ ghost use Rattle.sections.specs.Layout.{start_of};
 ghost use Rattle.sections.specs.Terms.{SectionRead};
 ghost use Rattle.entries.specs.Heads.{words_numbers, numbers_of};
 ghost use Rattle.sections.specs.OneEntry.{entry_start, EntryReady, EntryRead};
-ghost use Rattle.ast.specs.Table.{table_size};
 
+use ast::rows::TABLE_SIZE;
 use entries::{Head, Section, Words, entry_head};
-use numbers::put_four;
+use numbers::put;
 use numbers::refusals::{Reason, Refusal};
 use read_expression::reading::{Cursor, read_expressions};
 use text::places::Place;
 
+// How many numbers the parts of a statement take: its own, its entries and how many FROM rows it has.
+pub const PART_NUMBERS: usize = 3863;
+
 // How many numbers an entry has: the parts are lent zeroed (reader_read_texts), and 0 is no kind and no type, so entries stay numbers.
 const ENTRY_SIZE: usize = 12;
+
+// The most items, sets, columns, names, groups and keys of ORDER.
+pub const ENTRIES: u32 = 64;
 
 // Where reading a section stands, behind how many entries, and the name of the last one.
 #[derive(Clone, Copy, Debug, PartialEq, Eq)]
@@ -45,14 +51,14 @@ fn room_of(kind: Section) -> Room
     ensures { (result.start ≡ start_of (number_of kind)) × (result.most ≡ most_of (number_of kind)) }
 {
     let (start, most) = match kind {
-        Section::Item | Section::Set | Section::Column => (8, 64),
+        Section::Item | Section::Set | Section::Column => (8, ENTRIES),
         Section::Columns => (8, 1),
-        Section::Name => (21, 64),
+        Section::Name => (21, ENTRIES),
         Section::Where => (777, 1),
-        Section::Group => (790, 64),
+        Section::Group => (790, ENTRIES),
         Section::Row => (790, 256),
         Section::Having => (1559, 1),
-        Section::Order => (1572, 64),
+        Section::Order => (1572, ENTRIES),
         Section::Offset => (2341, 1),
         Section::Limit => (2354, 1),
     };
@@ -87,40 +93,33 @@ fn null_number(nullable: Option<bool>) -> u32
 }
 
 // The length of an entry's name, and what else its record says, in eight places from i on.
+#[tactic(auto, unfolding(entries::specs::Heads::words_numbers, rules::specs::Area::flag))]
 fn put_words(parts: &mut [u32], i: usize, name_length: u32, words: Option<Words>)
     requires { i + 8 ≤ length parts.old }
     ensures { parts.new ≡ sets parts.old i (name_length ∷ words_numbers words) }
 {
     match words {
-        None => {
-            put_four(parts, i, name_length, 0, 0, 0);
-            put_four(parts, i + 4, 0, 0, 0, 0);
-        }
+        None => put(parts, i, [name_length, 0, 0, 0, 0, 0, 0, 0]),
         Some(Words::Descends(descends)) => {
-            put_four(parts, i, name_length, u32::from(descends), 0, 0);
-            put_four(parts, i + 4, 0, 0, 0, 0);
-        }
-        Some(Words::Column(column)) => {
-            let datatype = u32::from(column.datatype);
-            let nullable = null_number(column.nullable);
-            put_four(
+            put(
                 parts,
                 i,
-                name_length,
-                datatype,
-                u32::from(column.key),
-                nullable,
+                [name_length, u32::from(descends), 0, 0, 0, 0, 0, 0],
             );
+        }
+        Some(Words::Column(column)) => {
             let (reference, extent) = Place::numbers(column.reference);
-            let unique = u32::from(column.unique);
-            put_four(
-                parts,
-                i + 4,
-                unique,
+            let numbers = [
+                name_length,
+                u32::from(column.datatype),
+                u32::from(column.key),
+                null_number(column.nullable),
+                u32::from(column.unique),
                 u32::from(column.index),
                 reference,
                 extent,
-            );
+            ];
+            put(parts, i, numbers);
         }
     }
 }
@@ -131,7 +130,7 @@ fn put_entry(parts: &mut [u32], i: usize, line: u32, row: u32, h: Head)
     ensures { parts.new ≡ sets parts.old i (line ∷ h.expressions ∷ row ∷ numbers_of h) }
 {
     let (address, length) = Place::numbers(h.name);
-    put_four(parts, i, line, h.expressions, row, address);
+    put(parts, i, [line, h.expressions, row, address]);
     put_words(parts, i + 4, length, h.words);
 }
 
@@ -140,10 +139,10 @@ fn read_entry(
     t: &[u8],
     run: Run,
     kind: Section,
-    cells: &mut [u32],
-    parts: &mut [u32],
+    cells: &mut [u32; TABLE_SIZE],
+    parts: &mut [u32; PART_NUMBERS],
 ) -> Result<Option<Run>, Refusal>
-    requires { EntryReady t.now run.at.position run.at.line run.at.rows (number_of kind) run.count cells.old parts.old }
+    requires { EntryReady t.now run.at.position run.at.line run.at.rows (number_of kind) run.count }
     ensures { (k : ℕ) → EntryRead t.now run.at.position run.at.line run.at.rows (number_of kind) run.count run.last
         cells.old cells.new parts.old parts.new k result }
 {
@@ -171,11 +170,10 @@ pub fn read_section(
     t: &[u8],
     at: Cursor,
     kind: Section,
-    cells: &mut [u32],
-    parts: &mut [u32],
+    cells: &mut [u32; TABLE_SIZE],
+    parts: &mut [u32; PART_NUMBERS],
 ) -> Result<Cursor, Refusal>
-    requires position { Position t.now at.position at.line at.rows }
-    requires room { (length cells.old ≡ table_size) × (length parts.old ≡ 3863) }
+    requires { Position t.now at.position at.line at.rows }
     ensures { (k : ℕ) → Given (section (number_of kind)) (SectionRead t.now
         (number_of kind) at.rows cells.old cells.new parts.old parts.new) t.now at.position at.line at.rows k result }
 {
@@ -202,11 +200,10 @@ pub fn read_some(
     t: &[u8],
     at: Cursor,
     kind: Section,
-    cells: &mut [u32],
-    parts: &mut [u32],
+    cells: &mut [u32; TABLE_SIZE],
+    parts: &mut [u32; PART_NUMBERS],
 ) -> Result<Cursor, Refusal>
-    requires position { Position t.now at.position at.line at.rows }
-    requires room { (length cells.old ≡ table_size) × (length parts.old ≡ 3863) }
+    requires { Position t.now at.position at.line at.rows }
     ensures { (k : ℕ) → Given (some_section (number_of kind)) (SectionRead t.now
         (number_of kind) at.rows cells.old cells.new parts.old parts.new) t.now at.position at.line at.rows k result }
 {

@@ -1,5 +1,5 @@
 -- What stands behind a statement's first record, read into the slices.
-use Rattle.std.specs.Prelude.{ℕ, ◌≤◌, ◌≡◌, Bool, List, length, get_or, Result, Ok, Err}
+use Rattle.std.specs.Prelude.{ℕ, ◌≤◌, ◌≡◌, Bool, List, get_or, Result, Ok, Err}
 use Rattle.std.proofs.Common.{arith, ap, ◌∙◌}
 use Rattle.std.proofs.Math.Path.{refl}
 use Rattle.rules.specs.Refusals.{statement, Refusal, ok, refused}
@@ -9,7 +9,7 @@ use Rattle.rules.specs.Ast.{Statement}
 use Rattle.rules.specs.Ast as Ast
 use Rattle.rules.specs.Reader.{Place, Read, give, ◌>>=◌}
 use Rattle.rules.specs.ReadStatement.{StatementHead, select_head, other_head, delete_head, insert_head, update_head, create_head, drop_head}
-use Rattle.ast.specs.Table.{statement_rows, table_size}
+use Rattle.ast.specs.Table.{statement_rows}
 use Rattle.text.specs.Answers.{bind_ok, bind-no, bind-answer}
 use Rattle.numbers.specs.Kept.{Kept, kept-all}
 use Rattle.read_expression.specs.Reading.{here, Position, Given}
@@ -25,11 +25,11 @@ use Rattle.numbers.specs.declared.refusals.Refusal as code
 use Rattle.numbers.specs.Reasons.{told}
 use Rattle.read_expression.specs.declared.reading.Cursor.{Cursor}
 
--- the slices' lengths
-pub record Room (cells froms parts : List ℕ) : Type 0 where
-  pub rows : length cells ≡ table_size
-  pub from-rows : length froms ≡ 248
-  pub numbers : length parts ≡ 3863
+-- where the second line of a text starts, before any expression
+pub record SecondLine (t : Bytes) (at : Cursor) : Type 0 where
+  pub position : Position t at.position 2 0
+  pub line : at.line ≡ 2
+  pub rows : at.rows ≡ 0
 
 -- the statement of a first record on line l, whose sections stand in the slices
 module _ (b t : Bytes) (cells froms parts : List ℕ) where

@@ -1,5 +1,5 @@
 -- The record `end`, with nothing behind it.
-use Rattle.std.specs.Prelude.{ℕ, ◌+◌, ◌-◌, ◌≤◌, ◌<◌, ◌≡◌, Bool, true, false, length, get_or, take, drop, Result, Ok, Err}
+use Rattle.std.specs.Prelude.{ℕ, ◌+◌, ◌-◌, ◌≤◌, ◌<◌, ◌≡◌, Bool, true, false, length, take, drop, Result, Ok, Err}
 use Rattle.std.proofs.Common.{arith, ◌∙◌, drop_of_length-le}
 use Rattle.std.proofs.Math.Decide.{dec_lt}
 use Rattle.std.proofs.Math.Path.{refl, sym, ap}
@@ -11,7 +11,7 @@ use Rattle.rules.specs.Lines.{bytes, fields, empty}
 use Rattle.rules.specs.Ast.{Statement}
 use Rattle.rules.specs.Reader.{Place, Read, give, stop, fit, next, at, key, key_of, rest, line_here, ◌>>=◌, ◌>>◌, record', no_field, nothing_left}
 use Rattle.rules.specs.ReadStatement.{StatementHead}
-use Rattle.text.specs.Lines.{line-moves, line-most, Fields}
+use Rattle.text.specs.Lines.{nth_field, line-moves, line-most, Fields}
 use Rattle.text.specs.Reading.{place, place-next, place_end, place-more, at-is, rest-none, rest-other}
 use Rattle.text.specs.Records.{no-field}
 use Rattle.text.specs.Answers.{wrong_at, bind_ok, bind-no, then_ok, then-no}
@@ -74,7 +74,7 @@ end-inside t p l c k e = elim (dec_lt p (length t)) [
 
 -- BY POSITION
 -- f is the line at p
-module _ (t : Bytes) (s : Statement) (p l c k : ℕ) (h : Position t p l c) (f : Line) (g : Fields t p f) (b : Bool) (e : b ≡ same (take (get_or f.lens 0 0) (drop (get_or f.starts 0 0) t)) (bytes "end")) where
+module _ (t : Bytes) (s : Statement) (p l c k : ℕ) (h : Position t p l c) (f : Line) (g : Fields t p f) (b : Bool) (e : b ≡ same (take (nth_field f.fields 0).length (drop (nth_field f.fields 0).start t)) (bytes "end")) where
   end-at : at (bytes "end") (here t p l c k) ≡ b
   end-at = at-is statement t p l c k f g (bytes "end") ∙ sym e
 

@@ -12,7 +12,7 @@ use Rattle.rules.specs.Lines.{Word}
 use Rattle.rules.specs.Places.{word_at}
 use Rattle.rules.specs.Reader.{base_address, line_here, key, rest, rest_of, one_of, apply, name, word, no_field, one_field, two_fields, both}
 use Rattle.rules.specs.ReadStatement.{answers, StatementHead, select_head, other_head, delete_head, insert_head, update_head, create_head, drop_head, statement_heads}
-use Rattle.text.specs.Lines.{field, Fields}
+use Rattle.text.specs.Lines.{nth_field, field, Fields}
 use Rattle.numbers.specs.Options.{option_of}
 use Rattle.text.specs.Numbers.{is_name}
 use Rattle.text.specs.Reading.{text_of, field-word, key-is, rest-none, rest-other, with-one, with-two, field-inside}
@@ -101,14 +101,14 @@ named-not k r (inr (inr (inr e))) h = rw (e, one_field_lem name r h)
 -- r is the text's first line
 module _ (t : Bytes) (r : Line) (f : Fields t 0 r) where
   -- a field lies inside the text
-  pub first-inside : (i : ℕ) → length t ≤ most_bytes → i < r.count → Inside t (get_or r.starts i 0) (get_or r.lens i 0)
+  pub first-inside : (i : ℕ) → length t ≤ most_bytes → i < r.count → Inside t (nth_field r.fields i).start (nth_field r.fields i).length
   first-inside i s l = record { short = s; inside = field-inside statement t 0 1 0 0 r f i (omega arith) l }
 
   without : (i : ℕ) → suc i < 10 → (r.count ≡ suc i → ⊥) → length (rest (here t 0 1 0 0)) ≡ i → ⊥
   without = rest-other statement t 0 1 0 0 r f
 
   abbrev first_word : Bytes
-  first_word = take (get_or r.lens 0 0) (drop (get_or r.starts 0 0) t)
+  first_word = take (nth_field r.fields 0).length (drop (nth_field r.fields 0).start t)
 
   module _ {x : Bytes} (i : x ≡ first_word) where
     first-is : (o : Option (List Word → Option StatementHead)) → o ≡ named statement_heads x → one_of statement_heads (line_here (here t 0 1 0 0)) ≡ apply o (rest (here t 0 1 0 0))
@@ -135,14 +135,14 @@ module _ (t : Bytes) (r : Line) (f : Fields t 0 r) where
         first-plain-not m = kind-is ∙ elim z [ inl e ↦ rw (e, no-field _ (without 0 (omega arith) m)) | inr e ↦ rw (e, no-field _ (without 0 (omega arith) m)) ]
 
       pub first-drop : k ≡ K.Drop → r.count ≡ 3
-          → one_of statement_heads (line_here (here t 0 1 0 0)) ≡ said_by K.Drop (field most_bytes t (get_or r.starts 1 0) (get_or r.lens 1 0) ∷ field most_bytes t (get_or r.starts 2 0) (get_or r.lens 2 0) ∷ [])
+          → one_of statement_heads (line_here (here t 0 1 0 0)) ≡ said_by K.Drop (field most_bytes t (nth_field r.fields 1).start (nth_field r.fields 1).length ∷ field most_bytes t (nth_field r.fields 2).start (nth_field r.fields 2).length ∷ [])
       first-drop z m = kind-is ∙ rw (z, with-two t 0 1 0 0 r f m)
 
       pub first-drop-not : k ≡ K.Drop → (r.count ≡ 3 → ⊥) → one_of statement_heads (line_here (here t 0 1 0 0)) ≡ none
       unfolding said_by map_option
       first-drop-not z m = kind-is ∙ rw (z, two_fields_lem name (word answers) _ (without 2 (omega arith) m))
 
-      pub first-named : r.count ≡ 2 → one_of statement_heads (line_here (here t 0 1 0 0)) ≡ said_by k (field most_bytes t (get_or r.starts 1 0) (get_or r.lens 1 0) ∷ [])
+      pub first-named : r.count ≡ 2 → one_of statement_heads (line_here (here t 0 1 0 0)) ≡ said_by k (field most_bytes t (nth_field r.fields 1).start (nth_field r.fields 1).length ∷ [])
       first-named m = kind-is ∙ ap (said_by k) (with-one t 0 1 0 0 r f m)
 
       pub first-named-not : OneName k → (r.count ≡ 2 → ⊥) → one_of statement_heads (line_here (here t 0 1 0 0)) ≡ none

@@ -17,9 +17,8 @@ pub const KIND: usize = 0;
 
 pub const LINE: usize = 1;
 
-pub const NAME_ADDRESS: usize = 2;
-
-pub const NAME_LENGTH: usize = 3;
+// Of the name the address, and behind that the length.
+pub const NAME: usize = 2;
 
 pub const FLAG: usize = 4;
 
@@ -80,10 +79,7 @@ pub fn name(parts: &[u32]) -> Place
     ensures address { result.address ≡ access.name_address parts.now }
     ensures length { result.length ≡ access.name_length parts.now }
 {
-    Place {
-        address: number(parts, NAME_ADDRESS),
-        length: number(parts, NAME_LENGTH),
-    }
+    Place::at(parts, NAME)
 }
 
 // Whether a DROP has IF EXISTS.

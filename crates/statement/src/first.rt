@@ -16,7 +16,8 @@ ghost use Rattle.statement.specs.Access.{name_or};
 ghost use Rattle.statement.specs.declared.access.Kind.TheVariants as kinds;
 ghost use Rattle.statement.specs.FirstRecord.{first_said, said_by, OneName};
 
-use crate::access::{FLAG, KIND, Kind, LINE, NAME_ADDRESS, NAME_LENGTH, name_or};
+use crate::access::{FLAG, KIND, Kind, LINE, NAME, name_or};
+use text::Field;
 use text::places::{Place, name_at};
 use text::words::beside;
 
@@ -45,12 +46,13 @@ fn keyword(word: &[u8]) -> Option<Kind>
 }
 
 // A statement whose one field is a name.
-fn named(kind: Kind, a: usize, n: usize) -> Option<First>
-    requires place { (a ≤ 65536) × (n ≤ 65536) }
+fn named(kind: Kind, name: Field) -> Option<First>
+    requires place { (name.start ≤ 65536) × (name.length ≤ 65536) }
     requires one_name { OneName kind }
-    ensures { (c t : Bytes) → Inside t a n → first_said c t result ≡ said_by kind (field most_bytes t a n ∷ []) }
+    ensures { (c t : Bytes) → Inside t name.start name.length → first_said c t result
+        ≡ said_by kind (field most_bytes t name.start name.length ∷ []) }
 {
-    let name = name_at(a, n)?;
+    let name = name_at(name)?;
     Some(First {
         kind,
         name: Some(name),
@@ -59,12 +61,12 @@ fn named(kind: Kind, a: usize, n: usize) -> Option<First>
 }
 
 // A `drop`: a name, and yes or no.
-fn dropped(a: usize, n: usize, answer: &[u8]) -> Option<First>
-    requires { (a ≤ 65536) × (n ≤ 65536) }
-    ensures { (c t : Bytes) (o : ℕ) → Inside t a n → first_said c t result ≡ said_by kinds.Drop
-        (field most_bytes t a n ∷ record { bytes = answer.now; start = o } ∷ []) }
+fn dropped(name: Field, answer: &[u8]) -> Option<First>
+    requires { (name.start ≤ 65536) × (name.length ≤ 65536) }
+    ensures { (c t : Bytes) (o : ℕ) → Inside t name.start name.length → first_said c t result ≡ said_by kinds.Drop
+        (field most_bytes t name.start name.length ∷ record { bytes = answer.now; start = o } ∷ []) }
 {
-    let name = name_at(a, n)?;
+    let name = name_at(name)?;
     let table: [(&[u8], bool); 2] = [(b"yes", true), (b"no", false)];
     let if_exists = beside(&table, answer)?;
     Some(First {
@@ -96,13 +98,13 @@ pub fn first_record(t: &[u8], f: text::Line) -> Option<First>
             if n != 3 {
                 return None;
             }
-            dropped(f.starts[1], f.lens[1], f.field(t, 2))
+            dropped(f.fields[1], f.field(t, 2))
         }
         Kind::Delete | Kind::Insert | Kind::Update | Kind::Create => {
             if n != 2 {
                 return None;
             }
-            named(kind, f.starts[1], f.lens[1])
+            named(kind, f.fields[1])
         }
     }
 }
@@ -116,7 +118,7 @@ pub fn put_first(parts: &mut [u32], f: First)
     let name = name_or(f.name);
     parts[KIND] = u32::from(f.kind);
     parts[LINE] = 1;
-    parts[NAME_ADDRESS] = name.address;
-    parts[NAME_LENGTH] = name.length;
+    parts[NAME] = name.address;
+    parts[NAME + 1] = name.length;
     parts[FLAG] = u32::from(f.if_exists);
 }

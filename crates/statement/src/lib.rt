@@ -14,7 +14,6 @@ ghost use Rattle.statement.specs.Layout.{statement_at};
 ghost use Rattle.read_expression.specs.Reading.{Position, Given};
 ghost use Rattle.statement.specs.Kinds.{number_of};
 ghost use Rattle.statement.specs.FirstRecord.{head_of};
-ghost use Rattle.statement.specs.BodyReads.{Room};
 ghost use Rattle.statement.specs.EndRecord.{ended, Is, WholeRead};
 ghost use Rattle.statement.specs.Whole.{statement_of, statement_answer, Counts, SelectStays};
 
@@ -27,11 +26,11 @@ use read_expression::reading::Cursor;
 // How many numbers the expression table takes.
 pub const CELL_NUMBERS: usize = ast::rows::TABLE_SIZE;
 
-// How many the FROM rows take: 31 of eight.
-pub const FROM_NUMBERS: usize = 248;
+// How many the FROM rows take.
+pub const FROM_NUMBERS: usize = from::FROM_NUMBERS;
 
 // How many all other parts take.
-pub const PART_NUMBERS: usize = 3863;
+pub const PART_NUMBERS: usize = sections::PART_NUMBERS;
 
 // The record `end`, with nothing behind it.
 fn read_end(t: &[u8], at: Cursor) -> Result<Cursor, Refusal>
@@ -56,12 +55,11 @@ fn read_behind(
     t: &[u8],
     p: usize,
     kind: Kind,
-    cells: &mut [u32],
-    froms: &mut [u32],
-    parts: &mut [u32],
+    cells: &mut [u32; CELL_NUMBERS],
+    froms: &mut [u32; FROM_NUMBERS],
+    parts: &mut [u32; PART_NUMBERS],
 ) -> Result<Cursor, Refusal>
-    requires position { Position t.now p 2 0 }
-    requires room { Room cells.old froms.old parts.old }
+    requires { Position t.now p 2 0 }
     ensures { (n : Word) (y : Bool) → WholeRead t.now (head_of (number_of kind) n y) p cells.new froms.new parts.old
         parts.new result }
 {
@@ -85,9 +83,7 @@ pub fn read_statement(
         return Err(Reason::LimitPassed.at(0));
     }
     let line = lines::first_fields(statement);
-    let Some(f) = first_record(statement, line) else {
-        return Err(Reason::WrongRecord.at(1));
-    };
+    let f = first_record(statement, line).ok_or(Reason::WrongRecord.at(1))?;
     put_first(parts, f);
     let behind = read_behind(statement, line.next, f.kind, cells, froms, parts)?;
     Ok(behind.rows)

@@ -3,7 +3,8 @@ use Rattle.std.specs.Prelude.{ℕ, ◌+◌, ◌-◌, ◌<◌, ◌≡◌, refl, L
 use Rattle.std.proofs.Common.{arith}
 use Rattle.rules.specs.Lists.{Bytes}
 use Rattle.text.specs.Bytes.{stop_at}
-use Rattle.text.specs.Lines.{Fields, Reading, few_fields, begin, go_on, ends}
+use Rattle.text.specs.Lines.{span, Fields, Reading, few_fields, begin, go_on, ends}
+use Rattle.text.specs.declared.Field.{Field}
 use Rattle.text.specs.declared.Line.{Line}
 
 -- the field at q ends at e, which a tab closes
@@ -18,34 +19,42 @@ pub record Lf (t : Bytes) (q e : ℕ) : Type 0 where
   pub within : e < length t
   pub lf : get_or t e 0 ≡ 10
 
-abbrev filled : ℕ → ℕ → ℕ → ℕ → List ℕ
-filled a b c d = a ∷ b ∷ c ∷ d ∷ 0 ∷ 0 ∷ 0 ∷ 0 ∷ 0 ∷ 0 ∷ 0 ∷ 0 ∷ []
+abbrev filled : Field → Field → Field → Field → List Field
+filled a b c d = a ∷ b ∷ c ∷ d ∷ span 0 0 ∷ span 0 0 ∷ span 0 0 ∷ span 0 0 ∷ span 0 0 ∷ span 0 0 ∷ span 0 0 ∷ span 0 0 ∷ []
+
+-- no field yet
+abbrev none : Field
+none = span 0 0
+
+-- the field from a up to b
+abbrev pub between : ℕ → ℕ → Field
+between a b = span a (b - a)
 
 module _ (t : Bytes) (p : ℕ) (r : Line) where
-  one-read : (e : ℕ) → Tab t p e → Reading t p (filled p 0 0 0) (filled (e - p) 0 0 0) 1 (e + 1)
-  one-read e x = go_on t p (filled 0 0 0 0) (filled 0 0 0 0) 0 p e (omega arith) refl refl (begin t p _ _) x.stop x.within x.other
+  one-read : (e : ℕ) → Tab t p e → Reading t p (filled (between p e) none none none) 1 (e + 1)
+  one-read e x = go_on t p (filled none none none none) 0 p e (omega arith) refl (begin t p _) x.stop x.within x.other
 
-  two-read : (e f : ℕ) → Tab t p e → Tab t (e + 1) f → Reading t p (filled p (e + 1) 0 0) (filled (e - p) (f - (e + 1)) 0 0) 2 (f + 1)
-  two-read e f x y = go_on t p (filled p 0 0 0) (filled (e - p) 0 0 0) 1 (e + 1) f (omega arith) refl refl (one-read e x) y.stop y.within y.other
+  two-read : (e f : ℕ) → Tab t p e → Tab t (e + 1) f → Reading t p (filled (between p e) (between (e + 1) f) none none) 2 (f + 1)
+  two-read e f x y = go_on t p (filled (between p e) none none none) 1 (e + 1) f (omega arith) refl (one-read e x) y.stop y.within y.other
 
   three-read : (e f g : ℕ) → Tab t p e → Tab t (e + 1) f → Tab t (f + 1) g
-      → Reading t p (filled p (e + 1) (f + 1) 0) (filled (e - p) (f - (e + 1)) (g - (f + 1)) 0) 3 (g + 1)
+      → Reading t p (filled (between p e) (between (e + 1) f) (between (f + 1) g) none) 3 (g + 1)
   three-read e f g x y z =
-      go_on t p (filled p (e + 1) 0 0) (filled (e - p) (f - (e + 1)) 0 0) 2 (f + 1) g (omega arith) refl refl (two-read e f x y) z.stop z.within z.other
+      go_on t p (filled (between p e) (between (e + 1) f) none none) 2 (f + 1) g (omega arith) refl (two-read e f x y) z.stop z.within z.other
 
-  pub one_field_lem : (e : ℕ) → Lf t p e → r ≡ few_fields (p ∷ 0 ∷ 0 ∷ 0 ∷ []) ((e - p) ∷ 0 ∷ 0 ∷ 0 ∷ []) 1 (e + 1) → Fields t p r
-  one_field_lem e x h = rw h (ends t p (filled 0 0 0 0) (filled 0 0 0 0) 0 p e (omega arith) refl refl (begin t p _ _) x.stop x.within x.lf)
+  pub one_field_lem : (e : ℕ) → Lf t p e → r ≡ few_fields (between p e ∷ none ∷ none ∷ none ∷ []) 1 (e + 1) → Fields t p r
+  one_field_lem e x h = rw h (ends t p (filled none none none none) 0 p e (omega arith) refl (begin t p _) x.stop x.within x.lf)
 
   pub two_fields_lem : (e f : ℕ) → Tab t p e → Lf t (e + 1) f
-      → r ≡ few_fields (p ∷ (e + 1) ∷ 0 ∷ 0 ∷ []) ((e - p) ∷ (f - (e + 1)) ∷ 0 ∷ 0 ∷ []) 2 (f + 1) → Fields t p r
-  two_fields_lem e f x y h = rw h (ends t p (filled p 0 0 0) (filled (e - p) 0 0 0) 1 (e + 1) f (omega arith) refl refl (one-read e x) y.stop y.within y.lf)
+      → r ≡ few_fields (between p e ∷ between (e + 1) f ∷ none ∷ none ∷ []) 2 (f + 1) → Fields t p r
+  two_fields_lem e f x y h = rw h (ends t p (filled (between p e) none none none) 1 (e + 1) f (omega arith) refl (one-read e x) y.stop y.within y.lf)
 
   pub three-fields : (e f g : ℕ) → Tab t p e → Tab t (e + 1) f → Lf t (f + 1) g
-      → r ≡ few_fields (p ∷ (e + 1) ∷ (f + 1) ∷ 0 ∷ []) ((e - p) ∷ (f - (e + 1)) ∷ (g - (f + 1)) ∷ 0 ∷ []) 3 (g + 1) → Fields t p r
+      → r ≡ few_fields (between p e ∷ between (e + 1) f ∷ between (f + 1) g ∷ none ∷ []) 3 (g + 1) → Fields t p r
   three-fields e f g x y z h =
-      rw h (ends t p (filled p (e + 1) 0 0) (filled (e - p) (f - (e + 1)) 0 0) 2 (f + 1) g (omega arith) refl refl (two-read e f x y) z.stop z.within z.lf)
+      rw h (ends t p (filled (between p e) (between (e + 1) f) none none) 2 (f + 1) g (omega arith) refl (two-read e f x y) z.stop z.within z.lf)
 
   pub four-fields : (e f g k : ℕ) → Tab t p e → Tab t (e + 1) f → Tab t (f + 1) g → Lf t (g + 1) k
-      → r ≡ few_fields (p ∷ (e + 1) ∷ (f + 1) ∷ (g + 1) ∷ []) ((e - p) ∷ (f - (e + 1)) ∷ (g - (f + 1)) ∷ (k - (g + 1)) ∷ []) 4 (k + 1) → Fields t p r
+      → r ≡ few_fields (between p e ∷ between (e + 1) f ∷ between (f + 1) g ∷ between (g + 1) k ∷ []) 4 (k + 1) → Fields t p r
   four-fields e f g k x y z w h =
-      rw h (ends t p (filled p (e + 1) (f + 1) 0) (filled (e - p) (f - (e + 1)) (g - (f + 1)) 0) 3 (g + 1) k (omega arith) refl refl (three-read e f g x y z) w.stop w.within w.lf)
+      rw h (ends t p (filled (between p e) (between (e + 1) f) (between (f + 1) g) none) 3 (g + 1) k (omega arith) refl (three-read e f g x y z) w.stop w.within w.lf)

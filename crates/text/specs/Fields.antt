@@ -1,5 +1,5 @@
 -- Fields that lie inside a text of at most 65,536 bytes.
-use Rattle.std.specs.Prelude.{ℕ, ◌+◌, ◌≤◌, ◌<◌, ◌≡◌, true, false, length, get_or, take, drop}
+use Rattle.std.specs.Prelude.{ℕ, ◌+◌, ◌≤◌, ◌<◌, ◌≡◌, true, false, length, take, drop}
 use Rattle.std.proofs.Common.{arith, ap, ◌∙◌}
 use Rattle.std.proofs.Math.Option.{none, some}
 use Rattle.rules.specs.Limits.{most_bytes}
@@ -8,7 +8,7 @@ use Rattle.rules.specs.Refusals.{Text, catalog}
 use Rattle.rules.specs.Reader.{base_address, name}
 use Rattle.rules.specs.Places.{word_at}
 use Rattle.text.specs.Bytes.{part_length}
-use Rattle.text.specs.Lines.{field, Fields}
+use Rattle.text.specs.Lines.{nth_field, field, Fields}
 use Rattle.text.specs.Numbers.{is_name, name_in, name_out}
 use Rattle.text.specs.Reading.{text_of, field-word, field-inside}
 use Rattle.text.specs.declared.Line.{Line}
@@ -38,5 +38,5 @@ module _ (t : Bytes) (a n : ℕ) (i : Inside t a n) where
   field-unnamed h = name_out _ (ap is_name field-length ∙ h)
 
 -- the i-th field of the line at p
-pub inside-field : (t : Bytes) (p : ℕ) (r : Line) → Fields t p r → (i : ℕ) → length t ≤ most_bytes → p ≤ length t → i < r.count → Inside t (get_or r.starts i 0) (get_or r.lens i 0)
+pub inside-field : (t : Bytes) (p : ℕ) (r : Line) → Fields t p r → (i : ℕ) → length t ≤ most_bytes → p ≤ length t → i < r.count → Inside t (nth_field r.fields i).start (nth_field r.fields i).length
 inside-field t p r f i h g k = record { short = h; inside = field-inside catalog t p 0 0 0 r f i g k }

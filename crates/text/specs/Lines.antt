@@ -13,44 +13,56 @@ use Rattle.rules.specs.Lists.{Bytes}
 use Rattle.rules.specs.Lines.{Word, onto, empty, fields, line_size}
 use Rattle.rules.specs.Lines as rules
 use Rattle.text.specs.Bytes.{run, stop_at, step, stop-after, stop-most}
+use Rattle.text.specs.declared.Field.{Field}
 use Rattle.text.specs.declared.Line.{Line}
 
 -- the position behind the line at p
 unfoldable pub line_end : Bytes → ℕ → ℕ
 line_end t p = p + line_size (drop p t)
 
+-- the field of n bytes at a
+abbrev pub span : ℕ → ℕ → Field
+span a n = record { start = a; length = n }
+
+-- the i-th field
+abbrev pub nth_field : List Field → ℕ → Field
+nth_field fs i = get_or fs i (span 0 0)
+
 -- The n bytes at a, as a field of the text whose first byte has the address base.
 unfoldable pub field : ℕ → Bytes → ℕ → ℕ → Word
 field base t a n = record { bytes = take n (drop a t); start = base + a }
 
--- n fields from the i-th on, by their starts and lengths
-unfoldable pub fields_from : ℕ → Bytes → List ℕ → List ℕ → ℕ → ℕ → rules.Line
-fields_from base t st ln i zero = []
-fields_from base t st ln i (suc n) = field base t (get_or st i 0) (get_or ln i 0) ∷ fields_from base t st ln (suc i) n
+-- n fields from the i-th on
+unfoldable pub fields_from : ℕ → Bytes → List Field → ℕ → ℕ → rules.Line
+fields_from base t fs i zero = []
+fields_from base t fs i (suc n) = field base t (nth_field fs i).start (nth_field fs i).length ∷ fields_from base t fs (suc i) n
 
 -- the line that a struct stands for
 unfoldable pub line_of : ℕ → Bytes → Line → rules.Line
-line_of base t r = fields_from base t r.starts r.lens 0 r.count
+line_of base t r = fields_from base t r.fields 0 r.count
 
 -- A record has at most nine fields: ten tell whether there are more.
 abbrev pub kept_fields : ℕ
 kept_fields = 10
 
--- fields that lie in the text from p on
-unfoldable pub Inside : Bytes → ℕ → List ℕ → List ℕ → ℕ → Type 0
-Inside t p st ln n = (i : ℕ) → i < n → (p ≤ get_or st i 0) × (get_or st i 0 + get_or ln i 0 ≤ p + (length t - p))
+-- a field that lies in the text from p on
+abbrev pub In : Bytes → ℕ → Field → Type 0
+In t p f = (p ≤ f.start) × (f.start + f.length ≤ p + (length t - p))
+
+-- fields that do
+unfoldable pub Inside : Bytes → ℕ → List Field → ℕ → Type 0
+Inside t p fs n = (i : ℕ) → i < n → In t p (nth_field fs i)
 
 -- What the line at p is: its first ten fields, whatever the text's first address, and where the next line starts.
 pub record Fields (t : Bytes) (p : ℕ) (r : Line) : Type 0 where
   pub fields : (base : ℕ) → line_of base t r ≡ take kept_fields (rules.fields (base + p) (drop p t))
-  pub inside : Inside t p r.starts r.lens r.count
+  pub inside : Inside t p r.fields r.count
   pub next : r.next ≡ line_end t p
 
 -- a line of at most four fields
-abbrev pub few_fields : List ℕ → List ℕ → ℕ → ℕ → Line
-few_fields st ln n next = record {
-  starts = get_or st 0 0 ∷ get_or st 1 0 ∷ get_or st 2 0 ∷ get_or st 3 0 ∷ 0 ∷ 0 ∷ 0 ∷ 0 ∷ 0 ∷ 0 ∷ 0 ∷ 0 ∷ [];
-  lens = get_or ln 0 0 ∷ get_or ln 1 0 ∷ get_or ln 2 0 ∷ get_or ln 3 0 ∷ 0 ∷ 0 ∷ 0 ∷ 0 ∷ 0 ∷ 0 ∷ 0 ∷ 0 ∷ [];
+abbrev pub few_fields : List Field → ℕ → ℕ → Line
+few_fields fs n next = record {
+  fields = nth_field fs 0 ∷ nth_field fs 1 ∷ nth_field fs 2 ∷ nth_field fs 3 ∷ span 0 0 ∷ span 0 0 ∷ span 0 0 ∷ span 0 0 ∷ span 0 0 ∷ span 0 0 ∷ span 0 0 ∷ span 0 0 ∷ [];
   count = n;
   next = next;
 }
@@ -151,78 +163,75 @@ module _ (base : ℕ) (t : Bytes) where
   more-tab e h x = let a : suc (base + e) ≡ base + (e + 1) = omega arith in rw (step t e h, more, ne_eqb _ _ x, a)
 
   -- one more field is stored
-  fields-more : (st ln : List ℕ) (i k a b : ℕ) → i + k < length st → i + k < length ln
-      → fields_from base t (set st (i + k) a) (set ln (i + k) b) i (suc k) ≡ fields_from base t st ln i k ++ (field base t a b ∷ [])
+  fields-more : (fs : List Field) (i k a b : ℕ) → i + k < length fs
+      → fields_from base t (set fs (i + k) (span a b)) i (suc k) ≡ fields_from base t fs i k ++ (field base t a b ∷ [])
   unfolding fields_from
-  fields-more st ln i zero a b h g =
-      let h' : i < length st = omega arith in
-      let g' : i < length ln = omega arith in
-      rw (add-zero i, get_or-set_same st i a 0 h', get_or-set_same ln i b 0 g')
-  fields-more st ln i (suc k) a b h g =
+  fields-more fs i zero a b h =
+      let h' : i < length fs = omega arith in
+      rw (add-zero i, get_or-set_same fs i (span a b) (span 0 0) h')
+  fields-more fs i (suc k) a b h =
       let ne : i ≡ i + suc k → ⊥ = λ e. omega (arith, e) in
       let s : i + suc k ≡ suc i + k = omega arith in
-      let ih = fields-more st ln (suc i) k a b (omega arith) (omega arith) in
-      let x = get_or-set_other st (i + suc k) i a 0 ne in
-      let y = get_or-set_other ln (i + suc k) i b 0 ne in
-      let whole : fields_from base t (set st (i + suc k) a) (set ln (i + suc k) b) i (suc (suc k))
-      ≡ field base t (get_or (set st (i + suc k) a) i 0) (get_or (set ln (i + suc k) b) i 0) ∷ fields_from base t (set st (i + suc k) a) (set ln (i + suc k) b) (suc i) (suc k) = refl in
-      let parts : fields_from base t st ln i (suc k) ++ (field base t a b ∷ [])
-      ≡ field base t (get_or st i 0) (get_or ln i 0) ∷ (fields_from base t st ln (suc i) k ++ (field base t a b ∷ [])) = refl in
-      cc (whole, parts, ih, s, x, y)
+      let ih = fields-more fs (suc i) k a b (omega arith) in
+      let x = get_or-set_other fs (i + suc k) i (span a b) (span 0 0) ne in
+      let whole : fields_from base t (set fs (i + suc k) (span a b)) i (suc (suc k))
+      ≡ field base t (nth_field (set fs (i + suc k) (span a b)) i).start (nth_field (set fs (i + suc k) (span a b)) i).length ∷ fields_from base t (set fs (i + suc k) (span a b)) (suc i) (suc k) = refl in
+      let parts : fields_from base t fs i (suc k) ++ (field base t a b ∷ [])
+      ≡ field base t (nth_field fs i).start (nth_field fs i).length ∷ (fields_from base t fs (suc i) k ++ (field base t a b ∷ [])) = refl in
+      cc (whole, parts, ih, s, x)
 
-  field-more : (st ln : List ℕ) (n a b : ℕ) → n < length st → n < length ln → fields_from base t (set st n a) (set ln n b) 0 (n + 1) ≡ fields_from base t st ln 0 n ++ (field base t a b ∷ [])
-  field-more st ln n a b h g = rw (add-one n) (rw zero-add at (fields-more st ln 0 n a b (omega arith) (omega arith)))
+  field-more : (fs : List Field) (n a b : ℕ) → n < length fs → fields_from base t (set fs n (span a b)) 0 (n + 1) ≡ fields_from base t fs 0 n ++ (field base t a b ∷ [])
+  field-more fs n a b h = rw (add-one n) (rw zero-add at (fields-more fs 0 n a b (omega arith)))
 
   -- the first k of n fields
-  pub fields-take : (st ln : List ℕ) (k i n : ℕ) → take k (fields_from base t st ln i n) ≡ fields_from base t st ln i (min k n)
+  pub fields-take : (fs : List Field) (k i n : ℕ) → take k (fields_from base t fs i n) ≡ fields_from base t fs i (min k n)
   unfolding fields_from
-  fields-take st ln zero i n = rw (zero-min n)
-  fields-take st ln (suc k) i zero = rw (min-zero (suc k))
-  fields-take st ln (suc k) i (suc n) = rw (suc-min-suc k n, fields-take st ln k (suc i) n)
+  fields-take fs zero i n = rw (zero-min n)
+  fields-take fs (suc k) i zero = rw (min-zero (suc k))
+  fields-take fs (suc k) i (suc n) = rw (suc-min-suc k n, fields-take fs k (suc i) n)
 
-  pub fields-length : (st ln : List ℕ) (i n : ℕ) → length (fields_from base t st ln i n) ≡ n
+  pub fields-length : (fs : List Field) (i n : ℕ) → length (fields_from base t fs i n) ≡ n
   unfolding fields_from
-  fields-length st ln i zero = refl
-  fields-length st ln i (suc n) = ap suc (fields-length st ln (suc i) n)
+  fields-length fs i zero = refl
+  fields-length fs i (suc n) = ap suc (fields-length fs (suc i) n)
 
 -- THE LOOP OVER THE FIELDS
 -- n fields are read, and the next starts at q
-pub record Reading (t : Bytes) (p : ℕ) (st ln : List ℕ) (n q : ℕ) : Type 0 where
-  pub is : (base : ℕ) → fields_at base t p ≡ fields_from base t st ln 0 n ++ fields_at base t q
-  pub inside : Inside t p st ln n
+pub record Reading (t : Bytes) (p : ℕ) (fs : List Field) (n q : ℕ) : Type 0 where
+  pub is : (base : ℕ) → fields_at base t p ≡ fields_from base t fs 0 n ++ fields_at base t q
+  pub inside : Inside t p fs n
   pub end : line_end t q ≡ line_end t p
   pub from : p ≤ q
   pub most : q ≤ p + (length t - p)
 
-pub begin : (t : Bytes) (p : ℕ) (st ln : List ℕ) → Reading t p st ln 0 p
+pub begin : (t : Bytes) (p : ℕ) (fs : List Field) → Reading t p fs 0 p
 unfolding fields_from Inside
-begin t p st ln = record { is = λ base. refl; inside = λ i h. absurd (omega arith); end = refl; from = omega arith; most = omega arith }
+begin t p fs = record { is = λ base. refl; inside = λ i h. absurd (omega arith); end = refl; from = omega arith; most = omega arith }
 
-inside-more : (t : Bytes) (p : ℕ) (st ln : List ℕ) (n a b : ℕ) → n < length st → n < length ln → Inside t p st ln n → p ≤ a → a + b ≤ p + (length t - p)
-    → Inside t p (set st n a) (set ln n b) (n + 1)
+inside-more : (t : Bytes) (p : ℕ) (fs : List Field) (n a b : ℕ) → n < length fs → Inside t p fs n → p ≤ a → a + b ≤ p + (length t - p)
+    → Inside t p (set fs n (span a b)) (n + 1)
 unfolding Inside
-inside-more t p st ln n a b h g r l m i k = elim (dec_lt i n) [ yes y ↦ earlier (omega (arith, y)) (r i (omega (arith, y))) | no y ↦ last (omega (arith, y, k)) ]
+inside-more t p fs n a b h r l m i k = elim (dec_lt i n) [ yes y ↦ earlier (omega (arith, y)) (r i (omega (arith, y))) | no y ↦ last (omega (arith, y, k)) ]
   where
-    earlier : i < n → (p ≤ get_or st i 0) × (get_or st i 0 + get_or ln i 0 ≤ p + (length t - p))
-        → (p ≤ get_or (set st n a) i 0) × (get_or (set st n a) i 0 + get_or (set ln n b) i 0 ≤ p + (length t - p))
-    earlier y w = let ne : i ≡ n → ⊥ = λ e. omega (arith, e) in rw (get_or-set_other st n i a 0 ne, get_or-set_other ln n i b 0 ne) w
+    earlier : i < n → In t p (nth_field fs i) → In t p (nth_field (set fs n (span a b)) i)
+    earlier y w = let ne : i ≡ n → ⊥ = λ e. omega (arith, e) in rw (get_or-set_other fs n i (span a b) (span 0 0) ne) w
 
-    last : i ≡ n → (p ≤ get_or (set st n a) i 0) × (get_or (set st n a) i 0 + get_or (set ln n b) i 0 ≤ p + (length t - p))
-    last e = rw (e, get_or-set_same st n a 0 h, get_or-set_same ln n b 0 g) (l, m)
+    last : i ≡ n → In t p (nth_field (set fs n (span a b)) i)
+    last e = rw (e, get_or-set_same fs n (span a b) (span 0 0) h) (l, m)
 
 -- all fields are read
-whole : (t : Bytes) (p : ℕ) (st ln : List ℕ) (n : ℕ) → ((base : ℕ) → fields_at base t p ≡ fields_from base t st ln 0 n)
-    → (base : ℕ) → fields_from base t st ln 0 (min kept_fields n) ≡ take kept_fields (fields (base + p) (drop p t))
+whole : (t : Bytes) (p : ℕ) (fs : List Field) (n : ℕ) → ((base : ℕ) → fields_at base t p ≡ fields_from base t fs 0 n)
+    → (base : ℕ) → fields_from base t fs 0 (min kept_fields n) ≡ take kept_fields (fields (base + p) (drop p t))
 unfolding fields_at
-whole t p st ln n h base = rw (h base, fields-take base t st ln kept_fields 0 n)
+whole t p fs n h base = rw (h base, fields-take base t fs kept_fields 0 n)
 
 -- the field at q ends at e
-module _ (t : Bytes) (p : ℕ) (st ln : List ℕ) (n q e : ℕ) (k : n < kept_fields) (h : length st ≡ 12) (g : length ln ≡ 12)
-    (r : Reading t p st ln n q) (x : e ≡ stop_at 10 9 t q) where
-  stored : (base : ℕ) → fields_at base t p ≡ fields_from base t (set st n q) (set ln n (e - q)) 0 (n + 1) ++ more_at base t e
+module _ (t : Bytes) (p : ℕ) (fs : List Field) (n q e : ℕ) (k : n < kept_fields) (h : length fs ≡ 12)
+    (r : Reading t p fs n q) (x : e ≡ stop_at 10 9 t q) where
+  stored : (base : ℕ) → fields_at base t p ≡ fields_from base t (set fs n (span q (e - q))) 0 (n + 1) ++ more_at base t e
   stored base =
-      let w = field-more base t st ln n q (e - q) (omega arith) (omega arith) in
-      r.is base ∙ rw (fields-first base t q e x, w) (sym (append_assoc (fields_from base t st ln 0 n) (field base t q (e - q) ∷ []) (more_at base t e)))
+      let w = field-more base t fs n q (e - q) (omega arith) in
+      r.is base ∙ rw (fields-first base t q e x, w) (sym (append_assoc (fields_from base t fs 0 n) (field base t q (e - q) ∷ []) (more_at base t e)))
 
   after : q ≤ e
   after = stop-after 10 9 t q e x
@@ -230,13 +239,13 @@ module _ (t : Bytes) (p : ℕ) (st ln : List ℕ) (n q e : ℕ) (k : n < kept_fi
   within : e ≤ p + (length t - p)
   within = omega (arith, stop-most 10 9 t q e x, r.from, r.most)
 
-  stored-inside : Inside t p (set st n q) (set ln n (e - q)) (n + 1)
-  stored-inside = inside-more t p st ln n q (e - q) (omega arith) (omega arith) r.inside r.from (omega (arith, after, within))
+  stored-inside : Inside t p (set fs n (span q (e - q))) (n + 1)
+  stored-inside = inside-more t p fs n q (e - q) (omega arith) r.inside r.from (omega (arith, after, within))
 
   ended : line_end t e ≡ line_end t p
   ended = line-stop 9 t q e x ∙ r.end
 
-  pub go_on : e < length t → (get_or t e 0 ≡ 10 → ⊥) → Reading t p (set st n q) (set ln n (e - q)) (n + 1) (e + 1)
+  pub go_on : e < length t → (get_or t e 0 ≡ 10 → ⊥) → Reading t p (set fs n (span q (e - q))) (n + 1) (e + 1)
   go_on l y = record {
     is = λ base. stored base ∙ rw (more-tab base t e l y);
     inside = stored-inside;
@@ -245,53 +254,50 @@ module _ (t : Bytes) (p : ℕ) (st ln : List ℕ) (n q e : ℕ) (k : n < kept_fi
     most = omega arith;
   }
 
-  pub ends : e < length t → get_or t e 0 ≡ 10 → Fields t p (record { starts = set st n q; lens = set ln n (e - q); count = n + 1; next = e + 1 })
+  pub ends : e < length t → get_or t e 0 ≡ 10 → Fields t p (record { fields = set fs n (span q (e - q)); count = n + 1; next = e + 1 })
   unfolding line_of
   ends l y =
       let m : n + 1 ≤ kept_fields = omega arith in
       record {
-        fields = rw (min-eq_right m) at (whole t p (set st n q) (set ln n (e - q)) (n + 1) (λ base. stored base ∙ rw (more-lf base t e l y, append-nil)));
+        fields = rw (min-eq_right m) at (whole t p (set fs n (span q (e - q))) (n + 1) (λ base. stored base ∙ rw (more-lf base t e l y, append-nil)));
         inside = stored-inside;
         next = sym (line-hit t e l y) ∙ ended;
       }
 
   unclosed-at : (c : ℕ) → c ≡ min kept_fields (n + 1 + 2) → length t ≤ e
-      → Fields t p (record { starts = set (set (set st n q) (n + 1) e) (n + 1 + 1) e; lens = set (set (set ln n (e - q)) (n + 1) 0) (n + 1 + 1) 0; count = c; next = e })
+      → Fields t p (record { fields = set (set (set fs n (span q (e - q))) (n + 1) (span e 0)) (n + 1 + 1) (span e 0); count = c; next = e })
   unfolding line_of Inside
   unclosed-at c d l =
-      let st₁ = set st n q in
-      let ln₁ = set ln n (e - q) in
-      let st₂ = set st₁ (n + 1) e in
-      let ln₂ = set ln₁ (n + 1) 0 in
-      let a₁ : length st₁ ≡ 12 = length-set st n q ∙ h in
-      let b₁ : length ln₁ ≡ 12 = length-set ln n (e - q) ∙ g in
-      let a₂ : length st₂ ≡ 12 = length-set st₁ (n + 1) e ∙ a₁ in
-      let b₂ : length ln₂ ≡ 12 = length-set ln₁ (n + 1) 0 ∙ b₁ in
-      let w : (base : ℕ) → fields_from base t st₂ ln₂ 0 (n + 1 + 1) ≡ fields_from base t st₁ ln₁ 0 (n + 1) ++ (field base t e 0 ∷ []) = λ base. field-more base t st₁ ln₁ (n + 1) e 0 (omega arith) (omega arith) in
-      let v : (base : ℕ) → fields_from base t (set st₂ (n + 1 + 1) e) (set ln₂ (n + 1 + 1) 0) 0 (n + 1 + 1 + 1) ≡ fields_from base t st₂ ln₂ 0 (n + 1 + 1) ++ (field base t e 0 ∷ []) = λ base. field-more base t st₂ ln₂ (n + 1 + 1) e 0 (omega arith) (omega arith) in
+      let fs₁ = set fs n (span q (e - q)) in
+      let fs₂ = set fs₁ (n + 1) (span e 0) in
+      let fs₃ = set fs₂ (n + 1 + 1) (span e 0) in
+      let a₁ : length fs₁ ≡ 12 = length-set fs n (span q (e - q)) ∙ h in
+      let a₂ : length fs₂ ≡ 12 = length-set fs₁ (n + 1) (span e 0) ∙ a₁ in
+      let w : (base : ℕ) → fields_from base t fs₂ 0 (n + 1 + 1) ≡ fields_from base t fs₁ 0 (n + 1) ++ (field base t e 0 ∷ []) = λ base. field-more base t fs₁ (n + 1) e 0 (omega arith) in
+      let v : (base : ℕ) → fields_from base t fs₃ 0 (n + 1 + 1 + 1) ≡ fields_from base t fs₂ 0 (n + 1 + 1) ++ (field base t e 0 ∷ []) = λ base. field-more base t fs₂ (n + 1 + 1) e 0 (omega arith) in
       let s : n + 1 + 2 ≡ n + 1 + 1 + 1 = omega arith in
       let pe : p ≤ e = omega (arith, after, r.from) in
       let en : e + 0 ≤ p + (length t - p) = omega (arith, within) in
-      let i₂ = inside-more t p st₁ ln₁ (n + 1) e 0 (omega arith) (omega arith) stored-inside pe en in
-      let i₃ = inside-more t p st₂ ln₂ (n + 1 + 1) e 0 (omega arith) (omega arith) i₂ pe en in
+      let i₂ = inside-more t p fs₁ (n + 1) e 0 (omega arith) stored-inside pe en in
+      let i₃ = inside-more t p fs₂ (n + 1 + 1) e 0 (omega arith) i₂ pe en in
       record {
-        fields = rw d (whole t p (set st₂ (n + 1 + 1) e) (set ln₂ (n + 1 + 1) 0) (n + 1 + 2) (λ base. stored base ∙ rw (more-end base t e l, s, v base, w base)
-            (sym (append_assoc (fields_from base t st₁ ln₁ 0 (n + 1)) (field base t e 0 ∷ []) (field base t e 0 ∷ [])))));
+        fields = rw d (whole t p fs₃ (n + 1 + 2) (λ base. stored base ∙ rw (more-end base t e l, s, v base, w base)
+            (sym (append_assoc (fields_from base t fs₁ 0 (n + 1)) (field base t e 0 ∷ []) (field base t e 0 ∷ [])))));
         inside = λ i z. i₃ i (omega (arith, d, min-le_right kept_fields (n + 1 + 2)));
         next = sym (line-none t e l) ∙ ended;
       }
 
   pub unclosed : (c : ℕ) → c ≡ min kept_fields (n + 3) → length t ≤ e
-      → Fields t p (record { starts = set (set (set st n q) (n + 1) e) (n + 2) e; lens = set (set (set ln n (e - q)) (n + 1) 0) (n + 2) 0; count = c; next = e })
+      → Fields t p (record { fields = set (set (set fs n (span q (e - q))) (n + 1) (span e 0)) (n + 2) (span e 0); count = c; next = e })
   unclosed c d l = let s : n + 2 ≡ n + 1 + 1 = omega arith in rw s (unclosed-at c (d ∙ ap (min kept_fields) (omega arith)) l)
 
 -- ten fields are read
-first-fields : (t : Bytes) (p : ℕ) (st ln : List ℕ) (n q : ℕ) → n ≡ kept_fields → ((base : ℕ) → fields_at base t p ≡ fields_from base t st ln 0 n ++ fields_at base t q)
-    → (base : ℕ) → fields_from base t st ln 0 n ≡ take kept_fields (fields (base + p) (drop p t))
+first-fields : (t : Bytes) (p : ℕ) (fs : List Field) (n q : ℕ) → n ≡ kept_fields → ((base : ℕ) → fields_at base t p ≡ fields_from base t fs 0 n ++ fields_at base t q)
+    → (base : ℕ) → fields_from base t fs 0 n ≡ take kept_fields (fields (base + p) (drop p t))
 unfolding fields_at
-first-fields t p st ln n q e h base = rw (h base) (sym (take_at (fields_from base t st ln 0 n) (fields_at base t q) kept_fields (fields-length base t st ln 0 n ∙ e)))
+first-fields t p fs n q e h base = rw (h base) (sym (take_at (fields_from base t fs 0 n) (fields_at base t q) kept_fields (fields-length base t fs 0 n ∙ e)))
 
-pub filled : (t : Bytes) (p : ℕ) (st ln : List ℕ) (n q e : ℕ) → n ≡ kept_fields → Reading t p st ln n q → e ≡ line_end t q
-    → Fields t p (record { starts = st; lens = ln; count = kept_fields; next = e })
+pub filled : (t : Bytes) (p : ℕ) (fs : List Field) (n q e : ℕ) → n ≡ kept_fields → Reading t p fs n q → e ≡ line_end t q
+    → Fields t p (record { fields = fs; count = kept_fields; next = e })
 unfolding line_of
-filled t p st ln n q e h r x = rw (← h) (record { fields = first-fields t p st ln n q h r.is; inside = r.inside; next = x ∙ r.end })
+filled t p fs n q e h r x = rw (← h) (record { fields = first-fields t p fs n q h r.is; inside = r.inside; next = x ∙ r.end })

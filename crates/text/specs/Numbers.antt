@@ -1,6 +1,6 @@
 -- Names by their length, and decimals of any length held within a bound.
-use Rattle.std.specs.Prelude.{◌⊎◌, ℕ, suc, ◌+◌, ◌*◌, ◌-◌, ◌≤◌, ◌<◌, min, ◌≡◌, refl, Bool, true, false, ◌&&◌, [], ◌∷◌, leb, length, get_or, drop}
-use Rattle.std.proofs.Common.{inl, inr, arith, sym, ap, ◌∙◌, drop_of_length-le, eq-eqb, ne_eqb}
+use Rattle.std.specs.Prelude.{ℕ, suc, ◌+◌, ◌*◌, ◌-◌, ◌≤◌, ◌<◌, min, ◌≡◌, refl, Bool, true, false, ◌&&◌, [], ◌∷◌, leb, length, get_or, drop}
+use Rattle.std.proofs.Common.{arith, sym, ap, ◌∙◌, drop_of_length-le, eq-eqb, ne_eqb}
 use Rattle.std.proofs.Math.Nat.{min-eq_left, min-eq_right, min-le_left}
 use Rattle.std.proofs.Math.Decide.{dec_lt}
 use Rattle.std.proofs.Math.Option.{Option, none, some}
@@ -85,12 +85,11 @@ single x = go (digit x) refl
     go none f = rw (decimal, digits, f)
     go (some d) f = let z : 0 * 10 + d ≡ d = omega arith in rw (decimal, digits, f, z)
 
-pub decimal-digits : (x : Bytes) → (length x ≡ 0 → ⊥) → ((get_or x 0 0 ≡ 48) × (length x ≤ 1)) ⊎ (get_or x 0 0 ≡ 48 → ⊥) → decimal x ≡ digits 0 x
+pub decimal-digits : (x : Bytes) → 0 < length x → (1 < length x → get_or x 0 0 ≡ 48 → ⊥) → decimal x ≡ digits 0 x
 unfolding decimal
-decimal-digits [] h e = absurd (h refl)
+decimal-digits [] h e = absurd (omega arith)
 decimal-digits (x ∷ []) h e = single x
-decimal-digits (x ∷ (y ∷ xs)) h (inl e) = absurd (omega arith)
-decimal-digits (x ∷ (y ∷ xs)) h (inr e) = rw (decimal, ne_eqb _ _ e)
+decimal-digits (x ∷ (y ∷ xs)) h e = rw (decimal, ne_eqb _ _ (e (omega arith)))
 
 -- a bound below the one that the number was held within
 pub within-min : (b most : ℕ) (o : Option ℕ) → b < most → within b (map_option (min most) o) ≡ within b o

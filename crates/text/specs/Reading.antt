@@ -18,9 +18,10 @@ use Rattle.rules.specs.Reader.{Place, base_address, start, line_here, next, key_
 use Rattle.rules.specs.Places.{word_at, bytes_at}
 use Rattle.text.specs.Bytes.{step, part_length}
 use Rattle.text.specs.Places.{bytes-catalog, bytes-statement}
-use Rattle.text.specs.Lines.{line_end, field, fields_from, line_of, kept_fields, Inside, Fields, fields-length}
+use Rattle.text.specs.Lines.{line_end, nth_field, field, fields_from, line_of, kept_fields, Inside, Fields, fields-length}
 use Rattle.text.specs.Words.{find, words_of, keys, nth, named_by}
 use Rattle.text.specs.Numbers.{is_name, name_in, name_out}
+use Rattle.text.specs.declared.Field.{Field}
 use Rattle.text.specs.declared.Line.{Line}
 
 -- reading stands at position p of a text, which is line l of it
@@ -68,25 +69,25 @@ fields-some o (x ∷ xs) = go (eqb x 10) (eqb x 9) refl refl (fields (suc o) xs)
 
 -- the i-th field of a line
 unfoldable pub field_of : Text → Bytes → Line → ℕ → Word
-field_of k t r i = field (base_address k) t (get_or r.starts i 0) (get_or r.lens i 0)
+field_of k t r i = field (base_address k) t (nth_field r.fields i).start (nth_field r.fields i).length
 
 -- a field inside the text has as many bytes as it says
-field-length : (t : Bytes) (p : ℕ) (st ln : List ℕ) (n i : ℕ) → Inside t p st ln n → i < n → length (take (get_or ln i 0) (drop (get_or st i 0) t)) ≡ get_or ln i 0
+field-length : (t : Bytes) (p : ℕ) (fs : List Field) (n i : ℕ) → Inside t p fs n → i < n → length (take (nth_field fs i).length (drop (nth_field fs i).start t)) ≡ (nth_field fs i).length
 unfolding Inside
-field-length t p st ln n i h l = let w = h i l in part_length t (get_or st i 0) (get_or ln i 0) (omega (arith, w.0, w.1))
+field-length t p fs n i h l = let w = h i l in part_length t (nth_field fs i).start (nth_field fs i).length (omega (arith, w.0, w.1))
 
 key-take : (l : rules.Line) → key_of (take kept_fields l) ≡ key_of l
 unfolding key_of
 key-take [] = refl
 key-take (w ∷ ws) = refl
 
-module _ (base : ℕ) (t : Bytes) (st ln : List ℕ) where
-  key-first : (n : ℕ) → 1 ≤ n → key_of (fields_from base t st ln 0 n) ≡ take (get_or ln 0 0) (drop (get_or st 0 0) t)
+module _ (base : ℕ) (t : Bytes) (fs : List Field) where
+  key-first : (n : ℕ) → 1 ≤ n → key_of (fields_from base t fs 0 n) ≡ take (nth_field fs 0).length (drop (nth_field fs 0).start t)
   unfolding key_of fields_from field
   key-first zero h = absurd (omega arith)
   key-first (suc n) h = refl
 
-  rest-fields : (n : ℕ) → rest_of (fields_from base t st ln 0 n) ≡ fields_from base t st ln 1 (n - 1)
+  rest-fields : (n : ℕ) → rest_of (fields_from base t fs 0 n) ≡ fields_from base t fs 1 (n - 1)
   unfolding rest_of fields_from
   rest-fields zero = refl
   rest-fields (suc n) = let e : suc n - 1 ≡ n = omega arith in rw e
@@ -109,7 +110,7 @@ module _ (k : Text) (t : Bytes) (p l c n : ℕ) (r : Line) (f : Fields t p r) wh
 
   pub line-count : r.count ≡ min kept_fields (length (line_here (place k t p l c n)))
   unfolding line_of
-  line-count = sym (fields-length (base_address k) t r.starts r.lens 0 r.count) ∙ ap length kept ∙ length-take kept_fields (line_here (place k t p l c n))
+  line-count = sym (fields-length (base_address k) t r.fields 0 r.count) ∙ ap length kept ∙ length-take kept_fields (line_here (place k t p l c n))
 
   line-some : 1 ≤ length (line_here (place k t p l c n))
   line-some = rw (place-line k t p l c n) (fields-some _ _)
@@ -122,24 +123,24 @@ module _ (k : Text) (t : Bytes) (p l c n : ℕ) (r : Line) (f : Fields t p r) wh
   line-whole h = sym (kept ∙ take_all kept_fields (line_here (place k t p l c n)) (min-below kept_fields _ (rw line-count at h)))
 
   -- the keyword's bytes, and what is known of the fields
-  pub key-is : key (place k t p l c n) ≡ take (get_or r.lens 0 0) (drop (get_or r.starts 0 0) t)
+  pub key-is : key (place k t p l c n) ≡ take (nth_field r.fields 0).length (drop (nth_field r.fields 0).start t)
   unfolding key line_of
-  key-is = sym (key-take (line_here (place k t p l c n))) ∙ ap key_of (sym kept) ∙ key-first (base_address k) t r.starts r.lens r.count count-some
+  key-is = sym (key-take (line_here (place k t p l c n))) ∙ ap key_of (sym kept) ∙ key-first (base_address k) t r.fields r.count count-some
 
-  pub at-is : (w : Bytes) → at w (place k t p l c n) ≡ same (take (get_or r.lens 0 0) (drop (get_or r.starts 0 0) t)) w
+  pub at-is : (w : Bytes) → at w (place k t p l c n) ≡ same (take (nth_field r.fields 0).length (drop (nth_field r.fields 0).start t)) w
   unfolding at
   at-is w = rw key-is
 
   -- a record by the number of its keyword, in a table whose words these are
   pub one-of : {A : Type 0} (table : List (Bytes × (List Word → Option A))) (words : Bytes) (i : ℕ) → keys table ≡ words_of words
-      → i ≡ find (words_of words) (take (get_or r.lens 0 0) (drop (get_or r.starts 0 0) t))
+      → i ≡ find (words_of words) (take (nth_field r.fields 0).length (drop (nth_field r.fields 0).start t))
       → one_of table (line_here (place k t p l c n)) ≡ apply (nth table i) (rest (place k t p l c n))
   unfolding one_of key rest
   one-of table words i e h = let o = named_by table words _ i e h in ap (λ z. apply z (rest_of (line_here (place k t p l c n)))) (ap (named table) key-is ∙ o)
 
-  pub rest-whole : r.count < kept_fields → rest (place k t p l c n) ≡ fields_from (base_address k) t r.starts r.lens 1 (r.count - 1)
+  pub rest-whole : r.count < kept_fields → rest (place k t p l c n) ≡ fields_from (base_address k) t r.fields 1 (r.count - 1)
   unfolding rest line_of
-  rest-whole h = ap rest_of (line-whole h) ∙ rest-fields (base_address k) t r.starts r.lens r.count
+  rest-whole h = ap rest_of (line-whole h) ∙ rest-fields (base_address k) t r.fields r.count
 
   -- the other fields where there are as many
   pub rest-none : r.count ≡ 1 → rest (place k t p l c n) ≡ []
@@ -164,17 +165,17 @@ module _ (k : Text) (t : Bytes) (p l c n : ℕ) (r : Line) (f : Fields t p r) wh
   rest-other i h e g = e (line-count ∙ ap (min kept_fields) (rest-length (line_here (place k t p l c n)) i g line-some) ∙ min-eq_right (omega arith))
 
   -- lengths, names and bounds
-  pub field-size : (i : ℕ) → i < r.count → length (field_of k t r i).bytes ≡ get_or r.lens i 0
+  pub field-size : (i : ℕ) → i < r.count → length (field_of k t r i).bytes ≡ (nth_field r.fields i).length
   unfolding field_of field
-  field-size i h = field-length t p r.starts r.lens r.count i f.inside h
+  field-size i h = field-length t p r.fields r.count i f.inside h
 
-  pub name-yes : (i : ℕ) → i < r.count → is_name (get_or r.lens i 0) ≡ true → name (field_of k t r i) ≡ some (field_of k t r i)
+  pub name-yes : (i : ℕ) → i < r.count → is_name (nth_field r.fields i).length ≡ true → name (field_of k t r i) ≡ some (field_of k t r i)
   name-yes i h e = name_in _ (ap is_name (field-size i h) ∙ e)
 
-  pub name-no : (i : ℕ) → i < r.count → is_name (get_or r.lens i 0) ≡ false → name (field_of k t r i) ≡ none
+  pub name-no : (i : ℕ) → i < r.count → is_name (nth_field r.fields i).length ≡ false → name (field_of k t r i) ≡ none
   name-no i h e = name_out _ (ap is_name (field-size i h) ∙ e)
 
-  pub field-inside : (i : ℕ) → p ≤ length t → i < r.count → get_or r.starts i 0 + get_or r.lens i 0 ≤ length t
+  pub field-inside : (i : ℕ) → p ≤ length t → i < r.count → (nth_field r.fields i).start + (nth_field r.fields i).length ≤ length t
   unfolding Inside
   field-inside i h g = let w = f.inside i g in omega (arith, w.1)
 
@@ -199,11 +200,11 @@ field-word statement c q a n h =
 
 -- the same of the statement, by the fields' places
 module _ (t : Bytes) (p l c n : ℕ) (r : Line) (f : Fields t p r) where
-  pub with-one : r.count ≡ 2 → rest (place statement t p l c n) ≡ field most_bytes t (get_or r.starts 1 0) (get_or r.lens 1 0) ∷ []
+  pub with-one : r.count ≡ 2 → rest (place statement t p l c n) ≡ field most_bytes t (nth_field r.fields 1).start (nth_field r.fields 1).length ∷ []
   unfolding field_of base_address
   with-one = rest-one statement t p l c n r f
 
   pub with-two : r.count ≡ 3
-      → rest (place statement t p l c n) ≡ field most_bytes t (get_or r.starts 1 0) (get_or r.lens 1 0) ∷ field most_bytes t (get_or r.starts 2 0) (get_or r.lens 2 0) ∷ []
+      → rest (place statement t p l c n) ≡ field most_bytes t (nth_field r.fields 1).start (nth_field r.fields 1).length ∷ field most_bytes t (nth_field r.fields 2).start (nth_field r.fields 2).length ∷ []
   unfolding field_of base_address
   with-two = rest-two statement t p l c n r f

@@ -1,6 +1,6 @@
 // Both texts, and places in them: an address and a length. The catalog's bytes have the addresses from 0 on, the statement's
 // those from 65,536 on.
-ghost use Rattle.std.specs.Prelude.{◌≡◌, true, false, [], ◌∷◌, ◌+◌, ◌≤◌, length, MatchOption};
+ghost use Rattle.std.specs.Prelude.{◌≡◌, true, false, [], ◌∷◌, ◌+◌, ◌^◌, ◌≤◌, ◌<◌, length, get_or, MatchOption};
 ghost use Rattle.rules.specs.Limits.{most_bytes};
 ghost use Rattle.rules.specs.Lists.{same};
 ghost use Rattle.rules.specs.Places.{bytes_at};
@@ -8,10 +8,13 @@ ghost use Rattle.text.specs.Numbers.{is_name};
 ghost use Rattle.text.specs.Order.{order_of};
 ghost use Rattle.text.specs.Places as places;
 
-use super::{MOST_BYTES, compare, equal, is_name, part};
+use super::{Field, MOST_BYTES, compare, equal, is_name, part};
+use numbers::literals::Literal;
+use numbers::number;
 use std::cmp::Ordering;
 
-#[derive(Clone, Copy, Debug, PartialEq, Eq)]
+// A place of no bytes by default.
+#[derive(Clone, Copy, Debug, Default, PartialEq, Eq)]
 pub struct Place {
     pub address: u32,
     pub length: u32,
@@ -31,18 +34,18 @@ pub fn address(a: usize) -> u32
     MOST_BYTES + a as u32
 }
 
-// The place of the n bytes at a of the statement, if a name may have n bytes.
-pub fn name_at(a: usize, n: usize) -> Option<Place>
-    requires { (a ≤ 65536) × (n ≤ 65536) }
-    ensures { MatchOption result (is_name n ≡ false) (λ x. (is_name n ≡ true) × (x
-        ≡ record { address = most_bytes + a; length = n })) }
+// The place of a field of the statement, if a name may have as many bytes.
+pub fn name_at(field: Field) -> Option<Place>
+    requires { (field.start ≤ 65536) × (field.length ≤ 65536) }
+    ensures { MatchOption result (is_name field.length ≡ false) (λ x. (is_name field.length ≡ true) × (x
+        ≡ record { address = most_bytes + field.start; length = field.length })) }
 {
-    if !is_name(n) {
+    if !is_name(field.length) {
         return None;
     }
     Some(Place {
-        address: address(a),
-        length: n as u32,
+        address: address(field.start),
+        length: field.length as u32,
     })
 }
 
@@ -56,6 +59,27 @@ impl Place {
             return None;
         }
         Some(Place { address, length })
+    }
+
+    // The place of a text literal.
+    pub fn of_literal(literal: Literal) -> Place
+        ensures { result ≡ record { address = literal.first; length = literal.second } }
+    {
+        Place {
+            address: literal.first,
+            length: literal.second,
+        }
+    }
+
+    // The place whose address is the number at k, and its length the one behind that.
+    pub fn at(numbers: &[u32], k: usize) -> Place
+        requires { k < 2 ^ 63 }
+        ensures { result ≡ record { address = get_or numbers.now k 0; length = get_or numbers.now (k + 1) 0 } }
+    {
+        Place {
+            address: number(numbers, k),
+            length: number(numbers, k + 1),
+        }
     }
 
     // The address and the length of a place that may be missing, or zeros.
@@ -97,6 +121,14 @@ impl<'t> Texts<'t> {
             address: place.address,
             length: self.length_at(place),
         }
+    }
+
+    // The same of a place that may be missing.
+    pub fn clipped_option(&self, place: Option<Place>) -> Option<Place>
+        ensures { result ≡ places.clipped_place self.now.catalog.now self.now.statement.now place }
+    {
+        let place = place?;
+        Some(self.clipped(place))
     }
 
     // Whether they are x.

@@ -53,10 +53,8 @@ pub fn pow(a: Value, b: Value) -> Result<Value, Reason>
 fn power(x: i64, y: i64) -> Result<i64, Reason>
     ensures { checked result ≡ raised x y }
 {
-    if y < 0 {
-        return Err(Reason::NotWorkedOut);
-    }
-    ints::pow(x, y as u64)
+    let exponent = u64::try_from(y).map_err(|_| Reason::NotWorkedOut)?;
+    ints::pow(x, exponent)
 }
 
 pub fn fact(a: Value) -> Result<Value, Reason>
@@ -65,14 +63,11 @@ pub fn fact(a: Value) -> Result<Value, Reason>
     on_number(a, factorial, |_| Err(Reason::WrongOperand))
 }
 
-// Apart from `power`: what they share is the test of a sign, and each has a refusal of its own.
 fn factorial(x: i64) -> Result<i64, Reason>
     ensures { checked result ≡ rule.factorial x }
 {
-    if x < 0 {
-        return Err(Reason::WrongOperand);
-    }
-    ints::factorial(x as u64)
+    let n = u64::try_from(x).map_err(|_| Reason::WrongOperand)?;
+    ints::factorial(n)
 }
 
 pub fn ident(a: Value) -> Result<Value, Reason>

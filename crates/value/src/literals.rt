@@ -5,7 +5,6 @@ ghost use Rattle.numbers.specs.Literals.{literal_value};
 ghost use Rattle.value.specs.Values.{value_of, held};
 
 use crate::Value;
-use numbers::halves::joined;
 use numbers::literals::{Literal, LiteralKind};
 use text::places::Place;
 
@@ -14,15 +13,12 @@ use text::places::Place;
 pub fn literal(literal: Literal) -> Value
     ensures { (c q : Bytes) → value_of c q result ≡ held (literal_value c q literal) }
 {
-    let n = joined(literal.first, literal.second);
+    let n = literal.bits();
     match literal.kind {
         LiteralKind::Null => Value::Null,
         LiteralKind::Bool => Value::Bool(literal.first == 1),
         LiteralKind::Int => Value::Int(ints::bits::from_bits(n)),
         LiteralKind::Float => Value::Float(crate::bits::from_bits(n)),
-        LiteralKind::Text => Value::Text(Place {
-            address: literal.first,
-            length: literal.second,
-        }),
+        LiteralKind::Text => Value::Text(Place::of_literal(literal)),
     }
 }

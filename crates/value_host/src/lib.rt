@@ -1,4 +1,4 @@
-// The operators on values for a host in Rust, by numbers: an operator's code, and of each value its kind and 64 bits.
+// The operators on values, exported for the host by numbers: an operator's code, and of each value its kind and 64 bits.
 #![tactic(auto)]
 
 ghost use Rattle.std.specs.Prelude.{◌≡◌, ℕ};
@@ -37,11 +37,7 @@ fn value_at(kind: u32, n: u64) -> Value
             first: high(n),
             second: low(n),
         }),
-        _ => literals::literal(Literal {
-            kind,
-            first: low(n),
-            second: high(n),
-        }),
+        _ => literals::literal(Literal::of_bits(kind, n)),
     }
 }
 
@@ -89,13 +85,11 @@ fn answered(w: Result<Value, Reason>) -> Answer
     }
 }
 
-// By code, as C gives it; `NotWorkedOut` where no operator has it, unlike the statement's table (crate ast).
+// By code; `NotWorkedOut` where no operator has it, unlike the statement's table (crate ast).
 fn unary(op: u32, a: Value) -> Result<Value, Reason>
     ensures { (c q : Bytes) → worked_of c q result ≡ unary_worked op (value_of c q a) }
 {
-    let Ok(operator) = Unary::try_from(op) else {
-        return Err(Reason::NotWorkedOut);
-    };
+    let operator = Unary::try_from(op).map_err(|_| Reason::NotWorkedOut)?;
     operators::unary(operator, a)
 }
 
@@ -104,9 +98,7 @@ fn binary(texts: &Texts, op: u32, a: Value, b: Value) -> Result<Value, Reason>
         ≡ binary_worked op (value_of texts.now.catalog.now texts.now.statement.now a)
         (value_of texts.now.catalog.now texts.now.statement.now b) }
 {
-    let Ok(operator) = Binary::try_from(op) else {
-        return Err(Reason::NotWorkedOut);
-    };
+    let operator = Binary::try_from(op).map_err(|_| Reason::NotWorkedOut)?;
     operators::binary(texts, operator, a, b)
 }
 
@@ -133,10 +125,7 @@ pub extern "C" fn value_binary(
 {
     let a = value_at(k, m);
     let b = value_at(l, n);
-    let texts = Texts {
-        catalog: catalog,
-        statement: statement,
-    };
+    let texts = Texts { catalog, statement };
     answered(binary(&texts, op, a, b))
 }
 

@@ -15,5 +15,5 @@ qualified-requires c = record {
   room = leaf_room (tree_at c.args.exprs.now.texts.catalog.now c.args.exprs.now.texts.statement.now c.args.exprs.now.table.now
       c.args.r) _ _ c.requires;
   qualified = eqb-true _ _ (sym (same-kinds _ K.Qualified c.kind_of.ensures refl) ∙ sym c.eq.ensures ∙ c.if-eq.true);
-  unmatched = unmatched-none _ _ _ c.args.scope.now.matches.now _ c.if-scope-eq0.true;
+  unmatched = unmatched-none _ _ _ c.args.scope.now.matches.now _ (eqb-true _ _ (sym c.is_empty.ensures ∙ c.if-is_empty.true));
 }

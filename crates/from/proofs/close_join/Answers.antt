@@ -1,4 +1,5 @@
 -- `close_join`: the predicate where one follows, and the row.
+use native.Mathlib.Omega.{arith}
 use Rattle.std.proofs.lemmas.Result.{err_from_is_err_and}
 use Rattle.rules.specs.Area.{option_number}
 use Rattle.from.specs.Predicates.{bare-closed, predicate-closed, predicate-refused}
@@ -9,7 +10,7 @@ returns-in_err-end c = let p = err_from_is_err_and c.from_residual.result c.from
 
 pub returns-then-join : goal.returns-then-join
 unfolding option_number
-returns-then-join c = predicate-closed _ _ _ _ _ _ _ _ c.if-join.true _ _ _ c.in_ok-end.ensures c.requires.room.1 _ c.sides-s.ensures c.put_join.ensures
+returns-then-join c = predicate-closed _ _ _ _ _ _ _ _ c.if-join.true _ _ _ c.in_ok-end.ensures (omega arith) _ c.sides-s.ensures c.put_join.ensures
 
 pub returns : goal.returns
 unfolding option_number

@@ -1,25 +1,39 @@
 -- `int`: by the sign, then the decimal behind it.
-use Rattle.std.proofs.Common.{eqb-true, sym, ◌∙◌}
-use Rattle.std.proofs.lemmas.Bool.{eqb-false}
+use Prim.Native.Nat.{◌<◌}
+use mathlib.Core.Path.{◌≡◌, ◌∙◌}
+use native.Mathlib.Omega.{arith}
+use borrow.Author.Tests.{ltb-true, ltb-false}
+use lib.ListN.{length, get_or}
 use Rattle.rules.specs.Lists.{map_option}
 use Rattle.rules.specs.Lines.{within, negated}
-use Rattle.literal.specs.Integers.{integer_empty, integer-minus, integer-plain}
+use Rattle.literal.specs.Integers.{integer-minus, integer-plain}
 use Rattle.literal.proofs.int.Goals as goal
+use Rattle.literal.proofs.int.Goals.{in_default-via-then-x-lt1, in_default-via-else-x-lt1+in_default-1}
 
-pub returns-then-is_empty : goal.returns-then-is_empty
-unfolding map_option
-returns-then-is_empty c = sym (integer_empty _ (eqb-true _ _ (sym c.is_empty.ensures ∙ c.if-is_empty.true)))
-
-pub returns-in_err-decimal : goal.returns-in_err-decimal
+pub returns-in_err-decimal-in-45 : goal.returns-in_err-decimal-in-45
 unfolding map_option within negated
-returns-in_err-decimal c = rw c.from_residual.ensures (integer-minus _ _ (eqb-false _ _ (sym c.is_empty.ensures ∙ c.if-is_empty.false)) c.if-x-eq45.true c.in_err-decimal.ensures)
+returns-in_err-decimal-in-45 c =
+    let e : get_or c.args.x.now 0 0 ≡ 45 = omega arith in
+    rw c.from_residual.ensures (integer-minus _ _ (omega arith) e c.in_err-decimal-in-45.ensures)
 
-pub returns-then-x-eq45 : goal.returns-then-x-eq45
-returns-then-x-eq45 c = c.negative.ensures ∙ integer-minus _ _ (eqb-false _ _ (sym c.is_empty.ensures ∙ c.if-is_empty.false)) c.if-x-eq45.true c.in_ok-decimal.ensures
+pub returns-in_ok-decimal-in-45 : goal.returns-in_ok-decimal-in-45
+returns-in_ok-decimal-in-45 c =
+    let e : get_or c.args.x.now 0 0 ≡ 45 = omega arith in
+    c.negative.ensures ∙ integer-minus _ _ (omega arith) e c.in_ok-decimal-in-45.ensures
 
-pub returns-in_err-decimal-2 : goal.returns-in_err-decimal-2
+pub returns-in_err-decimal-in_default : goal.returns-in_err-decimal-in_default
 unfolding map_option within
-returns-in_err-decimal-2 c = rw c.from_residual-in_err-decimal-2.ensures (integer-plain _ _ (eqb-false _ _ (sym c.is_empty.ensures ∙ c.if-is_empty.false)) c.if-x-eq45.false c.in_err-decimal-2.ensures)
+returns-in_err-decimal-in_default c =
+    let e : 0 < length c.args.x.now → get_or c.args.x.now 0 0 ≡ 45 → ⊥ = elim c.in_default.branch [
+      | in_default-via-then-x-lt1 w ↦ λ l e. omega (arith, ltb-true, ltb-false)
+      | in_default-via-else-x-lt1+in_default-1 w ↦ λ l e. omega (arith, ltb-true, ltb-false)
+    ] in
+    rw c.from_residual-in_err-decimal-in_default.ensures (integer-plain _ _ e c.in_err-decimal-in_default.ensures)
 
-pub returns : goal.returns
-returns c = c.positive.ensures ∙ integer-plain _ _ (eqb-false _ _ (sym c.is_empty.ensures ∙ c.if-is_empty.false)) c.if-x-eq45.false c.in_ok-decimal-2.ensures
+pub returns-in_ok-decimal-in_default : goal.returns-in_ok-decimal-in_default
+returns-in_ok-decimal-in_default c =
+    let e : 0 < length c.args.x.now → get_or c.args.x.now 0 0 ≡ 45 → ⊥ = elim c.in_default.branch [
+      | in_default-via-then-x-lt1 w ↦ λ l e. omega (arith, ltb-true, ltb-false)
+      | in_default-via-else-x-lt1+in_default-1 w ↦ λ l e. omega (arith, ltb-true, ltb-false)
+    ] in
+    c.positive.ensures ∙ integer-plain _ _ e c.in_ok-decimal-in_default.ensures

@@ -1,9 +1,7 @@
 -- `column_count`: as many columns as the table's numbers say.
 use mathlib.Core.Path.{sym, ◌∙◌}
-use Rattle.schema.specs.Layout.{table_at}
-use Rattle.schema.specs.Search.{columns-length}
+use Rattle.schema.specs.Search.{columns-counted}
 use Rattle.schema.proofs.column_count.Goals as goal
 
 pub returns : goal.returns
-unfolding table_at
-returns c c' q = c.number.ensures ∙ sym (columns-length c' q _ _ _)
+returns c c' q = (rw c.table_start.ensures at c.number.ensures) ∙ sym (columns-counted c' q _ c.args.i)

@@ -4,4 +4,4 @@ use Rattle.schema.proofs.key.Goals as goal
 
 pub returns : goal.returns
 unfolding table_at
-returns c c' q = c.number.ensures
+returns c c' q = rw c.table_start.ensures at c.number.ensures

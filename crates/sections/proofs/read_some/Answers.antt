@@ -7,10 +7,10 @@ use Rattle.sections.specs.AtLeastOne.{some-no, some-none, some-done}
 use Rattle.sections.proofs.read_some.Goals as goal
 
 pub offset_bounds-parts-start : goal.offset_bounds-parts-start
-offset_bounds-parts-start c = record { fits = omega (arith, start-within (number_of c.args.kind) (number-most c.args.kind), c.room_of-start.ensures.0, c.requires.room.1, c.read_section.auto) }
+offset_bounds-parts-start c = record { fits = omega (arith, start-within (number_of c.args.kind) (number-most c.args.kind), c.room_of-start.ensures.0) }
 
 pub bounds-parts-start : goal.bounds-parts-start
-bounds-parts-start c = omega (arith, start-within (number_of c.args.kind) (number-most c.args.kind), c.room_of-start.ensures.0, c.requires.room.1, c.read_section.auto)
+bounds-parts-start c = omega (arith, start-within (number_of c.args.kind) (number-most c.args.kind), c.room_of-start.ensures.0)
 
 pub returns-in_err-behind : goal.returns-in_err-behind
 returns-in_err-behind c = let p = err_from_is_err_and c.from_residual.result c.from_residual.ensures.1 in rw (p.1, p.2) (some-no _ _ _ _ _ _ _ _ _ _ c.in_err-behind.ensures)

@@ -5,4 +5,4 @@ use Rattle.text.specs.Lines.{Reading}
 use Rattle.text.proofs.any_fields.Given as goal
 
 abbrev pub invariant-loop-n : goal.invariant-loop-n
-invariant-loop-n l = (length l.starts ≡ 12) × (length l.lens ≡ 12) × Reading l.t l.at l.starts l.lens l.n l.p
+invariant-loop-n l = (length l.fields ≡ 12) × Reading l.t l.at l.fields l.n l.p

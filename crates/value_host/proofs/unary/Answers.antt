@@ -1,13 +1,17 @@
 -- `value_host::unary`: the operator of the code, or none.
-use Rattle.std.proofs.Common.{sym, ◌∙◌}
+use Rattle.std.proofs.Common.{rules, sym, ◌∙◌}
+use Rattle.numbers.specs.declared.refusals.Reason.TheVariants as Re
+use Rattle.numbers.proofs.Mapped.{kept, failed}
 use Rattle.numbers.specs.Reasons.{reason_of}
 use Rattle.value.specs.Values.{worked_of}
 use Rattle.value_host.proofs.Coded.{unary-worked, unary-fails}
 use Rattle.value_host.proofs.unary.Goals as goal
 
-pub returns-in_default : goal.returns-in_default
+pub returns-in_err-operator : goal.returns-in_err-operator
 unfolding worked_of reason_of
-returns-in_default c = λ t q. sym (unary-fails _ _ c.in_default.ensures)
+returns-in_err-operator c = λ t q.
+    let p = failed c.try_from.result c.map_err.result Re.NotWorkedOut c.from_residual.result c.map_err.ensures.cases c.from_residual.ensures.1 c.in_err-operator.was (λ e d q. search rules) in
+    rw p.2 (sym (unary-fails _ _ (rw p.1 at c.try_from.ensures)))
 
 pub returns : goal.returns
-returns c = λ t q. c.unary.ensures t q ∙ sym (unary-worked _ _ _ c.in-Ok.ensures)
+returns c = λ t q. c.unary.ensures t q ∙ sym (unary-worked _ _ _ (rw (kept c.try_from.result c.map_err.result _ c.map_err.ensures.cases c.in_ok-operator.was) at c.try_from.ensures))

@@ -1,5 +1,5 @@
 -- `value_host::value_at`: by its kind.
-use Rattle.std.proofs.Common.{ap, ◌∙◌}
+use Rattle.std.proofs.Common.{refl, ap, ◌∙◌}
 use Rattle.value.specs.Values.{held}
 use Rattle.value_host.proofs.Halves.{text-by, other-by}
 use Rattle.value_host.proofs.value_at.Goals as goal
@@ -9,5 +9,5 @@ returns-in-Text c = λ t q. c.literal.ensures t q
     ∙ ap held (text-by t q _ _ c.of_number-kind.ensures c.low.ensures c.high.ensures c.in-Text.is)
 
 pub returns-in_default : goal.returns-in_default
-returns-in_default c = λ t q. c.literal-in_default.ensures t q
-    ∙ ap held (other-by t q _ _ c.of_number-kind.ensures c.low-in_default.ensures c.high-in_default.ensures (search))
+returns-in_default c = λ t q. rw c.of_bits.ensures at (c.literal-in_default.ensures t q)
+    ∙ ap held (other-by t q _ _ c.of_number-kind.ensures refl refl (search))

@@ -37,4 +37,4 @@ returns-else-a-b c = let k = differs_false the_type tt _ _ (sym c.ne.ensures ∙
 pub returns-in-Text : goal.returns-in-Text
 unfolding literal_of same_value contents same word_at
 returns-in-Text c = let k = sym (differs_false the_type tt _ _ (sym c.ne.ensures ∙ c.if-ne.false)) ∙ c.in-Text.is in
-    rw (k, c.in-Text.is) c.same_bytes.ensures
+    rw (k, c.in-Text.is) (rw (c.of_literal.ensures, c.of_literal-in-Text.ensures) at c.same_bytes.ensures)

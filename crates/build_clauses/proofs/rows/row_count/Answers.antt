@@ -1,11 +1,10 @@
 -- `rows::row_count`: the number that a constant is.
-use Rattle.std.proofs.lemmas.Result.{err_from_is_err_and}
+use Rattle.plan.specs.Emits.{exit}
 use Rattle.build_clauses.specs.Rows.{counted, counted-refused}
 use Rattle.build_clauses.proofs.rows.row_count.Goals as goal
 
 pub returns-in_err-constant : goal.returns-in_err-constant
-returns-in_err-constant c = let p = err_from_is_err_and c.from_residual.result c.from_residual.ensures.1 in
-    rw (p.1, p.2) (counted-refused _ _ _ _ _ c.build_constant_value.ensures _ _ _ c.in_err-constant.was)
+returns-in_err-constant c = rw (exit c.from_residual.result c.from_residual.ensures.1) (counted-refused _ _ _ _ _ c.build_constant_value.ensures _ _ _ c.in_err-constant.was)
 
 pub returns : goal.returns
 returns c = rw c.ok_or.ensures.value (counted _ _ _ _ _ c.build_constant_value.ensures c.args.invalid _ _ c.in_ok-constant.was

@@ -1,5 +1,5 @@
 -- `option::build_option`: nothing, or the tree at its row.
-use Rattle.std.proofs.lemmas.Result.{err_from_is_err_and}
+use Rattle.plan.specs.Emits.{exit}
 use Rattle.build_expression.specs.Options.{root-behind, option-room, option-missing, option-accepted, option-refused}
 use Rattle.build_expression.proofs.option.build_option.Goals as goal
 
@@ -16,6 +16,5 @@ pub returns : goal.returns
 returns c = λ h. option-accepted _ _ _ c.in-Some.is (c.in_ok-cell.ensures.is h)
 
 pub returns-in_err-cell : goal.returns-in_err-cell
-returns-in_err-cell c =
-    let p = err_from_is_err_and c.from_residual.result c.from_residual.ensures.1 in rw (p.1, p.2)
+returns-in_err-cell c = rw (exit c.from_residual.result c.from_residual.ensures.1)
     (λ h. option-refused _ _ _ c.in-Some.is (c.in_err-cell.ensures.is h))

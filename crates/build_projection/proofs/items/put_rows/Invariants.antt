@@ -1,4 +1,4 @@
--- `items::put_rows`: numbers that rise, stored one after the other.
+-- `items::put_rows`: starred columns, stored one after the other.
 use Rattle.std.specs.Prelude.{length}
 use Rattle.build_projection.specs.Steps.{Filling}
 use Rattle.build_projection.proofs.items.put_rows.Given as goal

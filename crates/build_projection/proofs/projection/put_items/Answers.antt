@@ -1,12 +1,13 @@
 -- `projection::put_items`: the cells, parts and labels of the items so far, and the items that are left.
 use Rattle.std.proofs.lemmas.Result.{err_from_is_err_and}
 use native.Mathlib.Omega.{arith}
-use mathlib.Core.Path.{refl}
+use mathlib.Core.Path.{refl, ap, ◌∙◌}
+use mathlib.Core.Bool.{not}
 use lib.ListN.{length-map}
 use Rattle.numbers.specs.Kept.{kept-all, kept-part}
-use Rattle.scope.specs.Copies.{copying-begin, copying-map, stored}
-use Rattle.build_projection.specs.Labels.{label_number, stands-put}
-use Rattle.build_projection.specs.Pushes.{used-put, pushing-begin, cells-before, room-here, space-here, pushing-refused, pushing-more, pushing-end, kept_next}
+use Rattle.scope.specs.Copies.{copying-begin, stored}
+use Rattle.build_projection.specs.Labels.{label_number, stands-put, some-used}
+use Rattle.build_projection.specs.Pushes.{copying-items, used-put, pushing-begin, cells-before, room-here, space-here, pushing-refused, pushing-more, pushing-end, kept_next}
 use Rattle.build_projection.proofs.projection.put_items.Goals as goal
 
 pub loop-i-init : goal.loop-i-init
@@ -24,12 +25,12 @@ returns-in_err-next c = let p = err_from_is_err_and c.from_residual.result c.fro
     })
 
 pub item_label-requires : goal.item_label-requires
-item_label-requires c = record { used_value = c.used-used.ensures.matches; item_stands = stands-put (cells-before c.loop-i.invariant.0) (used-put c.args.scope.now.matches.now c.used-used.ensures.matches (rw (c.used-used.ensures.labels, c.used-used.ensures.tables) at c.in_ok-next.ensures)) }
+item_label-requires c = record { matched_value = ap not c.is_empty-matched.ensures ∙ some-used _ _ c.used-used.ensures.matches; item_stands = stands-put (cells-before c.loop-i.invariant.0) (used-put c.args.scope.now.matches.now c.used-used.ensures.matches (rw (c.used-used.ensures.labels, c.used-used.ensures.tables) at c.in_ok-next.ensures)) }
 
 pub loop-i-preserved : goal.loop-i-preserved
 loop-i-preserved c = (
   pushing-more c.loop-i.invariant.0 c.loop-i-test.true (used-put c.args.scope.now.matches.now c.used-used.ensures.matches (rw (c.used-used.ensures.labels, c.used-used.ensures.tables) at c.in_ok-next.ensures)) c.put_item.auto.area,
-  copying-map (label_number c.args.exprs.now.texts.catalog.now c.args.exprs.now.texts.statement.now c.args.exprs.now.table.now c.args.parts.now
+  copying-items (label_number c.args.exprs.now.texts.catalog.now c.args.exprs.now.texts.statement.now c.args.exprs.now.table.now c.args.parts.now
       c.args.scope.now.labels.now c.args.scope.now.matches.now
       c.args.scope.now.tables.now) c.args.items.now _ c.loop-i.invariant.1 (omega (arith, c.requires.items_fit.few, c.loop-i-test.true))
       c.loop-i-test.true c.item_label.ensures,

@@ -12,7 +12,6 @@ returns-in_err-having c = let p = err_from_is_err_and c.from_residual.result c.f
 
 pub build_order-requires : goal.build_order-requires
 build_order-requires c = record {
-  cells_len = c.requires.read.table;
   room = order-room c.requires c.clause_at-clause.ensures ((rw (c.view-view.ensures.labels, c.view-view.ensures.matches, c.view-view.ensures.tables) at c.in_ok-having.ensures).is _);
   follows = order-follows c.requires c.clause_at-clause.ensures ((rw (c.view-view.ensures.labels, c.view-view.ensures.matches, c.view-view.ensures.tables) at c.in_ok-having.ensures).is _);
 }

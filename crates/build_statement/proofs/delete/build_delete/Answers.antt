@@ -5,18 +5,18 @@ use Rattle.build_statement.specs.Deletes.{delete-target, delete-refused, delete-
 use Rattle.build_statement.proofs.delete.build_delete.Goals as goal
 
 pub build_target-requires : goal.build_target-requires
-build_target-requires c = delete-target c.args.exprs.now.texts.catalog.now c.args.exprs.now.texts.statement.now c.args.tables.now c.args.exprs.now.table.now c.args.parts.now c.requires
+build_target-requires c = delete-target _ _ _ _ _ c.requires
 
 pub returns-in_err-target : goal.returns-in_err-target
 returns-in_err-target c = rw (exit c.from_residual.result c.from_residual.ensures.1)
-    (delete-refused c.args.exprs.now.texts.catalog.now c.args.exprs.now.texts.statement.now c.args.tables.now c.args.exprs.now.table.now c.args.parts.now c.requires c.build_target.ensures _ c.in_err-target.was)
+    (delete-refused _ _ _ _ _ c.requires c.build_target.ensures _ c.in_err-target.was)
 
 pub end_delete-requires : goal.end_delete-requires
 end_delete-requires c = record {
   free = free-kept c.requires.free c.build_target.auto.area;
-  few_cells = delete-most c.args.exprs.now.texts.catalog.now c.args.exprs.now.texts.statement.now c.args.tables.now c.args.exprs.now.table.now c.args.parts.now c.requires c.build_target.ensures _ c.in_ok-target.was;
-  root_behind = delete-root c.args.exprs.now.texts.catalog.now c.args.exprs.now.texts.statement.now c.args.tables.now c.args.exprs.now.table.now c.args.parts.now c.requires c.build_target.ensures _ c.in_ok-target.was;
+  few_cells = delete-most _ _ _ _ _ c.requires c.build_target.ensures _ c.in_ok-target.was;
+  root_behind = delete-root _ _ _ _ _ c.requires c.build_target.ensures _ c.in_ok-target.was;
 }
 
 pub returns : goal.returns
-returns c = delete-planned c.args.exprs.now.texts.catalog.now c.args.exprs.now.texts.statement.now c.args.tables.now c.args.exprs.now.table.now c.args.parts.now c.requires c.build_target.ensures _ c.in_ok-target.was c.end_delete.auto.area c.end_delete.ensures
+returns c = delete-planned _ _ _ _ _ c.requires c.build_target.ensures _ c.in_ok-target.was c.end_delete.auto.area c.end_delete.ensures

@@ -5,19 +5,19 @@ use Rattle.build_update.specs.Updates.{update-target, update-refused, update-few
 use Rattle.build_update.proofs.update.build_update.Goals as goal
 
 pub build_target-requires : goal.build_target-requires
-build_target-requires c = update-target c.args.exprs.now.texts.catalog.now c.args.exprs.now.texts.statement.now c.args.tables.now c.args.exprs.now.table.now c.args.parts.now c.requires
+build_target-requires c = update-target _ _ _ _ _ c.requires
 
 pub returns-in_err-target : goal.returns-in_err-target
 returns-in_err-target c = rw (exit c.from_residual.result c.from_residual.ensures.1)
-    (update-refused c.args.exprs.now.texts.catalog.now c.args.exprs.now.texts.statement.now c.args.tables.now c.args.exprs.now.table.now c.args.parts.now c.requires c.build_target.ensures _ c.in_err-target.was)
+    (update-refused _ _ _ _ _ c.requires c.build_target.ensures _ c.in_err-target.was)
 
 pub end_update-requires : goal.end_update-requires
 end_update-requires c = record {
   free = free-kept c.requires.free c.build_target.auto.area;
-  few_sets = update-few-sets c.args.exprs.now.texts.catalog.now c.args.exprs.now.texts.statement.now c.args.tables.now c.args.exprs.now.table.now c.args.parts.now c.requires c.build_target.ensures _ c.in_ok-target.was;
-  root_behind = update-root c.args.exprs.now.texts.catalog.now c.args.exprs.now.texts.statement.now c.args.tables.now c.args.exprs.now.table.now c.args.parts.now c.requires c.build_target.ensures _ c.in_ok-target.was;
+  few_sets = update-few-sets _ _ _ _ _ c.requires c.build_target.ensures _ c.in_ok-target.was;
+  root_behind = update-root _ _ _ _ _ c.requires c.build_target.ensures _ c.in_ok-target.was;
 }
 
 pub returns : goal.returns
-returns c = update-planned c.args.exprs.now.texts.catalog.now c.args.exprs.now.texts.statement.now c.args.tables.now c.args.exprs.now.table.now c.args.parts.now c.requires c.build_target.ensures _ c.in_ok-target.was
+returns c = update-planned _ _ _ _ _ c.requires c.build_target.ensures _ c.in_ok-target.was
     c.end_update.ensures

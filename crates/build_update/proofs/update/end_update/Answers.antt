@@ -30,23 +30,23 @@ write_sets-requires c = record {
 pub finish-requires : goal.finish-requires
 finish-requires c = update-room c.args.exprs.now.texts.catalog.now c.args.exprs.now.texts.statement.now c.args.tables.now c.args.target.now.table c.args.target.now.name.address c.args.target.now.name.length _ c.requires.free c.clipped-name.ensures.address c.clipped-name.ensures.length c.scan.ensures
     c.count-sets.result c.key.ensures c.update.ensures c.args.target.now.filter.cell c.requires.few_sets
-    (scope_at c.args.exprs.now.texts.catalog.now c.args.exprs.now.texts.statement.now c.args.exprs.now.table.now
+    (scope_at _ _ _
     (labels_of c.args.target.now.scope) (take c.args.target.now.scope.width c.args.target.now.scope.matches) (table_numbers c.args.target.now.scope) 0)
-    (table_at c.args.exprs.now.texts.catalog.now c.args.exprs.now.texts.statement.now c.args.tables.now c.args.target.now.table).columns (c.count-sets.ensures c.args.exprs.now.texts.catalog.now c.args.exprs.now.texts.statement.now c.args.exprs.now.table.now ∙ sym (sets-length c.args.exprs.now.texts.catalog.now c.args.exprs.now.texts.statement.now c.args.exprs.now.table.now c.args.parts.now))
+    (table_at c.args.exprs.now.texts.catalog.now c.args.exprs.now.texts.statement.now c.args.tables.now c.args.target.now.table).columns (c.count-sets.ensures _ _ _ ∙ sym (sets-length _ _ _ _))
     (rw (c.view-view.ensures.labels, c.view-view.ensures.matches, c.view-view.ensures.tables) at (c.write_sets.ensures 0)) _ c.in_ok-written.was
 
 pub returns : goal.returns
 returns c = λ h. update-ends c.args.exprs.now.texts.catalog.now c.args.exprs.now.texts.statement.now c.args.tables.now c.args.target.now.table c.args.target.now.name.address c.args.target.now.name.length _ c.requires.free c.clipped-name.ensures.address c.clipped-name.ensures.length c.scan.ensures
     c.count-sets.result c.key.ensures c.update.ensures c.args.target.now.filter.cell c.requires.few_sets
-    (scope_at c.args.exprs.now.texts.catalog.now c.args.exprs.now.texts.statement.now c.args.exprs.now.table.now
+    (scope_at _ _ _
     (labels_of c.args.target.now.scope) (take c.args.target.now.scope.width c.args.target.now.scope.matches) (table_numbers c.args.target.now.scope) h)
-    (table_at c.args.exprs.now.texts.catalog.now c.args.exprs.now.texts.statement.now c.args.tables.now c.args.target.now.table).columns (c.count-sets.ensures c.args.exprs.now.texts.catalog.now c.args.exprs.now.texts.statement.now c.args.exprs.now.table.now ∙ sym (sets-length c.args.exprs.now.texts.catalog.now c.args.exprs.now.texts.statement.now c.args.exprs.now.table.now c.args.parts.now))
+    (table_at c.args.exprs.now.texts.catalog.now c.args.exprs.now.texts.statement.now c.args.tables.now c.args.target.now.table).columns (c.count-sets.ensures _ _ _ ∙ sym (sets-length _ _ _ _))
     (rw (c.view-view.ensures.labels, c.view-view.ensures.matches, c.view-view.ensures.tables) at (c.write_sets.ensures h)) _ c.in_ok-written.was c.finish.auto.area c.finish.ensures
 
 pub returns-in_err-written : goal.returns-in_err-written
 returns-in_err-written c = λ h. rw (exit c.from_residual.result c.from_residual.ensures.1) (update-stops c.args.exprs.now.texts.catalog.now c.args.exprs.now.texts.statement.now c.args.tables.now c.args.target.now.table c.args.target.now.name.address c.args.target.now.name.length _ c.requires.free c.clipped-name.ensures.address c.clipped-name.ensures.length c.scan.ensures
     c.count-sets.result c.key.ensures c.update.ensures c.args.target.now.filter.cell c.requires.few_sets
-    (scope_at c.args.exprs.now.texts.catalog.now c.args.exprs.now.texts.statement.now c.args.exprs.now.table.now
+    (scope_at _ _ _
     (labels_of c.args.target.now.scope) (take c.args.target.now.scope.width c.args.target.now.scope.matches) (table_numbers c.args.target.now.scope) h)
-    (table_at c.args.exprs.now.texts.catalog.now c.args.exprs.now.texts.statement.now c.args.tables.now c.args.target.now.table).columns (c.count-sets.ensures c.args.exprs.now.texts.catalog.now c.args.exprs.now.texts.statement.now c.args.exprs.now.table.now ∙ sym (sets-length c.args.exprs.now.texts.catalog.now c.args.exprs.now.texts.statement.now c.args.exprs.now.table.now c.args.parts.now))
+    (table_at c.args.exprs.now.texts.catalog.now c.args.exprs.now.texts.statement.now c.args.tables.now c.args.target.now.table).columns (c.count-sets.ensures _ _ _ ∙ sym (sets-length _ _ _ _))
     (rw (c.view-view.ensures.labels, c.view-view.ensures.matches, c.view-view.ensures.tables) at (c.write_sets.ensures h)) _ c.in_err-written.was)

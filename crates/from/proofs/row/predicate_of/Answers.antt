@@ -4,4 +4,4 @@ use Rattle.from.specs.Access.{predicate_row, predicate-before}
 use Rattle.from.proofs.row.predicate_of.Goals as goal
 
 pub returns : goal.returns
-returns c = predicate-before _ _ c.checked_sub.ensures ∙ ap predicate_row c.at.ensures
+returns c = predicate-before _ _ c.of_number.ensures ∙ ap predicate_row c.at.ensures

@@ -20,4 +20,4 @@ returns-in-Int c = sym (literal-cell _ _ c.args.literal.first c.args.literal.sec
 
 pub returns-in-Text : goal.returns-in-Text
 unfolding kind_number cell_of
-returns-in-Text c = rw (literal-cell _ _ c.args.literal.first c.args.literal.second c.args.literal.kind (omega arith) (omega arith), c.in-Text.is, c.length_at.ensures)
+returns-in-Text c = rw (literal-cell _ _ c.args.literal.first c.args.literal.second c.args.literal.kind (omega arith) (omega arith), c.in-Text.is, c.length_at.ensures, c.of_literal.ensures)

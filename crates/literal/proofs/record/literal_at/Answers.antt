@@ -1,5 +1,5 @@
 -- `literal_at`: by the keyword and the number of fields.
-use Rattle.std.specs.Prelude.{ℕ, ◌≤◌, ◌≡◌, ◌≢◌, List, [], ◌∷◌, length, take, drop, slice_index, Option}
+use Rattle.std.specs.Prelude.{ℕ, ◌≤◌, ◌≡◌, ◌≢◌, List, [], ◌∷◌, length, take, drop, Option}
 use Rattle.std.proofs.Common.{refl, arith}
 use borrow.Author.Tests.{ne_eqb}
 use Rattle.rules.specs.Limits.{most_bytes}
@@ -13,7 +13,7 @@ use Rattle.numbers.specs.Values.{ValueFits, LiteralFits}
 use Rattle.numbers.specs.declared.literals.Literal.{Literal}
 use Rattle.text.specs.declared.Line.{Line}
 use Rattle.text.specs.Fields.{Inside, inside-field}
-use Rattle.text.specs.Lines.{field, Fields}
+use Rattle.text.specs.Lines.{nth_field, field, Fields}
 use Rattle.text.specs.Reading.{place}
 use Rattle.text.specs.Words.{find, words_of}
 use Rattle.text.specs.Packed.{Packed, find_number, Apart, find_none, packed-word}
@@ -30,15 +30,15 @@ module _ {x : Bytes} {r : ℕ} (p : Packed x r) where
 
 -- a record of one field, by the keyword's number
 by-field : {base : ℕ} {v : Bytes} {o : Option Literal} (x : Text) (t : Bytes) (p l d k : ℕ) {y : Line} → Fields t p y → {r : ℕ}
-    → Packed (take (slice_index y.lens 0) (drop (slice_index y.starts 0) t)) r → (n : ℕ)
+    → Packed (take (nth_field y.fields 0).length (drop (nth_field y.fields 0).start t)) r → (n : ℕ)
     → find_number (6114014574 ∷ 6114209634 ∷ 24407657 ∷ 1599362526310 ∷ 6249014644 ∷ []) r ≡ n → y.count ≡ 2
-    → IsLiteral base v (literal_by n (field (base_address x) t (slice_index y.starts 1) (slice_index y.lens 1))) o
+    → IsLiteral base v (literal_by n (field (base_address x) t (nth_field y.fields 1).start (nth_field y.fields 1).length)) o
     → IsLiteral base v (one_of literals (line_here (place x t p l d k))) o
 by-field x t p l d k f w n e m = literal-as (literal-field x t p l d k _ f n _ literal-words (at w n e) m)
 
 -- its field lies inside the text
 first-inside : {t : Bytes} {p : ℕ} {y : Line} → Fields t p y → length t ≤ most_bytes → p ≤ length t → y.count ≡ 2
-    → Inside t (slice_index y.starts 1) (slice_index y.lens 1)
+    → Inside t (nth_field y.fields 1).start (nth_field y.fields 1).length
 first-inside f h g m = inside-field _ _ _ f 1 h g (omega arith)
 
 behind : (n : ℕ) (ns : List ℕ) (r : ℕ) → (r ≡ n → ⊥) → find_number (n ∷ ns) r ≢ 0
@@ -67,7 +67,7 @@ returns-in_err-int-in-24407657 c = λ x l d k b. by-field x _ _ l d k c.requires
 
 pub returns-in_ok-int-in-24407657 : goal.returns-in_ok-int-in-24407657
 unfolding bytes find_number field
-returns-in_ok-int-in-24407657 c = λ x l d k b. by-field x _ _ l d k c.requires.fields (rw c.field.ensures at c.packed-word.ensures) 2 (rw c.in-24407657.is) c.if-f-ne2.false (rw b (int-some _ _ _ _ _ (rw c.field-value.ensures at c.in_ok-int-in-24407657.ensures) (omega arith) c.halves.ensures))
+returns-in_ok-int-in-24407657 c = λ x l d k b. by-field x _ _ l d k c.requires.fields (rw c.field.ensures at c.packed-word.ensures) 2 (rw c.in-24407657.is) c.if-f-ne2.false (rw b (int-some _ _ _ _ _ (rw c.field-value.ensures at c.in_ok-int-in-24407657.ensures) (omega arith) c.of_bits.ensures))
 
 pub returns-in_err-float-in-1599362526310 : goal.returns-in_err-float-in-1599362526310
 unfolding bytes find_number field
@@ -75,7 +75,7 @@ returns-in_err-float-in-1599362526310 c = λ x l d k b. by-field x _ _ l d k c.r
 
 pub returns-in_ok-float-in-1599362526310 : goal.returns-in_ok-float-in-1599362526310
 unfolding bytes find_number field
-returns-in_ok-float-in-1599362526310 c = λ x l d k b. by-field x _ _ l d k c.requires.fields (rw c.field.ensures at c.packed-word.ensures) 3 (rw c.in-1599362526310.is) c.if-f-ne2.false (rw b (float-some _ _ _ _ _ (rw c.field-value.ensures at c.in_ok-float-in-1599362526310.ensures) c.halves-in-1599362526310.ensures))
+returns-in_ok-float-in-1599362526310 c = λ x l d k b. by-field x _ _ l d k c.requires.fields (rw c.field.ensures at c.packed-word.ensures) 3 (rw c.in-1599362526310.is) c.if-f-ne2.false (rw b (float-some _ _ _ _ _ (rw c.field-value.ensures at c.in_ok-float-in-1599362526310.ensures) c.of_bits-in-1599362526310.ensures))
 
 pub returns-in-6249014644 : goal.returns-in-6249014644
 unfolding bytes find_number

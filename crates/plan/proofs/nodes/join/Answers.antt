@@ -7,4 +7,4 @@ use Rattle.plan.proofs.nodes.join.Goals as goal
 pub returns : goal.returns
 unfolding record_numbers sized
 returns c = pushed-as (rw (c.from.ensures, byte_flag c.args.outer, c.number_of.ensures))
-    (pushed-on c.head.ensures c.four.ensures)
+    (pushed-on c.head.ensures c.extend.ensures)

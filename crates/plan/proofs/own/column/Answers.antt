@@ -21,4 +21,4 @@ returns c = λ d e f g h i j. pushed-as (rw (
   c.from-4.ensures,
   byte_flag c.args.index,
 ))
-    (pushed-on (pushed-on c.four.ensures c.pair.ensures) c.place.ensures)
+    (pushed-on c.extend.ensures c.place.ensures)

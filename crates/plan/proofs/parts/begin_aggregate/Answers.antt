@@ -6,4 +6,4 @@ use Rattle.plan.proofs.parts.begin_aggregate.Goals as goal
 
 pub returns : goal.returns
 unfolding opened unsized record_numbers sized function_numbers
-returns c = pushed-on c.head.ensures c.pair.ensures
+returns c = pushed-on c.head.ensures c.extend.ensures

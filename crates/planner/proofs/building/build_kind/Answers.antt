@@ -6,7 +6,7 @@ use Rattle.planner.specs.Kinds.{ready, plans-as, select-any, select-built, other
 use Rattle.planner.proofs.building.build_kind.Goals as goal
 
 pub build_select-requires : goal.build_select-requires
-build_select-requires c = select-any _ _ _ _ _ (sym c.in-Select.is ∙ c.kind_of-kind.ensures) c.requires.statement_ready c.requires.cells_len c.requires.free
+build_select-requires c = select-any _ _ _ _ _ (sym c.in-Select.is ∙ c.kind_of-kind.ensures) c.requires.statement_ready c.requires.free
 
 pub build_create_table-requires : goal.build_create_table-requires
 build_create_table-requires c = create-ready _ _ _ _ _ (sym c.in-Create.is ∙ c.kind_of-kind.ensures) (ready c.requires.statement_ready c.requires.free)

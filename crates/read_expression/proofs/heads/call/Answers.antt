@@ -18,4 +18,4 @@ returns-in_err-v c = λ t o i. rw c.from_residual-in_err-v.ensures (no_row (call
 
 pub returns : goal.returns
 unfolding number_of
-returns c = λ t o i. call-some _ _ _ i _ _ _ c.in_ok-name.ensures.0 (c.in_ok-v.ensures o) (rw c.in_ok-name.ensures.1 refl) refl
+returns c = λ t o i. call-some _ _ _ i _ _ _ c.in_ok-name.ensures.0 (c.in_ok-v.ensures o) (rw (c.plain_row.ensures, c.in_ok-name.ensures.1) refl) (rw c.plain_row.ensures refl)

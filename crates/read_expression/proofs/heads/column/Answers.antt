@@ -10,4 +10,4 @@ returns-in_err-name c = λ t i. rw c.from_residual.ensures (no_row (column-none 
 
 pub returns : goal.returns
 unfolding number_of
-returns c = λ t i. column-some _ _ _ i _ c.in_ok-name.ensures.0 (rw c.in_ok-name.ensures.1 refl) refl
+returns c = λ t i. column-some _ _ _ i _ c.in_ok-name.ensures.0 (rw (c.plain_row.ensures, c.in_ok-name.ensures.1) refl) (rw c.plain_row.ensures refl)

@@ -1,12 +1,12 @@
 -- `head`: by the number that the keyword is packed into, and the number of fields.
 use native.Mathlib.Omega.{arith}
 use mathlib.Core.Path.{refl}
-use Rattle.std.specs.Prelude.{◌+◌, get_or}
+use Rattle.std.specs.Prelude.{◌+◌}
 use Rattle.rules.specs.Limits.{most_bytes}
 use Rattle.rules.specs.Lines.{bytes}
 use Rattle.rules.specs.Refusals as rule
 use Rattle.rules.specs.Reader.{base_address, word}
-use Rattle.text.specs.Lines.{field}
+use Rattle.text.specs.Lines.{nth_field, field}
 use Rattle.text.specs.Fields.{inside-field}
 use Rattle.text.specs.Tables.{head-table}
 use Rattle.text.specs.Packed.{find_number, Apart, find_none, packed-word}
@@ -51,7 +51,7 @@ returns-in_default-count-2 c = λ l d k. no_row (head-column-not _ _ l d k _ c.r
 
 pub returns-in-3-count : goal.returns-in-3-count
 unfolding bytes find_number field
-returns-in-3-count c = λ l d k. row-of-as _ _ _ _ (head-call _ _ l d k _ c.requires.fields _ _ other-words (packed-word _ _ _ _ _ head-table (rw c.field.ensures at c.packed.ensures) (rw c.in-93798.is)) refl c.in-3-count.is) (rw c.field-in-3-count.ensures at (c.call.ensures _ (most_bytes + get_or c.args.f.starts 2 0) (inside-field _ _ _ c.requires.fields 1 c.requires.short c.requires.within (omega (arith, c.in-3-count.is)))))
+returns-in-3-count c = λ l d k. row-of-as _ _ _ _ (head-call _ _ l d k _ c.requires.fields _ _ other-words (packed-word _ _ _ _ _ head-table (rw c.field.ensures at c.packed.ensures) (rw c.in-93798.is)) refl c.in-3-count.is) (rw c.field-in-3-count.ensures at (c.call.ensures _ (most_bytes + (nth_field c.args.f.fields 2).start) (inside-field _ _ _ c.requires.fields 1 c.requires.short c.requires.within (omega (arith, c.in-3-count.is)))))
 
 pub returns-in_default-count-3 : goal.returns-in_default-count-3
 unfolding bytes find_number
@@ -73,4 +73,4 @@ returns-in_err-literal_at-in_default c = λ l d k. rw c.from_residual.ensures (r
 pub returns-in_ok-literal_at-in_default : goal.returns-in_ok-literal_at-in_default
 unfolding bytes base_address Apart
 returns-in_ok-literal_at-in_default c = λ l d k. row-of-as _ _ _ _ (head-literal _ _ l d k _ c.requires.fields _ _ other-words (packed-word _ _ _ _ _ head-table (rw c.field.ensures at c.packed.ensures)
-    (find_none _ _ (λ e. omega (arith, e), (λ e. omega (arith, e), (λ e. omega (arith, e), (λ e. omega (arith, e), tt)))))) (omega arith)) (c.literal_row.ensures _ _ (c.in_ok-literal_at-in_default.ensures rule.statement l d k refl))
+    (find_none _ _ (λ e. omega (arith, e), (λ e. omega (arith, e), (λ e. omega (arith, e), (λ e. omega (arith, e), tt)))))) (omega arith)) (c.literal_row.ensures.says _ _ (c.in_ok-literal_at-in_default.ensures rule.statement l d k refl))

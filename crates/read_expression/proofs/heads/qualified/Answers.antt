@@ -13,4 +13,4 @@ returns-in_err-name c = λ t i j. rw c.from_residual-in_err-name.ensures (no_row
 
 pub returns : goal.returns
 unfolding number_of
-returns c = λ t i j. qualified-some _ _ _ _ _ i j _ c.in_ok-table.ensures.0 c.in_ok-name.ensures.0 (rw (c.in_ok-table.ensures.1, c.in_ok-name.ensures.1) refl) refl
+returns c = λ t i j. qualified-some _ _ _ _ _ i j _ c.in_ok-table.ensures.0 c.in_ok-name.ensures.0 (rw (c.qualified_row.ensures, c.in_ok-table.ensures.1, c.in_ok-name.ensures.1) refl) (rw c.qualified_row.ensures refl)

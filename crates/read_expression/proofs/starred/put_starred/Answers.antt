@@ -7,11 +7,11 @@ use Rattle.read_expression.proofs.starred.put_starred.Goals as goal
 pub returns-then-k-ge-STARRED_ROWS : goal.returns-then-k-ge-STARRED_ROWS
 returns-then-k-ge-STARRED_ROWS c = starred-past _ _ _ _ _ _ _ c.if-k-ge-STARRED_ROWS.true
 
-pub returns-then-cells-ne-TABLE_SIZE : goal.returns-then-cells-ne-TABLE_SIZE
-returns-then-cells-ne-TABLE_SIZE c = starred-short _ _ _ _ _ _ _ c.if-k-ge-STARRED_ROWS.false c.if-cells-ne-TABLE_SIZE.true
+pub returns-in_default : goal.returns-in_default
+returns-in_default c = starred-short _ _ _ _ _ _ _ c.if-k-ge-STARRED_ROWS.false c.in_default.ensures.cases
 
 pub returns : goal.returns
 unfolding starred_numbers number_of
 returns c = let called = c in
-    called.put_row.ensures
-    ∙ sym (starred-is _ _ _ _ _ _ _ called.if-k-ge-STARRED_ROWS.false called.if-cells-ne-TABLE_SIZE.false)
+    (rw called.qualified_row-h.ensures at called.put_row.ensures)
+    ∙ rw c.in-Some.ensures.cases.same (sym (starred-is _ _ _ _ _ _ _ c.if-k-ge-STARRED_ROWS.false c.in-Some.ensures.cases.long))

@@ -22,12 +22,12 @@ default_record-requires c = record { position = column-next c.requires c.column_
 pub returns-in_default-default_record : goal.returns-in_default-default_record
 returns-in_default-default_record c = rw c.at-in_default-default_record.ensures (column-default c.requires c.column_record.ensures (c.in_ok-c.was ∙ ap Ok c.in-Some.is) c.if-index-ge-MOST_TABLE_COLUMNS.false _ c.default_record.ensures c.in_default-default_record.is)
 
-pub put_four-requires : goal.put_four-requires
-put_four-requires c = omega (arith, column-room c.requires c.column_record.ensures (c.in_ok-c.was ∙ ap Ok c.in-Some.is) c.if-index-ge-MOST_TABLE_COLUMNS.false _ c.default_record.ensures c.in-Some-default_record.is)
+pub put-requires : goal.put-requires
+put-requires c = omega (arith, column-room c.requires c.column_record.ensures (c.in_ok-c.was ∙ ap Ok c.in-Some.is) c.if-index-ge-MOST_TABLE_COLUMNS.false _ c.default_record.ensures c.in-Some-default_record.is)
 
 pub put_given-requires : goal.put_given-requires
-put_given-requires c = omega (arith, column-room c.requires c.column_record.ensures (c.in_ok-c.was ∙ ap Ok c.in-Some.is) c.if-index-ge-MOST_TABLE_COLUMNS.false _ c.default_record.ensures c.in-Some-default_record.is, c.put_four.auto.s)
+put_given-requires c = omega (arith, column-room c.requires c.column_record.ensures (c.in_ok-c.was ∙ ap Ok c.in-Some.is) c.if-index-ge-MOST_TABLE_COLUMNS.false _ c.default_record.ensures c.in-Some-default_record.is, c.put.auto.s)
 
 pub returns : goal.returns
 unfolding flag
-returns c = column-read c.requires c.column_record.ensures (c.in_ok-c.was ∙ ap Ok c.in-Some.is) c.if-index-ge-MOST_TABLE_COLUMNS.false _ c.default_record.ensures c.in-Some-default_record.is refl (rw (c.from-datatype.ensures, c.from-nullable.ensures) at c.put_four.ensures) c.put_four.auto.s c.put_given.ensures c.fields-f.ensures.next
+returns c = column-read c.requires c.column_record.ensures (c.in_ok-c.was ∙ ap Ok c.in-Some.is) c.if-index-ge-MOST_TABLE_COLUMNS.false _ c.default_record.ensures c.in-Some-default_record.is refl (rw (c.column_start-i.ensures, c.from-datatype.ensures, c.from-nullable.ensures) at c.put.ensures) c.put.auto.s (rw c.column_start-i.ensures at c.put_given.ensures) c.fields-f.ensures.next

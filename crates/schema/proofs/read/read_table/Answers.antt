@@ -20,4 +20,4 @@ pub returns-then-run-h : goal.returns-then-run-h
 returns-then-run-h c = rw c.at-then-run-h.ensures (table-key c.requires c.table_record.ensures c.in-Some.is c.if-index-ge-MOST_TABLES.false c.read_columns.ensures c.in_ok-run.was c.if-run-h.true)
 
 pub returns : goal.returns
-returns c = table-read c.requires c.table_record.ensures c.in-Some.is c.if-index-ge-MOST_TABLES.false c.read_columns.ensures c.in_ok-run.was c.if-run-h.false refl c.read_columns.auto.tables c.put_four.ensures c.put_four.auto.s
+returns c = table-read c.requires c.table_record.ensures c.in-Some.is c.if-index-ge-MOST_TABLES.false c.read_columns.ensures c.in_ok-run.was c.if-run-h.false refl c.read_columns.auto.tables (rw c.table_start-i.ensures at c.put.ensures)

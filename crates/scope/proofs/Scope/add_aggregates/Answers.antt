@@ -11,9 +11,9 @@ use Rattle.scope.proofs.Scope.add_aggregates.Goals as goal
 pub loop-j-preserved : goal.loop-j-preserved
 loop-j-preserved c =
     let few : c.loop-j.j < most_columns = omega (arith, c.requires.few, c.loop-j-test.true) in
-    let f = passed_label c.args.exprs.now.texts.catalog.now c.args.exprs.now.texts.statement.now c.args.exprs.now.table.now c.args.self in (
+    let f = passed_label c.args.exprs.now.texts.catalog.now c.args.exprs.now.texts.statement.now c.args.exprs.now.table.now c.args.self.now in (
       copying-map f c.args.rows.now _ c.loop-j.invariant.0 few c.loop-j-test.true
-          (label-passed c.args.exprs.now.table.now c.args.self _ (rw (c.view-view.ensures.labels, c.view-view.ensures.matches, c.view-view.ensures.tables) at c.label_of.ensures)),
+          (label-passed c.args.exprs.now.table.now c.args.self.now _ (rw (c.view-view.ensures.labels, c.view-view.ensures.matches, c.view-view.ensures.tables) at c.label_of.ensures)),
       copying-map match_number c.args.rows.now _ c.loop-j.invariant.1 few c.loop-j-test.true c.match_number.ensures,
     )
 

@@ -12,4 +12,4 @@ pub returns : goal.returns
 returns c = let i = c.loop-j.invariant in
     merged _ c.requires i.5 (omega arith) c.loop-j-test.false
     (rw i.1 at c.overwrite.ensures) i.0 i.4
-    (ap (λ x. x + c.args.other.width) i.2) (ap (λ x. x + c.args.other.count) i.3)
+    (ap (λ x. x + c.args.other.now.width) i.2) (ap (λ x. x + c.args.other.now.count) i.3)

@@ -15,7 +15,7 @@ loop-j-preserved c = let i = c.loop-j.invariant in (
   i.0,
   i.1,
   i.2,
-  storing-more _ i.3 (omega (arith, c.requires.few, c.loop-j-test.true)) c.loop-j-test.true c.new_match.ensures,
+  storing-more _ i.3 (omega (arith, c.requires.few, c.loop-j-test.true)) c.loop-j-test.true (rw c.first.ensures at c.new_match.ensures),
 )
 
 pub returns : goal.returns

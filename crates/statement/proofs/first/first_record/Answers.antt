@@ -1,9 +1,9 @@
 -- `first_record`: by the keyword and the number of fields.
-use Rattle.std.specs.Prelude.{◌+◌, get_or}
+use Rattle.std.specs.Prelude.{◌+◌}
 use native.Mathlib.Omega.{arith}
 use Rattle.rules.specs.Limits.{most_bytes}
 use mathlib.Core.Path.{sym, ◌∙◌}
-use Rattle.text.specs.Lines.{field}
+use Rattle.text.specs.Lines.{nth_field, field}
 use Rattle.statement.specs.FirstRecord.{first_said, first-inside, first-none, first-plain, first-plain-not, first-drop, first-drop-not, first-named, first-named-not}
 use Rattle.statement.proofs.first.first_record.Goals as goal
 
@@ -27,7 +27,7 @@ dropped-requires c = let i = first-inside _ _ c.requires.fields 1 c.requires.sho
 
 pub returns-else-n-ne3 : goal.returns-else-n-ne3
 unfolding field
-returns-else-n-ne3 c b = (rw c.field-in-Drop.ensures at (c.dropped.ensures b _ (most_bytes + get_or c.args.f.starts 2 0) (first-inside _ _ c.requires.fields 1 c.requires.short (omega (arith, c.if-n-ne3.false))))) ∙ sym (first-drop _ _ c.requires.fields c.field.ensures _ c.in_ok-kind.ensures c.in-Drop.is c.if-n-ne3.false)
+returns-else-n-ne3 c b = (rw c.field-in-Drop.ensures at (c.dropped.ensures b _ (most_bytes + (nth_field c.args.f.fields 2).start) (first-inside _ _ c.requires.fields 1 c.requires.short (omega (arith, c.if-n-ne3.false))))) ∙ sym (first-drop _ _ c.requires.fields c.field.ensures _ c.in_ok-kind.ensures c.in-Drop.is c.if-n-ne3.false)
 
 pub returns-then-n-ne2 : goal.returns-then-n-ne2
 unfolding first_said

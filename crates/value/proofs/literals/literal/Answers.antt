@@ -10,4 +10,4 @@ use Rattle.value.proofs.literals.literal.Goals as goal
 pub returns-in-Int : goal.returns-in-Int
 unfolding value_of held literal_of
 returns-in-Int c = λ t q. rw c.in-Int.is (ap int
-    (read-mag _ c.from_bits.type_inv ∙ sym (signed-bits _ c.from_bits.type_inv) ∙ ap signed (c.from_bits.ensures ∙ c.joined-n.ensures)))
+    (read-mag _ c.from_bits.type_inv ∙ sym (signed-bits _ c.from_bits.type_inv) ∙ ap signed (c.from_bits.ensures ∙ c.bits-n.ensures)))

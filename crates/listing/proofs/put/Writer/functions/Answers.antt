@@ -1,14 +1,11 @@
 -- `functions`: the fields of the parts before those left are put.
-use Rattle.std.proofs.Common.{◌∷◌, [], arith, ap, ◌∙◌}
-use Rattle.std.specs.Slice.Iter.{chunks_exact_rest, chunks_exact_size}
+use Rattle.std.proofs.Common.{◌∷◌, [], arith}
 use Rattle.listing.specs.Parts.{parts-begin, parts-more, parts-all, two-only}
 use Rattle.listing.specs.Nodes.{function_fields, functions_fields}
 use Rattle.listing.proofs.put.Writer.functions.Goals as goal
 
 pub loop-function-init : goal.loop-function-init
-loop-function-init c =
-    let i = c.into_iter-function-iterator.ensures.into_iter_gives in
-    parts-begin _ _ (ap chunks_exact_size i ∙ c.chunks_exact-function-items.ensures.size) (ap chunks_exact_rest i ∙ c.chunks_exact-function-items.ensures.rest)
+loop-function-init c = let chunks = c.chunks_exact-function-items.ensures in parts-begin _ _ c.into_iter-function-iterator.ensures.into_iter_gives chunks.size chunks.rest
 
 pub loop-function-preserved : goal.loop-function-preserved
 unfolding function_fields

@@ -1,14 +1,11 @@
 -- `items`: the fields of the parts before those left are put.
-use Rattle.std.proofs.Common.{◌∷◌, [], arith, ap, ◌∙◌}
-use Rattle.std.specs.Slice.Iter.{chunks_exact_rest, chunks_exact_size}
+use Rattle.std.proofs.Common.{◌∷◌, [], arith}
 use Rattle.listing.specs.Parts.{parts-begin, parts-more, parts-all, three-only}
 use Rattle.listing.specs.Nodes.{item_fields, items_fields}
 use Rattle.listing.proofs.put.Writer.items.Goals as goal
 
 pub loop-item-init : goal.loop-item-init
-loop-item-init c =
-    let i = c.into_iter-item-iterator.ensures.into_iter_gives in
-    parts-begin _ _ (ap chunks_exact_size i ∙ c.chunks_exact-item-items.ensures.size) (ap chunks_exact_rest i ∙ c.chunks_exact-item-items.ensures.rest)
+loop-item-init c = let chunks = c.chunks_exact-item-items.ensures in parts-begin _ _ c.into_iter-item-iterator.ensures.into_iter_gives chunks.size chunks.rest
 
 pub loop-item-preserved : goal.loop-item-preserved
 unfolding item_fields

@@ -1,14 +1,11 @@
 -- `keys`: the fields of the parts before those left are put.
-use Rattle.std.proofs.Common.{◌∷◌, [], arith, ap, ◌∙◌}
-use Rattle.std.specs.Slice.Iter.{chunks_exact_rest, chunks_exact_size}
+use Rattle.std.proofs.Common.{◌∷◌, [], arith}
 use Rattle.listing.specs.Parts.{parts-begin, parts-more, parts-all, two-only}
 use Rattle.listing.specs.Nodes.{key_fields, keys_fields}
 use Rattle.listing.proofs.put.Writer.keys.Goals as goal
 
 pub loop-key-init : goal.loop-key-init
-loop-key-init c =
-    let i = c.into_iter-key-iterator.ensures.into_iter_gives in
-    parts-begin _ _ (ap chunks_exact_size i ∙ c.chunks_exact-key-items.ensures.size) (ap chunks_exact_rest i ∙ c.chunks_exact-key-items.ensures.rest)
+loop-key-init c = let chunks = c.chunks_exact-key-items.ensures in parts-begin _ _ c.into_iter-key-iterator.ensures.into_iter_gives chunks.size chunks.rest
 
 pub loop-key-preserved : goal.loop-key-preserved
 unfolding key_fields

@@ -6,4 +6,4 @@ use Rattle.listing.proofs.put.Writer.scan.Goals as goal
 
 pub returns : goal.returns
 unfolding scan_fields
-returns c = fields-same (fields-then c.place.ensures (fields-then c.alias.ensures c.given.ensures)) (λ d q. rw (c.place_at.ensures, c.optional_place_at.ensures, alias-numbers, c.optional.ensures, c.number.ensures))
+returns c = fields-same (fields-then c.place.ensures (fields-then c.alias.ensures c.given.ensures)) (λ d q. rw (c.place_at.ensures, c.optional_place_at.ensures, alias-numbers, c.of_number.ensures, c.number.ensures))

@@ -10,7 +10,7 @@ unfolding listed
 loop-x-init c = fields-none
 
 pub loop-x-preserved : goal.loop-x-preserved
-loop-x-preserved c = fields-more _ c.loop-x.invariant (fields-same c.column_target.ensures (λ d q. rw c.optional.ensures (target_at _ _)))
+loop-x-preserved c = fields-more _ c.loop-x.invariant (fields-same c.column_target.ensures (λ d q. rw c.of_number.ensures (target_at _ _)))
 
 pub returns : goal.returns
 unfolding each targets_fields

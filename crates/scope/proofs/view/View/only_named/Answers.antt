@@ -2,7 +2,8 @@
 use mathlib.Core.Path.{sym, ◌∙◌}
 use Rattle.scope.specs.Labels.{columns_of}
 use Rattle.scope.specs.Search.{seek-begin, seek-miss, seek-first}
-use Rattle.scope.specs.Search.{seek-second, seek-none, seek-one, only_none, only_one}
+use Rattle.scope.specs.Search.{seek-second, seek-end, only_none, only_one}
+use Rattle.std.proofs.Common.{rules}
 use Rattle.scope.specs.Endings.{ending-within}
 use Rattle.scope.proofs.view.View.only_named.Goals as goal
 use Rattle.scope.proofs.view.View.only_named.Goals.{then-is_named+else-is_some, else-is_named}
@@ -27,10 +28,6 @@ unfolding columns_of
 returns-then-is_some c = λ ts w e. seek-second (c.loop-i.invariant ts w e) c.loop-i-test.true
     (c.is_named.ensures ts w e c.ending_of-ending.ensures) c.if-is_named.true (sym c.is_some.ensures ∙ c.if-is_some.true)
 
-pub returns-in-Some : goal.returns-in-Some
+pub returns : goal.returns
 unfolding columns_of
-returns-in-Some c = λ ts w e. seek-one (c.loop-i.invariant ts w e) c.loop-i-test.false c.in-Some.is only_one
-
-pub returns-in-None : goal.returns-in-None
-unfolding columns_of
-returns-in-None c = λ ts w e. seek-none (c.loop-i.invariant ts w e) c.loop-i-test.false c.in-None.is only_none c.not_found.ensures
+returns c = λ ts w e. seek-end (c.loop-i.invariant ts w e) c.loop-i-test.false c.ok_or_else.ensures.cases (λ m q. search rules) only_none only_one
