@@ -107,12 +107,13 @@ mod tests {
     #[test]
     fn sizes_are_those_of_the_crates() {
         let schema = include_str!("../../../crates/schema/src/lib.rt");
-        let statement = include_str!("../../../crates/statement/src/lib.rt");
+        let from = include_str!("../../../crates/from/src/lib.rt");
+        let sections = include_str!("../../../crates/sections/src/lib.rt");
         let rows = include_str!("../../../crates/ast/src/rows.rt");
         assert_eq!(TABLE_NUMBERS, constant(schema, "NUMBERS"));
         let count = constant(rows, "STATEMENT_ROWS") + constant(rows, "STARRED_ROWS");
         assert_eq!(CELL_NUMBERS, constant(rows, "ROW_SIZE") * count);
-        assert_eq!(FROM_NUMBERS, constant(statement, "FROM_NUMBERS"));
-        assert_eq!(PART_NUMBERS, constant(statement, "PART_NUMBERS"));
+        assert_eq!(FROM_NUMBERS, constant(from, "FROM_NUMBERS"));
+        assert_eq!(PART_NUMBERS, constant(sections, "PART_NUMBERS"));
     }
 }
