@@ -1,6 +1,7 @@
 // The rows of the table: a record's numbers, its kind, its operands. A row's number is a usize: with it no sum overflows
 // whatever the table holds, since a row outside the table has 0 rows.
 ghost use Rattle.std.specs.Prelude.{◌≡◌, ◌+◌, ◌<◌};
+ghost use Rattle.numbers.specs.Codes.{or_least};
 ghost use Rattle.ast.specs.Table.{at, rows_at};
 ghost use Rattle.ast.specs.Operands.{operands_at};
 
@@ -31,6 +32,17 @@ pub fn at(table: &[u32], r: usize, k: u32) -> u32
         return 0;
     }
     number(table, ROW_SIZE * r + k as usize)
+}
+
+// k where it lies between least and most, else least.
+#[tactic(auto, unfolding(numbers::specs::Codes::or_least))]
+pub fn or_least(least: u32, most: u32, k: u32) -> u32
+    ensures { result ≡ or_least least most k }
+{
+    if k < least || most < k {
+        return least;
+    }
+    k
 }
 
 // The place whose address is the number at place k of row r, and its length the one behind that.

@@ -19,6 +19,9 @@ use plan::nodes::Nodes;
 use plan::parts::function;
 use scope::view::View;
 
+// How many numbers a function has in the record.
+pub const FUNCTION_SIZE: usize = 2;
+
 // The group at row r.
 fn add_group(
     exprs: &Expressions,

@@ -1,26 +1,21 @@
 -- The remap that drops hidden columns as a step: a record and no cell.
-use Rattle.std.specs.Prelude.{ℕ, zero, suc, pred, ◌+◌, ◌-◌, ◌≤◌, ◌<◌, ◌≡◌, refl, Bool, true, false, List, [], ◌∷◌, ◌++◌, length, get_or, take, Ok}
+use Rattle.std.specs.Prelude.{ℕ, zero, suc, pred, ◌+◌, ◌-◌, ◌≤◌, ◌<◌, ◌≡◌, refl, List, [], ◌∷◌, ◌++◌, length, get_or, take, Ok}
 use Rattle.std.proofs.Common.{arith, add-one, sub-one, sym, ap, ◌∙◌, append-nil, take-suc, take_all}
 use Rattle.std.proofs.Math.Option.{Option, none, some}
-use Rattle.std.proofs.Math.Dec.{ltb}
-use Rattle.std.proofs.lemmas.Bool.{ltb-true, ltb-false}
-use Rattle.std.specs.Bool.{then_some}
 use Rattle.rules.specs.Refusals.{ok}
 use Rattle.rules.specs.Lists.{Bytes}
 use Rattle.rules.specs.Ast.{Expr}
 use Rattle.rules.specs.Plan.{Built, Node}
 use Rattle.rules.specs.Nodes.{remap}
-use Rattle.rules.specs.Area.{option_number}
 use Rattle.rules.specs.Scope as rules
 use Rattle.rules.specs.Scope.{remap_hidden}
 use Rattle.rules.specs.BuildSelect.{build_remap}
 use Rattle.appends.specs.Select.Rows.{remap-step}
 use Rattle.scope.specs.Scopes.{scope_of, Valid}
-use Rattle.numbers.specs.Options.{option_of}
-use Rattle.scope.specs.Targets.{hidden_targets, remap-hidden, target_numbers, target-shown, target-hidden, targets-length, target-numbers}
+use Rattle.scope.specs.Targets.{hidden_targets, remap-hidden, target_numbers, targets-length, target-numbers}
 use Rattle.scope.specs.declared.Scope.{Scope}
 use Rattle.plan.specs.Layout.{record_head, length_place}
-use Rattle.plan.specs.Pushed.{Pushed, Stored, pushed-on, pushed-as}
+use Rattle.plan.specs.Pushed.{Pushed, Stored, pushed-none, pushed-on, pushed-as}
 use Rattle.plan.specs.declared.nodes.Nodes.{Nodes}
 use Rattle.plan.specs.Parts.{remap-targets}
 use Rattle.plan.specs.Records.{opened, ended}
@@ -33,26 +28,14 @@ pub record RemapBuilt (w h n m : ℕ) (nodes nodes' : Nodes) (x : Step) : Type 0
   pub is : (s : Scope) → Valid s → s.width ≡ w → s.hidden ≡ h → (e : ℕ → Expr) (c q : Bytes) (area : List ℕ)
       → Steps (λ d. d) (λ d. ok (build_remap d (scope_of e c q s))) n m area nodes area nodes' (Ok x)
 
--- the target of a column, of which the first s are shown
-pub target-at : (w s i : ℕ) {x : ℕ} → i < w → x ≡ option_number (option_of (then_some (ltb i s) i))
-    → x ≡ get_or (target_numbers w (w - s)) i 0
-unfolding option_number
-target-at w s i {x} l e = go (ltb i s) refl e
-  where
-    go : (b : Bool) → ltb i s ≡ b → x ≡ option_number (option_of (then_some b i)) → x ≡ get_or (target_numbers w (w - s)) i 0
-    go true h e = e ∙ target-shown w (w - s) i (omega (arith, ltb-true i s h, l))
-    go false h e = e ∙ target-hidden w (w - s) i (omega (arith, ltb-false i s h))
-
-pub target-few : (b : Bool) (i w : ℕ) → i < w → w < 4294967296 → option_number (option_of (then_some b i)) < 4294967296
-unfolding option_number
-target-few true i w l f = omega arith
-target-few false i w l f = omega arith
-
 -- THE TARGETS of the first i columns are pushed
 pub record Pushing (w h i : ℕ) (nodes₀ nodes : Nodes) : Type 0 where
   pub within : i ≤ w
   pub next : nodes.used ≡ nodes₀.used + i
   pub pushed : Pushed (take i (target_numbers w h)) nodes₀ nodes
+
+pub pushing-begin : (w h : ℕ) (nodes : Nodes) → nodes.used ≤ length nodes.numbers.now → Pushing w h 0 nodes nodes
+pushing-begin w h nodes l = record { within = omega arith; next = omega arith; pushed = pushed-none nodes l }
 
 module _ {w h i : ℕ} {nodes₀ nodes : Nodes} (p : Pushing w h i nodes₀ nodes) (u : h ≤ w) where
   pub pushing-more : i < w → {nodes' : Nodes} (x : ℕ) → x ≡ get_or (target_numbers w h) i 0

@@ -1,25 +1,25 @@
 // The remap that drops hidden columns (planner.rs, Scope::remap_hidden). It adds no cell.
-ghost use Rattle.std.specs.Prelude.{◌+◌, ◌-◌, ◌≤◌};
+ghost use Rattle.std.specs.Prelude.{◌+◌, ◌≤◌};
 ghost use Rattle.scope.specs.Targets.{target_numbers};
 ghost use Rattle.plan.specs.Layout.{source_head};
 ghost use Rattle.plan.specs.Pushed.{NodeRoom, Pushed};
 ghost use Rattle.build_clauses.specs.Follows.{Follows};
 ghost use Rattle.build_clauses.specs.Remaps.{RemapBuilt};
 
-use numbers::options::number_of;
 use plan::nodes::{Kind, Nodes};
 use plan::parts::{begin, end};
 use plan::steps::Step;
 use scope::Scope;
+use scope::hidden::hidden_target;
 
 // A target for each column: its position where it is shown, and none where it is hidden.
-fn push_targets(width: u32, shown: u32, nodes: &mut Nodes)
-    requires { NodeRoom width nodes.old }
-    ensures { Pushed (target_numbers width (width - shown)) nodes.old nodes.new }
+fn push_targets(width: u32, hidden: u32, nodes: &mut Nodes)
+    requires hidden_le_width { hidden ≤ width }
+    requires room { NodeRoom width nodes.old }
+    ensures { Pushed (target_numbers width hidden) nodes.old nodes.new }
 {
     for i in 0..width {
-        let target = (i < shown).then_some(i);
-        nodes.push(number_of(target));
+        nodes.push(hidden_target(width, hidden, i));
     }
 }
 
@@ -34,7 +34,7 @@ pub fn build_remap(scope: &Scope, nodes: &mut Nodes, at: Step) -> Step
     }
     let start = nodes.used;
     begin(nodes, Kind::Remap, at.node - 1);
-    push_targets(scope.width, scope.width - scope.hidden, nodes);
+    push_targets(scope.width, scope.hidden, nodes);
     end(nodes, start);
     at.next(at.cell)
 }

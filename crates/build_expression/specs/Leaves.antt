@@ -42,6 +42,10 @@ use Rattle.build_expression.specs.declared.Operator.TheVariants as O
 has-operands : (t : List ℕ) (r n : ℕ) → operands_at t r ≡ suc n → row_size * r < length t
 has-operands t r n e = operands-inside t r (λ z. omega arith)
 
+pub not-matched : (c q : Bytes) (t ms : List ℕ) (r : ℕ) (m : std.Option ℕ)
+    → option_of m ≡ match_at (matches_of (tree_at c q t) 0 ms) (tree_at c q t r) → m ≡ std.None → Unmatched c q t ms r
+not-matched c q t ms r m e f = record { is = sym e ∙ ap option_of f }
+
 -- the whole, or its refusal
 abbrev pub whole_of : Written → Result Begun Refusal
 whole_of (Ok m) = Ok (B.Whole m)
@@ -106,6 +110,16 @@ module _ (c q : Bytes) (t xs ms ts : List ℕ) (r n : ℕ) (area area' : List �
       begins-column x e g =
           let tree = column-row c q t r k kind e in
           whole _ x tree (λ h. emits-same (column-is _ n (line_at t r) none (row_name c q t r) (none_of _ h tree)) (g h))
+
+      pub begins-qualified : (x : Written) (o : Option Word) → o ≡ some (row_qualifier c q t r) → k ≡ K.Qualified
+          → ((h : ℕ) → Emits (column_step n (line_at t r) (lookup (scope_at c q t xs ms ts h) o (row_name c q t r)))
+          n area area' x)
+          → Begins c q t xs ms ts r n area area' (whole_of x)
+      begins-qualified x o w e g =
+          let tree = qualified-row c q t r k kind e in
+          whole _ x tree (λ h. emits-same
+          (column-is _ n (line_at t r) (some (row_qualifier c q t r)) (row_name c q t r) (none_of _ h tree))
+          (rw w at (g h)))
 
       pub begins-literal : (x : Written) → k ≡ K.Literal → Emits (literal_step n (row_literal c q t r)) n area area' x
           → Begins c q t xs ms ts r n area area' (whole_of x)

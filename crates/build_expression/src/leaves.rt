@@ -11,6 +11,7 @@ ghost use Rattle.plan.specs.Emits.{Emits};
 ghost use Rattle.build_expression.specs.Rows.{column_step, literal_step};
 ghost use Rattle.build_expression.specs.Builds.{Builds, Unmatched, Begins};
 
+use crate::position::position_of;
 use crate::{Begun, Operator};
 use ast::row::Kind;
 use ast::walk::is_root_call;
@@ -40,7 +41,7 @@ fn column(
         n area.old area.new result }
 {
     let found = scope.lookup(&exprs.texts, qualifier, row::name(exprs.table, r));
-    let i = found.map_err(|reason| reason.at(row::line(exprs.table, r)))?;
+    let i = position_of(found, row::line(exprs.table, r))?;
     cells::column(area, n, i);
     Ok(n + 1)
 }

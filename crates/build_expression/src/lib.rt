@@ -4,6 +4,7 @@
 mod leaves; // leaves.rt: what is built of a record before its operands
 mod operators; // operators.rt: what is appended behind them
 pub mod option; // option.rt: an expression that may be missing
+pub mod position; // position.rt: a column that was looked up
 
 ghost use Rattle.std.specs.Prelude.{◌*◌};
 ghost use Rattle.rules.specs.Ast.{size};

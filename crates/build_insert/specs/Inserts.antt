@@ -1,9 +1,9 @@
 -- INSERT: the plan at the end, and its answer.
-use Rattle.std.specs.Prelude.{ℕ, ◌+◌, ◌*◌, ◌≤◌, ◌≡◌, option_copied, Result, Ok, Err}
+use Rattle.std.specs.Prelude.{ℕ, ◌+◌, ◌*◌, ◌≤◌, ◌≡◌, Result, Ok, Err}
 use Rattle.std.specs.Prelude as std
 use native.Mathlib.Omega.{arith}
 use Rattle.std.proofs.Math.Path.{refl}
-use Rattle.std.proofs.Common.{Bor, sym, ap, ◌∙◌}
+use Rattle.std.proofs.Common.{sym, ap, ◌∙◌}
 use mathlib.Core.List.{List, [], ◌∷◌}
 use Rattle.std.proofs.Math.Option.{Option}
 use Rattle.std.proofs.Math.ListN.{length}
@@ -45,7 +45,7 @@ use Rattle.build_statement.specs.Kinds.{Free, ReadyFor, name_of, insert_at}
 use Rattle.build_statement.specs.Ends.{span-at, plan-count, planned, refused-at}
 use Rattle.schema.specs.Search.{TablePosition}
 use Rattle.build_statement.specs.Tables.{table_named, table-missing, table-is}
-use Rattle.build_insert.specs.Map.{given_map, Maps, given_names}
+use Rattle.build_insert.specs.Map.{map_of, MapsAs, Maps, given_names}
 use Rattle.build_insert.specs.Lists.{values_node, Listed, Lists, was-done, was-refused}
 use Rattle.build_insert.specs.Rows.{rows_at, RowsFit, rows_take}
 use Rattle.build_insert.specs.Own.{own_count, own-count, MapFits, some-own}
@@ -58,7 +58,7 @@ pub record InsertEnds (c q : Bytes) (a n : ℕ) (o : Option (List Mapping)) (m :
 
 module _ (c q : Bytes) (a n m : ℕ) {p : Place} (o : Option (List Mapping)) {s t : Nodes}
     (g : (b : Table) (d : Node ℕ) → span b.name ≡ place_numbers p → Pushed (own_numbers (P.insert b o d)) s t) where
-  pub insert-room : (area : List ℕ) → least_area ≤ length area → MapFits o s → m ≤ most_plan_cells
+  pub insert-room : (area : List ℕ) → least_area ≤ length area → length s.numbers.now ≡ nodes_size → m ≤ most_plan_cells
       → (plan_size ≤ length area) × (m ≤ most_plan_cells) × (s.used ≤ t.used) × (t.used ≤ nodes_size)
       × (t.used ≤ length t.numbers.now)
   insert-room area h f w =
@@ -66,7 +66,7 @@ module _ (c q : Bytes) (a n m : ℕ) {p : Place} (o : Option (List Mapping)) {s 
         omega (arith, h),
         w,
         omega (arith, x.next),
-        omega (arith, x.fits, f.all),
+        omega (arith, x.fits, f),
         omega (arith, x.fits, x.all),
       )
 
@@ -176,23 +176,23 @@ module _ (c q : Bytes) (tables cells parts : List ℕ) {area : List ℕ} {nodes 
       has : must_get_table (catalog_at c q tables) (line_at parts) (name_of c q parts) ≡ ok t
       has = (λ j. must_get_table (catalog_at c q tables) (sym hl j) (sym name-is j)) ∙ table-is c q tables a n l f i e
 
-      module _ {x : Result (std.Option (Bor (List ℕ))) Refusal}
-          (p : Maps (column_map (table_at c q tables i).columns (given_names c q cells parts)) x) where
+      module _ {ps ps' : List ℕ} {x : Result (std.Option ℕ) Refusal}
+          (p : Maps (column_map (table_at c q tables i).columns (given_names c q cells parts)) ps ps' x) where
         pub insert-map-refused : (y : Refusal) → x ≡ Err y
             → Plans (build_insert (catalog_at c q tables) (insert_at c q cells parts)) area area (Err y)
-        unfolding insert_of Maps named_by
+        unfolding insert_of MapsAs named_by
         insert-map-refused y g =
-            let w : RefusedWith (column_map t.columns (given_names c q cells parts)) y = rw g at p in
+            let w : RefusedWith (column_map t.columns (given_names c q cells parts)) y = rw g at p.is in
             refused-at w.why refl (ap Err w.refusal)
             (insert-map (catalog_at c q tables) (insert_at c q cells parts) t has w.why w.is)
 
-        module _ (m : std.Option (Bor (List ℕ))) (g : x ≡ Ok m) where
+        module _ (m : std.Option ℕ) (g : x ≡ Ok m) where
           abbrev map : Option (List Mapping)
-          map = given_map (option_copied m)
+          map = map_of ps' m
 
           map_is : column_map t.columns (insert_at c q cells parts).columns ≡ ok map
-          unfolding insert_of Maps named_by
-          map_is = rw g at p
+          unfolding insert_of MapsAs named_by
+          map_is = rw g at p.is
 
           pub insert-fits : InsertFits (rows_at c q cells parts) map
           unfolding insert_of

@@ -1,9 +1,9 @@
 -- INSERT's column map: the column's position for each value, in a slice, and the names that give it.
 use Prim.Native.Nat.{ℕ, zero, suc, ◌+◌, ◌≤◌, ◌<◌}
 use native.Mathlib.Omega.{arith}
-use Rattle.std.proofs.Common.{Bor, add-one, sym, ◌∙◌, length-set, length-take-le, get_or-set_same, get_or-set_other, get_or-take}
+use Rattle.std.proofs.Common.{add-one, sym, ◌∙◌, length-set, length-take-le, get_or-set_same, get_or-set_other, get_or-take}
 use Rattle.std.specs.Prelude as std
-use Rattle.std.specs.Prelude.{◌≡◌, Bool, true, false, ◌||◌, eqb, set, get_or, take, option_copied, Result, Ok, Err, Some, None}
+use Rattle.std.specs.Prelude.{◌≡◌, Bool, true, false, ◌||◌, eqb, set, get_or, take, Result, Ok, Err, Some, None, IfSome}
 use Rattle.std.specs.List.{list_any}
 use Rattle.std.proofs.Math.Path.{refl, ap}
 use mathlib.Core.List.{List, [], ◌∷◌, ◌++◌}
@@ -94,14 +94,34 @@ module _ (c : ℕ) where
 abbrev pub columns_of : Bytes → Bytes → List ℕ → ℕ → List Column
 columns_of c q tables i = (table_at c q tables i).columns
 
+-- no map, or that of the first n values
+unfoldable pub map_of : List ℕ → std.Option ℕ → Option (List Mapping)
+map_of ps None = none
+map_of ps (Some n) = some (mappings ps 0 n)
+
+-- it is that of the first n numbers alone
+pub map-of : (ps : List ℕ) {m : std.Option ℕ} (n : ℕ) → m ≡ Some n → IfSome m (λ k. k ≤ length ps)
+    → given_map (Some (take n ps)) ≡ map_of ps m
+unfolding given_map map_of
+map-of ps n e h = rw e (ap some (mappings-first ps n (rw e at h)))
+
+pub map-of-none : (ps : List ℕ) {m : std.Option ℕ} → m ≡ None → given_map None ≡ map_of ps m
+unfolding given_map map_of
+map-of-none ps e = rw e refl
+
 -- the map, or a refusal
-unfoldable pub Maps : Answer (Option (List Mapping)) → Result (std.Option (Bor (List ℕ))) Refusal → Type 0
-Maps a (Ok m) = a ≡ ok (given_map (option_copied m))
-Maps a (Err w) = RefusedWith a w
+unfoldable pub MapsAs : Answer (Option (List Mapping)) → List ℕ → Result (std.Option ℕ) Refusal → Type 0
+MapsAs a ps (Ok m) = a ≡ ok (map_of ps m)
+MapsAs a ps (Err w) = RefusedWith a w
+
+-- the numbers ps are lent for it, and ps' are left
+pub record Maps (a : Answer (Option (List Mapping))) (ps ps' : List ℕ) (r : Result (std.Option ℕ) Refusal) : Type 0 where
+  pub kept : length ps' ≡ length ps
+  pub is : MapsAs a ps' r
 
 -- a map that there is
-abbrev pub given_result : Result (Bor (List ℕ)) Refusal → Result (std.Option (Bor (List ℕ))) Refusal
-given_result (Ok ps) = Ok (Some ps)
+abbrev pub given_result : Result ℕ Refusal → Result (std.Option ℕ) Refusal
+given_result (Ok n) = Ok (Some n)
 given_result (Err w) = Err w
 
 -- there is a place for each name
@@ -148,15 +168,17 @@ module _ (c q : Bytes) (cells parts : List ℕ) (cs : List Column) where
 
   module _ {ps₀ ps : List ℕ} {v : ℕ} (p : MapSoFar ps₀ ps v) where
     pub map-all : (n : ℕ) → n ≡ length (section_at c q cells parts name_kind) → n ≤ v → v ≤ length (section_at c q cells parts name_kind)
-        → length (section_at c q cells parts name_kind) ≤ length ps₀ → whole ≡ ok (given_map (Some (take n ps)))
-    unfolding given_map
-    map-all n e h l f =
+        → Maps whole ps₀ ps (Ok (Some n))
+    unfolding MapsAs map_of
+    map-all n e h l =
         let z : drop v names ≡ [] = drop_of_length-le names {i = v}
         (omega (arith, map-length to_named (section_at c q cells parts name_kind), e, h)) in
         let y : v ≡ n = omega (arith, h, l, e) in
-        whole-ok (mappings (take n ps) 0 (length (take n ps)))
-        (p.left ∙ ap (λ ns. map_from cs ns v (mappings ps 0 v)) z ∙ map-done cs v _ ∙ ap (λ k. ok (mappings ps 0 k)) y
-        ∙ ap ok (sym (mappings-first ps n (omega (arith, e, f, p.same)))))
+        record {
+          kept = p.same;
+          is = whole-ok (mappings ps 0 n)
+              (p.left ∙ ap (λ ns. map_from cs ns v (mappings ps 0 v)) z ∙ map-done cs v _ ∙ ap (λ k. ok (mappings ps 0 k)) y);
+        }
 
     module _ (e : Entry) (x : e ≡ numbers_at parts name_kind v) (n : ℕ) (y : n ≡ length (section_at c q cells parts name_kind)) (l : v < n)
         (p₁ : Place) (s : p₁ ≡ name_or e.name) (r : std.Option ℕ) (f : found_of r ≡ column_at 0 cs (bytes_at c q p₁.address p₁.length)) where
@@ -165,13 +187,16 @@ module _ (c q : Bytes) (cells parts : List ℕ) (cs : List Column) where
           (after-drop v names (named_of e) (named-at c q cells parts name_kind v e x (omega (arith, y, l))))
 
       pub name-unknown : r ≡ std.None
-          → Maps whole (Err (record { reason = Re.UnknownInsertColumn; line = e.line }))
-      unfolding Maps table_position found_of word_at named
+          → Maps whole ps₀ ps (Err (record { reason = Re.UnknownInsertColumn; line = e.line }))
+      unfolding MapsAs table_position found_of word_at named
       name-unknown g =
           let z : table_position cs (word_of c q e) ≡ none = rw (table_position, ← s, ← f, g) in
-          refused-at unknown_insert_column e.line Re.UnknownInsertColumn e.line
-          (whole-refused unknown_insert_column e.line
-          (here ∙ map-unknown cs (named_of e) (drop (suc v) names) v (mappings ps 0 v) z)) refl refl
+          record {
+            kept = p.same;
+            is = refused-at unknown_insert_column e.line Re.UnknownInsertColumn e.line
+                (whole-refused unknown_insert_column e.line
+                (here ∙ map-unknown cs (named_of e) (drop (suc v) names) v (mappings ps 0 v) z)) refl refl;
+          }
 
       module _ (j : ℕ) (g : r ≡ std.Some j) where
         position : table_position cs (word_of c q e) ≡ some (cindex j)
@@ -179,43 +204,41 @@ module _ (c q : Bytes) (cells parts : List ℕ) (cs : List Column) where
         position = rw (table_position, ← s, ← f, g)
 
         -- b says whether the column is among those of the first v values
-        module _ (f' : length (section_at c q cells parts name_kind) ≤ length ps₀) (b : Bool)
-            (m : b ≡ mapped (cindex j) (mappings (take v ps) 0 (length (take v ps)))) where
-          is-mapped : mapped (cindex j) (mappings ps 0 v) ≡ b
-          is-mapped = sym (m ∙ mapped-first j ps v (omega (arith, f', p.same, p.few)))
-
-          pub name-repeated : b ≡ true → Maps whole (Err (record { reason = Re.RepeatedInsertColumn; line = e.line }))
-          unfolding Maps named
+        module _ (b : Bool) (m : b ≡ mapped (cindex j) (mappings ps 0 v)) where
+          pub name-repeated : b ≡ true → Maps whole ps₀ ps (Err (record { reason = Re.RepeatedInsertColumn; line = e.line }))
+          unfolding MapsAs named
           name-repeated t =
-              refused-at repeated_insert_column e.line Re.RepeatedInsertColumn e.line
-              (whole-refused repeated_insert_column e.line
-              (here ∙ map-repeated cs (named_of e) (drop (suc v) names) v (mappings ps 0 v) (cindex j) position
-              (is-mapped ∙ t))) refl refl
+              record {
+                kept = p.same;
+                is = refused-at repeated_insert_column e.line Re.RepeatedInsertColumn e.line
+                    (whole-refused repeated_insert_column e.line
+                    (here ∙ map-repeated cs (named_of e) (drop (suc v) names) v (mappings ps 0 v) (cindex j) position
+                    (sym m ∙ t))) refl refl;
+              }
 
-          stored : mappings (set ps v j) 0 (suc v)
-              ≡ mappings ps 0 v ++ (record { column = cindex j; value = vindex v } ∷ [])
-          stored =
-              let z : 0 + v ≡ v = omega arith in
-              mappings-last (set ps v j) 0 v
-              ∙ rw (z, mappings-set ps v j 0 v (omega arith), get_or-set_same ps v j 0 (omega (arith, y, l, f', p.same)))
-
-          pub name-mapped : b ≡ false → {ps' : List ℕ} → ps' ≡ set ps v j → MapSoFar ps₀ ps' (v + 1)
-          name-mapped t w = rw w (record {
+          pub name-mapped : b ≡ false → v < length ps → {ps' : List ℕ} → ps' ≡ set ps v j → MapSoFar ps₀ ps' (v + 1)
+          name-mapped t h w = rw w (record {
             same = length-set ps v j ∙ p.same;
             few = omega (arith, y, l);
             left = rw (add-one v) (here
-                ∙ map-step cs (named_of e) (drop (suc v) names) v (mappings ps 0 v) (cindex j) position (is-mapped ∙ t)
+                ∙ map-step cs (named_of e) (drop (suc v) names) v (mappings ps 0 v) (cindex j) position (sym m ∙ t)
                 ∙ ap (map_from cs (drop (suc v) names) (suc v)) (sym stored));
           })
+            where
+              stored : mappings (set ps v j) 0 (suc v)
+                  ≡ mappings ps 0 v ++ (record { column = cindex j; value = vindex v } ∷ [])
+              stored =
+                  let z : 0 + v ≡ v = omega arith in
+                  mappings-last (set ps v j) 0 v ∙ rw (z, mappings-set ps v j 0 v (omega arith), get_or-set_same ps v j 0 h)
 
 -- THE STATEMENT'S MAP
 module _ (c q : Bytes) (cells parts : List ℕ) (cs : List Column) (n : ℕ)
     (e : n ≡ length (section_at c q cells parts columns_kind)) where
-  pub map-missing : n ≡ 0 → Maps (column_map cs (given_names c q cells parts)) (Ok None)
-  unfolding Maps given_map column_map
-  map-missing z =
+  pub map-missing : n ≡ 0 → (ps : List ℕ) → Maps (column_map cs (given_names c q cells parts)) ps ps (Ok None)
+  unfolding MapsAs map_of column_map
+  map-missing z ps =
       let y = names-none (section_at c q cells parts columns_kind) (section_at c q cells parts name_kind) (sym e ∙ z) in
-      ap (column_map cs) y
+      record { kept = refl; is = ap (column_map cs) y }
 
   module _ (z : n ≡ 0 → ⊥) where
     given : given_names c q cells parts ≡ some (names_at c q cells parts)
@@ -228,6 +251,7 @@ module _ (c q : Bytes) (cells parts : List ℕ) (cs : List Column) (n : ℕ)
         let l : length (names_at c q cells parts) ≤ length ps = rw given at h in
         omega (arith, l, map-length to_named (section_at c q cells parts name_kind))
 
-    pub map-given : (r : Result (std.Option (Bor (List ℕ))) Refusal) → Maps (column_map cs (some (names_at c q cells parts))) r
-        → Maps (column_map cs (given_names c q cells parts)) r
-    map-given r h = rw given h
+    pub map-given : {ps ps' : List ℕ} {r : Result (std.Option ℕ) Refusal}
+        → Maps (column_map cs (some (names_at c q cells parts))) ps ps' r
+        → Maps (column_map cs (given_names c q cells parts)) ps ps' r
+    map-given h = rw given h

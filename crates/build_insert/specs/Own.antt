@@ -78,6 +78,9 @@ module _ {ps : List ℕ} {v : ℕ} {s t : Nodes} (p : PutSoFar ps v s t) where
             (mapping-one (record { column = cindex x; value = vindex v }) a));
       })
 
+  pub put_all : (n : ℕ) → v ≤ n → n ≤ v → Pushed (map_numbers_of (mappings ps 0 n)) s t
+  put_all n l h = let z : n ≡ v = omega arith in rw z p.numbers
+
 -- ALL
 -- a table whose name is at a place
 abbrev named : Place → Table

@@ -192,3 +192,7 @@ row-lists c q cells v r {n} {area} {area'} {s} {t} {u} {x} a h = go x h
           numbers = row-whole d.entry (pushed-as (ap (λ y. y ∷ []) e) a) d.numbers;
         })
     go (Err b) h = lists-refused one_row h.kept (kept-on a.kept h.all) (was-refused all_roots h b refl)
+
+pub row_room : {v : ℕ} {s t : Nodes} → Pushed (v ∷ []) s t → s.used + 1 + v ≤ length s.numbers.now
+    → t.used + v ≤ length t.numbers.now
+row_room a h = omega (arith, a.appended.next, a.appended.all, h)

@@ -1,5 +1,5 @@
 // INSERT: the table, its column map, then the rows of values (planner.rs, build_insert).
-ghost use Rattle.std.specs.Prelude.{◌≤◌, length, option_copied};
+ghost use Rattle.std.specs.Prelude.{◌≡◌, ◌≤◌, length, option_copied, IfSome};
 ghost use Rattle.rules.specs.Limits.{least_area};
 ghost use Rattle.rules.specs.Ast as ast;
 ghost use Rattle.rules.specs.BuildStatement.{build_insert};
@@ -7,7 +7,7 @@ ghost use Rattle.schema.specs.Layout.{catalog_at};
 ghost use Rattle.plan.specs.Layout.{most_plan_cells};
 ghost use Rattle.build_statement.specs.Plans.{Plans};
 ghost use Rattle.build_statement.specs.Kinds.{Free, ReadyFor, insert_at};
-ghost use Rattle.build_insert.specs.Map.{given_map};
+ghost use Rattle.build_insert.specs.Map.{given_map, map_of};
 ghost use Rattle.build_insert.specs.Rows.{rows_at};
 ghost use Rattle.build_insert.specs.Own.{MapFits};
 ghost use Rattle.build_insert.specs.Inserts.{InsertEnds, InsertFits, RowsPlanned};
@@ -17,7 +17,7 @@ use crate::own::put_own;
 use crate::rows::build_node;
 use ast::Expressions;
 use numbers::refusals::Refusal;
-use plan::finish::{Kind, finish};
+use plan::finish::Kind;
 use plan::nodes::Nodes;
 use plan::steps::Step;
 use schema::find_table;
@@ -50,7 +50,7 @@ fn end_insert(
         cell: cells,
         node: 1,
     };
-    finish(area, nodes, Kind::Insert, at, own);
+    nodes.finish(area, Kind::Insert, at, own);
 }
 
 // The rows and the end, of a table that is named by the bytes at a place, by its column map.
@@ -75,6 +75,17 @@ fn build_mapped(
     Ok(cells)
 }
 
+// The columns of a map among those lent, by how many they are.
+fn map_columns(columns: &[u32], count: Option<u32>) -> Option<&[u32]>
+    requires { IfSome count (λ n. n ≤ length columns.now) }
+    ensures { given_map (option_copied result) ≡ map_of columns.now count }
+{
+    match count {
+        None => None,
+        Some(n) => Some(&columns[..n as usize]),
+    }
+}
+
 // Refused at the statement's line where there is no such table.
 pub fn build_insert(
     exprs: &Expressions,
@@ -94,6 +105,7 @@ pub fn build_insert(
     let name = access::name(parts);
     let table = find_table(&exprs.texts, tables, name, access::line(parts))?;
     let mut columns = [0u32; MOST_NAMES];
-    let map = column_map(exprs, tables, table, parts, &mut columns)?;
+    let count = column_map(exprs, tables, table, parts, &mut columns)?;
+    let map = map_columns(&columns, count);
     build_mapped(exprs, parts, name, map, area, nodes)
 }

@@ -1,5 +1,5 @@
 // The column map of INSERT: the column of each value, where the statement names columns.
-ghost use Rattle.std.specs.Prelude.{◌≡◌, ◌≤◌, ◌<◌, length, set};
+ghost use Rattle.std.specs.Prelude.{◌≡◌, ◌≤◌, ◌<◌, length, set, IfOk, IfSome};
 ghost use Rattle.std.proofs.Math.Option.{some};
 ghost use Rattle.rules.specs.Plan.{cindex};
 ghost use Rattle.rules.specs.BuildStatement.{mapped, column_map};
@@ -39,20 +39,22 @@ fn is_mapped(columns: &[u32], column: TablePosition) -> bool
     columns.contains(&column.0)
 }
 
-// The column of each name in the i-th table, in order. Refused at the name of no column, and at one that was given before.
-fn map_names<'c>(
+// The column of each name in the i-th table, in order, and how many they are. Refused at the name of no column, and at one
+// that was given before.
+fn map_names(
     exprs: &Expressions,
     tables: &[u32],
     i: u32,
     parts: &[u32],
-    columns: &'c mut [u32],
-) -> Result<&'c [u32], Refusal>
+    columns: &mut [u32],
+) -> Result<u32, Refusal>
     requires { length (section_at exprs.now.texts.catalog.now exprs.now.texts.statement.now exprs.now.table.now parts.now
         name_kind) ≤ length columns.old }
-    ensures { map.Maps
+    ensures map { map.Maps
         (column_map (table_at exprs.now.texts.catalog.now exprs.now.texts.statement.now tables.now i).columns
         (some (map.names_at exprs.now.texts.catalog.now exprs.now.texts.statement.now exprs.now.table.now parts.now)))
-        (map.given_result result) }
+        columns.old columns.new (map.given_result result) }
+    ensures few { IfOk result (λ n. n ≤ length columns.new) }
 {
     let count = entry::count(parts, Section::Name);
     for v in 0..count {
@@ -68,27 +70,29 @@ fn map_names<'c>(
         }
         map_value(columns, ValuePosition(v), column);
     }
-    Ok(&columns[..count as usize])
+    Ok(count)
 }
 
-// The statement's map into the i-th table, or none. A `columns` of no names is not no `columns`.
-pub fn column_map<'c>(
+// The statement's map into the i-th table, or none: how many of the lent columns are the map. A `columns` of no names is
+// not no `columns`.
+pub fn column_map(
     exprs: &Expressions,
     tables: &[u32],
     i: u32,
     parts: &[u32],
-    columns: &'c mut [u32],
-) -> Result<Option<&'c [u32]>, Refusal>
+    columns: &mut [u32],
+) -> Result<Option<u32>, Refusal>
     requires { map.NamesFit (map.given_names exprs.now.texts.catalog.now exprs.now.texts.statement.now exprs.now.table.now
         parts.now) columns.old }
-    ensures { map.Maps
+    ensures map { map.Maps
         (column_map (table_at exprs.now.texts.catalog.now exprs.now.texts.statement.now tables.now i).columns
         (map.given_names exprs.now.texts.catalog.now exprs.now.texts.statement.now exprs.now.table.now parts.now))
-        result }
+        columns.old columns.new result }
+    ensures few { IfOk result (λ m. IfSome m (λ n. n ≤ length columns.new)) }
 {
     if entry::count(parts, Section::Columns) == 0 {
         return Ok(None);
     }
-    let map = map_names(exprs, tables, i, parts, columns)?;
-    Ok(Some(map))
+    let count = map_names(exprs, tables, i, parts, columns)?;
+    Ok(Some(count))
 }

@@ -9,7 +9,7 @@ use build_clauses::remaps::build_remap;
 use build_clauses::rows::{build_limit, build_offset};
 use entries::Section;
 use numbers::refusals::Refusal;
-use plan::finish::{Kind, finish};
+use plan::finish::Kind;
 use plan::nodes::Nodes;
 use plan::steps::Step;
 use scope::Scope;
@@ -23,7 +23,7 @@ fn select_remap(scope: &Scope, area: &mut [u32], nodes: &mut Nodes, at: Step) ->
 {
     let remapped = build_remap(scope, nodes, at);
     let own = nodes.used;
-    finish(area, nodes, Kind::Select, remapped, own);
+    nodes.finish(area, Kind::Select, remapped, own);
     remapped.cell
 }
 

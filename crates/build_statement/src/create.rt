@@ -26,7 +26,7 @@ use expression::planned::of_value;
 use literal::planned::in_plan;
 use numbers::literals::Literal;
 use numbers::refusals::{Reason, Refusal};
-use plan::finish::{Kind, finish};
+use plan::finish::Kind;
 use plan::nodes::Nodes;
 use plan::own;
 use plan::steps::Step;
@@ -170,7 +170,7 @@ fn create_table(
 {
     let own = nodes.used;
     table(exprs, parts, key, nodes)?;
-    finish(area, nodes, Kind::Create, Step { cell: 0, node: 0 }, own);
+    nodes.finish(area, Kind::Create, Step { cell: 0, node: 0 }, own);
     Ok(0)
 }
 

@@ -13,7 +13,7 @@ ghost use Rattle.build_statement.specs.Deletes.{DeleteEnds};
 use crate::target::{Target, build_target};
 use ast::Expressions;
 use numbers::refusals::Refusal;
-use plan::finish::{Kind, finish};
+use plan::finish::Kind;
 use plan::nodes::{Nodes, scan};
 use plan::own;
 use plan::steps::Step;
@@ -37,7 +37,7 @@ fn end_delete(texts: &Texts, tables: &[u32], target: &Target, area: &mut [u32], 
         cell: target.filter.cell,
         node: 1,
     };
-    finish(area, nodes, Kind::Delete, at, own);
+    nodes.finish(area, Kind::Delete, at, own);
 }
 
 pub fn build_delete(

@@ -7,7 +7,7 @@ ghost use Rattle.statement.specs.Access.{drop_flag};
 ghost use Rattle.build_statement.specs.Plans.{Plans};
 ghost use Rattle.build_statement.specs.Kinds.{Free, name_of};
 
-use plan::finish::{Kind, finish};
+use plan::finish::Kind;
 use plan::nodes::Nodes;
 use plan::own;
 use plan::steps::Step;
@@ -24,5 +24,5 @@ pub fn build_drop_table(texts: &Texts, parts: &[u32], area: &mut [u32], nodes: &
     let name = texts.clipped(access::name(parts));
     let own = nodes.used;
     own::drop(nodes, name, access::if_exists(parts));
-    finish(area, nodes, Kind::Drop, Step { cell: 0, node: 0 }, own);
+    nodes.finish(area, Kind::Drop, Step { cell: 0, node: 0 }, own);
 }

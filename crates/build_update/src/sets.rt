@@ -15,6 +15,7 @@ ghost use Rattle.build_update.specs.SoFar.{sets_at};
 
 use crate::set::build_set;
 use ast::Expressions;
+use build_expression::position::position_of;
 use entries::Section;
 use numbers::refusals::Refusal;
 use plan::nodes::Nodes;
@@ -48,7 +49,7 @@ fn write_set(
 {
     let name = name_or(e.name);
     let found = scope.lookup(&exprs.texts, None, name);
-    let j = found.map_err(|reason| reason.at(e.line))?;
+    let j = position_of(found, e.line)?;
     let next = build_set(exprs, tables, i, j, e, scope, area, cell)?;
     own::set(nodes, j, next - 1);
     Ok(next)

@@ -19,7 +19,7 @@ use ast::Expressions;
 use build_statement::target::{Target, build_target};
 use entries::Section;
 use numbers::refusals::Refusal;
-use plan::finish::{Kind, finish};
+use plan::finish::Kind;
 use plan::nodes::{Nodes, scan};
 use plan::own;
 use plan::steps::Step;
@@ -71,7 +71,7 @@ fn end_update(
         cell: written,
         node: 1,
     };
-    finish(area, nodes, Kind::Update, at, own);
+    nodes.finish(area, Kind::Update, at, own);
     Ok(written)
 }
 

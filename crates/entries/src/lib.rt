@@ -311,6 +311,8 @@ pub fn entry_head(
     if text::packed(f.field(t, 0)) != keyword(kind) {
         return Ok(None);
     }
-    let h = fields_head(t, f, kind, last).ok_or(Reason::WrongRecord.at(at.line))?;
+    let Some(h) = fields_head(t, f, kind, last) else {
+        return Err(Reason::WrongRecord.at(at.line));
+    };
     Ok(Some(h))
 }

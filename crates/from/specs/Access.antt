@@ -1,6 +1,6 @@
 -- FROM's rows by name, and the tree at a row by its kind: in all rows and at every row.
 use Prim.Native.Nat.{ℕ, zero, suc, ◌-◌, ◌≤◌, ◌<◌}
-use Rattle.std.proofs.Common.{arith, sym, ap, ◌∙◌}
+use Rattle.std.proofs.Common.{arith, sub-one, sym, ap, ◌∙◌}
 use Rattle.std.proofs.Math.Decide.{dec_lt}
 use Rattle.std.specs.Prelude.{◌≡◌, refl, List, [], ◌∷◌}
 use Rattle.std.proofs.Math.Option.{Option, none, some}
@@ -52,6 +52,16 @@ pub predicate-at : (b q : Bytes) (cells : List ℕ) (x : ℕ) → predicate_at b
 unfolding predicate_at predicate_of predicate_row
 predicate-at b q cells zero = refl
 predicate-at b q cells (suc r) = refl
+
+pub predicate-none : (x : ℕ) → x ≡ 0 → std.None ≡ predicate_row x
+unfolding predicate_row
+predicate-none zero h = refl
+predicate-none (suc x) h = absurd (omega (arith, h))
+
+pub predicate-some : (x : ℕ) → (x ≡ 0 → ⊥) → std.Some (x - 1) ≡ predicate_row x
+unfolding predicate_row
+predicate-some zero h = absurd (h refl)
+predicate-some (suc x) h = rw (sub-one (suc x))
 
 pub predicate-before : (x : ℕ) (o : std.Option ℕ) → option_number (option_of o) ≡ x → o ≡ predicate_row x
 unfolding predicate_row option_number

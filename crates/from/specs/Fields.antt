@@ -12,6 +12,7 @@ use Rattle.rules.specs.Ast.{Join}
 use Rattle.rules.specs.Reader.{key, rest, line_here, apply, one_of, word, both, two_fields, optional_name, name_alias}
 use Rattle.rules.specs.ReadStatement.{FromHead, joins, predicates, from_heads}
 use Rattle.rules.specs.Area.{span, option_span}
+use Rattle.text.specs.Words.{words_of, push, keys}
 use Rattle.text.specs.Lines.{nth_field, field, kept_fields, Fields}
 use Rattle.text.specs.Order.{same-swap}
 use Rattle.text.specs.Beside.{beside, beside-named}
@@ -250,3 +251,16 @@ module _ (t : Bytes) (p l c n : ℕ) (r : Line) (f : Fields t p r) where
   pub is-second : (a b : Bytes) → same (take (nth_field r.fields 0).length (drop (nth_field r.fields 0).start t)) a ≡ false
       → same (take (nth_field r.fields 0).length (drop (nth_field r.fields 0).start t)) b ≡ any (same (key (here t p l c n))) (a ∷ b ∷ [])
   is-second a b x = sym (rw (key-is statement t p l c n r f) (second-of _ a b x))
+
+-- THE WORDS of the tables
+pub join-words : keys joins ≡ words_of (bytes "cross inner left right ")
+unfolding joins keys words_of push bytes
+join-words = refl
+
+pub predicate-words : keys predicates ≡ words_of (bytes "on bare ")
+unfolding predicates keys words_of push bytes
+predicate-words = refl
+
+pub from-words : keys from_heads ≡ words_of (bytes "from join ")
+unfolding from_heads keys words_of push bytes
+from-words = refl

@@ -122,6 +122,13 @@ module _ (froms : List ℕ) where
       ∙ ap (λ m. get_or (roots_at froms (first_at froms r) ++ r ∷ []) m 0) (sym i)
       ∙ ap (λ rs. get_or rs k 0) (sym (order-next r)) ∙ h.is
 
+  -- both begin at all N rows
+  pub counts-begin : (N : ℕ) → Counts N N 0
+  counts-begin N = record { is = omega arith; few = omega arith }
+
+  pub finds-begin : (N k j : ℕ) → j ≡ length (roots_before froms N) → k < j → Finds N k N j
+  finds-begin N k j e h = record { is = refl; count = e; more = h }
+
 -- TREES
 map-onto : (f : ℕ → From) (l r : List ℕ) → map f (reverse_aux l r) ≡ reverse_aux (map f l) (map f r)
 map-onto f [] r = refl

@@ -201,7 +201,9 @@ fn next_side(
     ensures { (cells : List ℕ) → TurnFrom t.now s stack.old stack.new cells cells rows.old rows.new result }
 {
     let at = s.froms.at;
-    let h = from_record(t, at.position).ok_or(Reason::WrongRecord.at(at.line))?;
+    let Some(h) = from_record(t, at.position) else {
+        return Err(Reason::WrongRecord.at(at.line));
+    };
     match h.said {
         Said::Table(name, alias) => {
             let froms = add_table(s.froms, h.next, name, alias, rows)?;
@@ -331,7 +333,9 @@ fn read_tree(
         rows.old rows.new result }
 {
     let at = froms.at;
-    let h = from_record(t, at.position).ok_or(Reason::WrongRecord.at(at.line))?;
+    let Some(h) = from_record(t, at.position) else {
+        return Err(Reason::WrongRecord.at(at.line));
+    };
     let Said::Table(name, alias) = h.said else {
         return read_joined(t, froms, cells, rows);
     };

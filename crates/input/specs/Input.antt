@@ -33,3 +33,9 @@ within E s n h = (h, sym (length-take-le n s h))
 
 pub counted : {E : Type 0} (s : List ℕ) (r : Result ℕ E) {n : ℕ} → Whole s r → r ≡ Ok n → IsPrefixLen n s
 counted s r h e = (rw e at h).0
+
+pub failed : {E : Type 0} (s : List ℕ) (e : E) → Within s (Err e)
+failed s e = tt
+
+pub filled : {E : Type 0} (s : List ℕ) (r : Result ℕ E) {n : ℕ} → Within s r → r ≡ Ok n → IsPrefixLen n s
+filled s r h e = rw e at h

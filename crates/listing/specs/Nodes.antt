@@ -163,6 +163,10 @@ unfoldable pub node_lines : Bytes → Bytes → List ℕ → List (List Bytes)
 node_lines c q a = nodes_from c q (get_or a 3 0) (drop (header_size + get_or a 2 0 * 4) a)
 
 -- BY CASES
+pub alias-none : (c q : Bytes) (a n : ℕ) → n ≡ 0 → [] ≡ alias_fields c q a n
+unfolding alias_fields
+alias-none c q a n h = rw (alias_fields, eq-eqb n 0 h)
+
 pub alias-some : (c q : Bytes) (a n : ℕ) → (n ≡ 0 → ⊥) → bytes "as" ∷ bytes_at c q a n ∷ [] ≡ alias_fields c q a n
 unfolding alias_fields
 alias-some c q a n h = rw (alias_fields, ne_eqb n 0 h)

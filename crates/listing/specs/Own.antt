@@ -139,6 +139,10 @@ pub map-some : (x : ℕ) (t : List ℕ) → (x ≡ 0 → ⊥)
 unfolding map_lines
 map-some x t h = rw (map_lines, ne_eqb x 0 h)
 
+pub reference-none : (c q : Bytes) (a n : ℕ) → n ≡ 0 → [] ≡ reference_fields c q a n
+unfolding reference_fields
+reference-none c q a n h = rw (reference_fields, eq-eqb n 0 h)
+
 pub reference-some : (c q : Bytes) (a n : ℕ) → (n ≡ 0 → ⊥) → bytes_at c q a n ∷ [] ≡ reference_fields c q a n
 unfolding reference_fields
 reference-some c q a n h = rw (reference_fields, ne_eqb n 0 h)
@@ -184,3 +188,68 @@ header-is a kind h = rw (word-of (get_or a 1 0) kind h)
 pub own-none : (c q : Bytes) (k n : ℕ) (o : List ℕ) → ((kind : Kind) → k ≡ statement_number kind → ⊥) → [] ≡ own_lines c q k n o
 unfolding own_lines Misses
 own-none c q k n o h = choose-none _ _ _ (h K.Create, (h K.Drop, (h K.Delete, (h K.Insert, (h K.Update, tt)))))
+
+-- WHAT THE CODE PUTS
+module _ (c q f : Bytes) (o : List ℕ) {x y : ℕ} (e : x ≡ get_or o 0 0) (g : y ≡ get_or o 1 0) where
+  pub name-same : (n : ℕ) → (f ∷ bytes_at c q x y ∷ decimal_of n ∷ []) ∷ [] ≡ name_line c q f n o
+  unfolding name_line
+  name-same n = rw (e, g)
+
+  pub table_same : {z : ℕ} (n : ℕ) → z ≡ get_or o 2 0
+      → (f ∷ bytes_at c q x y ∷ decimal_of z ∷ decimal_of n ∷ []) ∷ [] ≡ table_line c q f n o
+  unfolding table_line
+  table_same n h = rw (e, g, h)
+
+pub pair_same : (f : Bytes) (i : ℕ) (t : List ℕ) {x y : ℕ} → x ≡ get_or t 0 0 → y ≡ get_or t 1 0
+    → (f ∷ decimal_of x ∷ decimal_of y ∷ []) ∷ [] ≡ pair_line f i t
+unfolding pair_line
+pair_same f i t e g = rw (e, g)
+
+pub column-line-same : (c q : Bytes) (t : List ℕ) {x y k n u v a m : ℕ} → x ≡ get_or t 0 0 → y ≡ get_or t 1 0 → k ≡ get_or t 2 0
+    → n ≡ get_or t 3 0 → u ≡ get_or t 4 0 → v ≡ get_or t 5 0 → a ≡ get_or t 6 0 → m ≡ get_or t 7 0
+    → (bytes "column" ∷ bytes_at c q x y ∷ word_of (bytes " bool int float text ") k ∷ word_of (bytes "notnull null ") n
+    ∷ word_of (bytes "- unique ") u ∷ word_of (bytes "- index ") v ∷ reference_fields c q a m) ∷ [] ≡ column_line c q t
+unfolding column_line
+column-line-same c q t e1 e2 e3 e4 e5 e6 e7 e8 = rw (e1, e2, e3, e4, e5, e6, e7, e8)
+
+pub drop-same : (c q : Bytes) (o : List ℕ) {x y z : ℕ} → x ≡ get_or o 0 0 → y ≡ get_or o 1 0 → z ≡ get_or o 2 0
+    → (bytes "drop" ∷ bytes_at c q x y ∷ word_of (bytes "no yes ") z ∷ []) ∷ [] ≡ drop_line c q o
+unfolding drop_line
+drop-same c q o e f g = rw (e, f, g)
+
+pub default-same : (c q : Bytes) (t : List ℕ) {k : ℕ} {w : Bytes} → k ≡ get_or t 0 0
+    → w ≡ word_of (bytes "nodefault null bool int float text ") k → (w ∷ value_rest c q k t) ∷ [] ≡ default_line c q t
+unfolding default_line
+default-same c q t e f = rw (f, e)
+
+pub column-same : (c q : Bytes) (i : ℕ) (t : List ℕ) {u : List ℕ} → u ≡ drop 8 t
+    → column_line c q t ++ default_line c q u ≡ column_lines c q i t
+unfolding column_lines
+column-same c q i t e = rw e
+
+pub create-same : (c q : Bytes) (o : List ℕ) {k n : ℕ} {t : List ℕ} → k ≡ get_or o 2 0 → n ≡ get_or o 3 0 → t ≡ drop 4 o
+    → name_line c q (bytes "create") k o ++ columns_lines c q n t ≡ create_lines c q o
+unfolding create_lines
+create-same c q o e f g = rw (e, f, g)
+
+pub insert-same : (c q : Bytes) (n : ℕ) (o : List ℕ) {x : ℕ} {t : List ℕ} → x ≡ get_or o 2 0 → t ≡ drop 3 o
+    → name_line c q (bytes "insert") n o ++ map_lines x t ≡ insert_lines c q n o
+unfolding insert_lines
+insert-same c q n o e f = rw (e, f)
+
+pub update_same : (c q : Bytes) (n : ℕ) (o : List ℕ) {x : ℕ} {t : List ℕ} → x ≡ get_or o 3 0 → t ≡ drop 4 o
+    → table_line c q (bytes "update") n o ++ pair_lines (bytes "set") x t ≡ update_lines c q n o
+unfolding update_lines
+update_same c q n o e f = rw (e, f)
+
+pub header-same : (a : List ℕ) {x y z : ℕ} → x ≡ get_or a 1 0 → y ≡ get_or a 3 0 → z ≡ get_or a 2 0
+    → (bytes "plan" ∷ word_of (bytes " select create drop delete insert update ") x ∷ decimal_of y ∷ decimal_of z ∷ []) ∷ []
+    ≡ header_line a
+unfolding header_line statement_word
+header-same a e f g = rw (e, f, g)
+
+pub area_same : (c q : Bytes) (a : List ℕ) {k n m p : ℕ} {o : List ℕ} → k ≡ get_or a 1 0 → n ≡ get_or a 3 0 → m ≡ n - 1
+    → p ≡ get_or a 4 0 → o ≡ drop p a
+    → header_line a ++ (cell_lines c q a ++ (node_lines c q a ++ own_lines c q k m o)) ≡ area_lines c q a
+unfolding area_lines
+area_same c q a e f g h k = rw (k, h, g, f, e)

@@ -55,6 +55,9 @@ put_then {s} {s₁} {s₂} {at} {x} {r} {a} {b} h g =
           ∙ ap (λ (i : ℕ). drop (at - length s) (take at a) ++ drop (i - length s) (take i b)) (sym h.left)));
     }
 
+pub put_same : {s s' : List ℕ} {at r : ℕ} {a b : Bytes} → Put s s' at a r → a ≡ b → Put s s' at b r
+put_same h e = rw (← e) h
+
 -- the bytes b put by a writer: its window and its texts stay the same ones
 pub record Puts (w w' : Writer) (b : Bytes) : Type 0 where
   pub window : w'.window.ghost_name ≡ w.window.ghost_name

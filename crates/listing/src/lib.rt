@@ -10,7 +10,7 @@ pub mod put; // put.rt: bytes and fields
 ghost use Rattle.std.specs.Prelude.{◌≡◌, drop};
 ghost use Rattle.rules.specs.Refusals.{refusal_number};
 ghost use Rattle.rules.specs.Entry.{text_number};
-ghost use Rattle.rules.specs.Print.{text_name, show_lines};
+ghost use Rattle.rules.specs.Print.{show_lines};
 ghost use Rattle.numbers.specs.Reasons.{reason_of};
 ghost use Rattle.numbers.specs.Texts.{text_of};
 ghost use Rattle.listing.specs.Lines.{Lines, LinesIn};
@@ -19,7 +19,7 @@ ghost use Rattle.listing.specs.Listed.{Told, Holds, refusal_line};
 
 use cells::tail;
 use numbers::number;
-use numbers::refusals::{Text, TextRefusal};
+use numbers::refusals::TextRefusal;
 use plan::finish::Kind;
 use put::Writer;
 use text::places::Texts;
@@ -55,17 +55,6 @@ fn kind_word(kind: Kind) -> &'static [u8]
     }
 }
 
-// The word of a text.
-#[tactic(auto, unfolding(numbers::specs::Texts::text_of, rules::specs::Print::text_name, rules::specs::Lines::bytes))]
-fn text_word(text: Text) -> &'static [u8]
-    ensures { result.now ≡ text_name (text_of text) }
-{
-    match text {
-        Text::Catalog => b"catalog",
-        Text::Statement => b"statement",
-    }
-}
-
 impl<'a> Writer<'a> {
     // The first line; an empty word where the statement's number is no kind's.
     fn header(&mut self, kind: Option<Kind>, area: &[u32])
@@ -92,16 +81,24 @@ impl<'a> Writer<'a> {
         }
     }
 
+    // The line of a refusal by its number, its text's number and its line; an empty word where the second is no text's.
+    fn refusal_line(&mut self, number: u32, text: u32, line: u32)
+        ensures { Lines self.old self.new (refusal_line number text line) }
+    {
+        self.bytes(b"refused");
+        self.number(number);
+        self.word(&[b"", b"catalog", b"statement"], text);
+        self.number(line);
+        self.byte(b'\n');
+    }
+
     // The line of a refusal.
     pub fn refusal(&mut self, refusal: TextRefusal)
         ensures { Lines self.old self.new (refusal_line (refusal_number (reason_of refusal.reason))
             (text_number (text_of refusal.text)) refusal.line) }
     {
-        self.bytes(b"refused");
-        self.number(u32::from(refusal.reason));
-        self.field(text_word(refusal.text));
-        self.number(refusal.line);
-        self.byte(b'\n');
+        let number = u32::from(refusal.reason);
+        self.refusal_line(number, u32::from(refusal.text), refusal.line);
     }
 }
 
@@ -119,10 +116,9 @@ pub fn list(texts: &Texts, area: &[u32], from: u32, out: &mut Window) -> Option<
     told(to.left)
 }
 
-// The line of a refusal from its byte `from` on, answered as `list` does.
-pub fn list_refusal(refusal: TextRefusal, from: u32, out: &mut Window) -> Option<usize>
-    ensures { Holds (drop from (show_lines (refusal_line (refusal_number (reason_of refusal.reason))
-        (text_number (text_of refusal.text)) refusal.line))) out.new result }
+// The line of a refusal by its number, its text's number and its line, from its byte `from` on, answered as `list` does.
+pub fn list_refusal(number: u32, text: u32, line: u32, from: u32, out: &mut Window) -> Option<usize>
+    ensures { Holds (drop from (show_lines (refusal_line number text line))) out.new result }
 {
     let mut to = Writer {
         window: out,
@@ -132,6 +128,6 @@ pub fn list_refusal(refusal: TextRefusal, from: u32, out: &mut Window) -> Option
             statement: b"",
         },
     };
-    to.refusal(refusal);
+    to.refusal_line(number, text, line);
     told(to.left)
 }

@@ -76,6 +76,10 @@ module _ (w : Word) where
   unfolding literal_by apply
   no-literal k h = rw (nth-none literals k (unfold literals in h))
 
+pub flag-words : keys flags ≡ words_of (bytes "t f ")
+unfolding flags keys words_of push bytes
+flag-words = refl
+
 module _ (x : Bytes) (es : List (Bor (List ℕ) × Bool)) (e : map (λ x. (x.0.now, x.1)) es ≡ flags) {o : std.Option Bool}
     (h : o ≡ beside es x) where
   flag_is : named flags x ≡ option_of o

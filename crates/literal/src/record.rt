@@ -26,9 +26,9 @@ fn flag(word: &[u8]) -> Option<Literal>
 }
 
 // The literal record at a position, by its fields, of the text whose bytes have the addresses from `base` on.
-pub fn literal_at(t: &[u8], base: u32, p: usize, f: Line) -> Option<Literal>
+pub fn literal_at(t: &[u8], base: u32, p: usize, f: &Line) -> Option<Literal>
     requires inside { (length t.now ≤ most_bytes) × (p ≤ length t.now) × (base ≤ most_bytes) }
-    requires fields { Fields t.now p f }
+    requires fields { Fields t.now p f.now }
     ensures { (k : Text) (l c n : ℕ) → base_address k ≡ base → IsLiteral base t.now (one_of literals (line_here
         (place k t.now p l c n))) result }
 {

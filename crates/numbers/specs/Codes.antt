@@ -144,3 +144,12 @@ coded_none {A} a xs n k h = go xs n (λ j l e. apart k n (length xs) j h l e)
     go : (xs : List A) (n : ℕ) → ((j : ℕ) → j < length xs → k ≡ n + j → ⊥) → coded a xs n k ≡ a
     go [] n h = coded-end a n k
     go (x ∷ xs) n h = coded-miss a x xs n k (λ e. h 0 (omega arith) (omega arith)) ∙ go xs (suc n) (λ j l e. h (suc j) (omega arith) (omega arith))
+
+-- a code of none behind the first stands for the first, where that is the default
+pub coded-rest : {A : Type 0} (x : A) (xs : List A) (n k : ℕ) → Apart k (suc n) (length xs) → coded x (x ∷ xs) n k ≡ x
+unfolding coded
+coded-rest x xs n k h = pick (eqb n k)
+  where
+    pick : (t : Bool) → elim t [ true ↦ x | false ↦ coded x xs (suc n) k ] ≡ x
+    pick true = refl
+    pick false = coded_none x xs (suc n) k h

@@ -1,4 +1,4 @@
--- Stores in a row: what stands where, and runs one behind the other.
+-- Stores in a row: what stands where, runs one behind the other, the stores one by one.
 use Rattle.std.specs.Prelude.{ℕ, zero, suc, ◌+◌, ◌≤◌, ◌<◌, ◌≡◌, refl, List, [], ◌∷◌, ◌++◌, length, get_or, set, take, drop}
 use Rattle.std.proofs.Common.{arith, add-zero, ap, sym, ◌∙◌, length-set, length-append, get_or-set_same, get_or-append-add}
 use Rattle.std.proofs.Math.ListN.{get_or-append}
@@ -67,3 +67,23 @@ part-stored i k s ys xs n e m h l =
     ∙ paste_all s i xs n (sym m)
     ∙ sym (append_assoc (take i s) xs (drop (i + n) s))
     ∙ sym (rw m at (sets-eq xs s i (omega (arith, m, l))))
+
+-- STORES ONE BY ONE
+pub four-stores : (s : List ℕ) (i a b c d : ℕ) → set (set (set (set s i a) (i + 1) b) (i + 2) c) (i + 3) d ≡ sets s i (a ∷ b ∷ c ∷ d ∷ [])
+four-stores s i a b c d =
+    let e₁ : i + 1 ≡ suc i = omega arith in
+    let e₂ : i + 2 ≡ suc (suc i) = omega arith in
+    let e₃ : i + 3 ≡ suc (suc (suc i)) = omega arith in
+    rw (e₁, e₂, e₃)
+
+pub eight-stores : (s : List ℕ) (i k l n o a b c d : ℕ)
+    → set (set (set (set (set (set (set (set s i k) (i + 1) l) (i + 2) n) (i + 3) o) (i + 4) a) (i + 5) b) (i + 6) c) (i + 7) d ≡ sets s i (k ∷ l ∷ n ∷ o ∷ a ∷ b ∷ c ∷ d ∷ [])
+eight-stores s i k l n o a b c d =
+    let e₁ : i + 1 ≡ suc i = omega arith in
+    let e₂ : i + 2 ≡ suc (suc i) = omega arith in
+    let e₃ : i + 3 ≡ suc (suc (suc i)) = omega arith in
+    let e₄ : i + 4 ≡ suc (suc (suc (suc i))) = omega arith in
+    let e₅ : i + 5 ≡ suc (suc (suc (suc (suc i)))) = omega arith in
+    let e₆ : i + 6 ≡ suc (suc (suc (suc (suc (suc i))))) = omega arith in
+    let e₇ : i + 7 ≡ suc (suc (suc (suc (suc (suc (suc i)))))) = omega arith in
+    rw (e₁, e₂, e₃, e₄, e₅, e₆, e₇)

@@ -15,6 +15,10 @@ pub record Appended (xs : List ℕ) (k : ℕ) (s : List ℕ) (k' : ℕ) (s' : Li
 pub appended-none : (k : ℕ) (s : List ℕ) → k ≤ length s → Appended [] k s k s
 appended-none k s h = record { next = omega arith; fits = h; all = refl; numbers = rw append-nil }
 
+-- the next step begins with nothing
+pub appended-start : {xs : List ℕ} {k i : ℕ} {s t : List ℕ} → Appended xs k s i t → Appended [] i t i t
+appended-start {i = i} {t = t} a = appended-none i t (omega (arith, a.fits, a.all))
+
 -- one step after another
 pub appended-on : {xs ys : List ℕ} {k i j : ℕ} {s t u : List ℕ} → Appended xs k s i t → Appended ys i t j u
     → Appended (xs ++ ys) k s j u

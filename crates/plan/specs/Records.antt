@@ -1,5 +1,5 @@
 -- Node records one behind the other, and the records whose length is stored when all of their parts are.
-use Rattle.std.specs.Prelude.{ℕ, ◌+◌, ◌-◌, ◌≤◌, ◌≡◌, refl, List, [], ◌∷◌, ◌++◌}
+use Rattle.std.specs.Prelude.{ℕ, ◌+◌, ◌-◌, ◌≤◌, ◌≡◌, refl, List, [], ◌∷◌, ◌++◌, length}
 use Rattle.std.proofs.Common.{arith, sym, append-nil}
 use Rattle.rules.specs.Lists.{concat}
 use Rattle.rules.specs.Nodes.{NodeRecord, scan, values, join, filter, aggregate, project, order, offset, limit, remap}
@@ -82,17 +82,21 @@ ended (offset n x) h e = sized-ended _ _ h e
 ended (limit n x) h e = sized-ended _ _ h e
 ended (remap n ts) h e = sized-ended _ _ h e
 
+-- its head stands among the numbers in use
+pub opened-head : (r : NodeRecord) {s t : Nodes} → Pushed (opened r) s t → (s.used + record_head ≤ t.used) × (t.used ≤ length t.numbers.now)
+unfolding opened unsized record_numbers sized
+opened-head (scan t b x) h = let a = h.appended in (omega (arith, a.next), omega (arith, a.fits, a.all))
+opened-head (values rs) h = let a = h.appended in (omega (arith, a.next), omega (arith, a.fits, a.all))
+opened-head (join b d x o) h = let a = h.appended in (omega (arith, a.next), omega (arith, a.fits, a.all))
+opened-head (filter n x) h = let a = h.appended in (omega (arith, a.next), omega (arith, a.fits, a.all))
+opened-head (aggregate n gs fs) h = let a = h.appended in (omega (arith, a.next), omega (arith, a.fits, a.all))
+opened-head (project n xs) h = let a = h.appended in (omega (arith, a.next), omega (arith, a.fits, a.all))
+opened-head (order n xs) h = let a = h.appended in (omega (arith, a.next), omega (arith, a.fits, a.all))
+opened-head (offset n x) h = let a = h.appended in (omega (arith, a.next), omega (arith, a.fits, a.all))
+opened-head (limit n x) h = let a = h.appended in (omega (arith, a.next), omega (arith, a.fits, a.all))
+opened-head (remap n ts) h = let a = h.appended in (omega (arith, a.next), omega (arith, a.fits, a.all))
+
 -- where a length may be stored
 pub opened-room : (r : NodeRecord) {s t : Nodes} → Pushed (opened r) s t → t.used ≤ nodes_size
     → Countable (s.used + length_place) t
-unfolding opened unsized record_numbers sized
-opened-room (scan t b x) h l = let a = h.appended in (omega (arith, a.next), omega (arith, a.fits, a.all), l)
-opened-room (values rs) h l = let a = h.appended in (omega (arith, a.next), omega (arith, a.fits, a.all), l)
-opened-room (join b d x o) h l = let a = h.appended in (omega (arith, a.next), omega (arith, a.fits, a.all), l)
-opened-room (filter n x) h l = let a = h.appended in (omega (arith, a.next), omega (arith, a.fits, a.all), l)
-opened-room (aggregate n gs fs) h l = let a = h.appended in (omega (arith, a.next), omega (arith, a.fits, a.all), l)
-opened-room (project n xs) h l = let a = h.appended in (omega (arith, a.next), omega (arith, a.fits, a.all), l)
-opened-room (order n xs) h l = let a = h.appended in (omega (arith, a.next), omega (arith, a.fits, a.all), l)
-opened-room (offset n x) h l = let a = h.appended in (omega (arith, a.next), omega (arith, a.fits, a.all), l)
-opened-room (limit n x) h l = let a = h.appended in (omega (arith, a.next), omega (arith, a.fits, a.all), l)
-opened-room (remap n ts) h l = let a = h.appended in (omega (arith, a.next), omega (arith, a.fits, a.all), l)
+opened-room r h l = let a = opened-head r h in (omega (arith, a.0), a.1, l)

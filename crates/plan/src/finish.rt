@@ -55,19 +55,21 @@ impl TryFrom<u32> for Kind {
 pub const LAYOUT: u32 = 1;
 
 // The statement's kind, how many cells and nodes there are, where the own numbers start, and where all end.
-fn put_header(area: &mut [u32], kind: Kind, cells: u32, nodes: u32, own: u32, all: u32)
+fn put_header(area: &mut [u32], code: u32, cells: u32, nodes: u32, own: u32, all: u32)
     requires { header_size ≤ length area.old }
-    ensures { area.new ≡ sets area.old 0 (layout ∷ statement_number kind ∷ cells ∷ nodes ∷ own ∷ all ∷ []) }
+    ensures { area.new ≡ sets area.old 0 (layout ∷ code ∷ cells ∷ nodes ∷ own ∷ all ∷ []) }
 {
-    put(area, 0, [LAYOUT, u32::from(kind), cells, nodes, own, all]);
+    put(area, 0, [LAYOUT, code, cells, nodes, own, all]);
 }
 
-// The numbers of the nodes that are in use, from place i on.
-fn copy(area: &mut [u32], i: usize, nodes: &Nodes)
-    requires { (i + nodes.now.used ≤ length area.old) × (nodes.now.used ≤ length nodes.now.numbers.now) }
-    ensures { area.new ≡ paste area.old i nodes.now.numbers.now nodes.now.used }
+// The first n numbers of the nodes, from place i on. (By `copy_from_slice` the library would call `memmove`.)
+fn copy(area: &mut [u32], i: usize, nodes: &[u32], n: usize)
+    requires { (i + n ≤ length area.old) × (n ≤ length nodes.now) }
+    ensures { area.new ≡ paste area.old i nodes.now n }
 {
-    area[i..i + nodes.used].copy_from_slice(&nodes.numbers[..nodes.used]);
+    for j in 0..n {
+        area[i + j] = nodes[j];
+    }
 }
 
 // All from place i on is zero.
@@ -85,17 +87,28 @@ pub fn clear(area: &mut [u32])
     clear_from(area, 0);
 }
 
-// The plan of a statement of a kind: the cells and the nodes before a step, whose cells stand in the area, the nodes' numbers
-// and, from place `own` of them on, the statement's own.
-pub fn finish(area: &mut [u32], nodes: &Nodes, kind: Kind, at: Step, own: usize)
-    requires { (plan_size ≤ length area.old) × (at.cell ≤ most_plan_cells) × (own ≤ nodes.now.used)
-        × (nodes.now.used ≤ nodes_size) × (nodes.now.used ≤ length nodes.now.numbers.now) }
-    ensures { area.new ≡ finished (statement_number kind) at.cell at.node own nodes.now.used nodes.now.numbers.now
-        area.old }
+// The plan of a statement of a kind, by its number: the cells and the nodes before a step, whose cells stand in the area, the
+// first `end` of the nodes' numbers and, from place `own` of them on, the statement's own.
+pub fn finish(area: &mut [u32], nodes: &[u32], code: u32, at: Step, own: usize, end: usize)
+    requires { (plan_size ≤ length area.old) × (at.cell ≤ most_plan_cells) × (own ≤ end) × (end ≤ nodes_size)
+        × (end ≤ length nodes.now) }
+    ensures { area.new ≡ finished code at.cell at.node own end nodes.now area.old }
 {
     let i = HEADER_SIZE + CELL_SIZE * (at.cell as usize);
-    let end = i + nodes.used;
-    put_header(area, kind, at.cell, at.node, (i + own) as u32, end as u32);
-    copy(area, i, nodes);
-    clear_from(area, end);
+    let all = i + end;
+    put_header(area, code, at.cell, at.node, (i + own) as u32, all as u32);
+    copy(area, i, nodes, end);
+    clear_from(area, all);
+}
+
+impl Nodes<'_> {
+    // The same of all the numbers that were pushed.
+    pub fn finish(&self, area: &mut [u32], kind: Kind, at: Step, own: usize)
+        requires { (plan_size ≤ length area.old) × (at.cell ≤ most_plan_cells) × (own ≤ self.now.used)
+            × (self.now.used ≤ nodes_size) × (self.now.used ≤ length self.now.numbers.now) }
+        ensures { area.new ≡ finished (statement_number kind) at.cell at.node own self.now.used self.now.numbers.now
+            area.old }
+    {
+        finish(area, self.numbers, u32::from(kind), at, own, self.used);
+    }
 }

@@ -19,3 +19,6 @@ pub const MOST_CELLS: u32 = 2304;
 
 // Most numbers of the nodes and of the statement's own.
 pub const NODES_SIZE: usize = 5782;
+
+// Most numbers of a plan.
+pub const PLAN_SIZE: usize = HEADER_SIZE + CELL_SIZE * MOST_CELLS as usize + NODES_SIZE;

@@ -23,6 +23,9 @@ const LENGTH: usize = 1;
 
 const GROUPS: usize = 3;
 
+// How many numbers a key of an order has.
+pub const KEY_SIZE: usize = 2;
+
 // BEGINNINGS
 pub fn begin_values(nodes: &mut Nodes)
     requires { NodeRoom record_head nodes.old }

@@ -5,13 +5,14 @@ mod building; // building.rt: a statement that was read, by its kind
 
 ghost use Rattle.std.specs.Prelude.{◌≡◌, ◌≤◌, length};
 ghost use Rattle.rules.specs.Limits.{least_area};
+ghost use Rattle.rules.specs.Area.{layout};
 ghost use Rattle.rules.specs.Entry.{outcome, plan};
 ghost use Rattle.schema.specs.Room.{numbers_for};
 ghost use Rattle.planner.specs.Outcomes.{built_of, cleared_by, told, Answers};
 
 use building::build;
 use numbers::refusals::{Reason, Text, TextRefusal};
-use plan::finish::clear;
+use plan::finish::{LAYOUT, clear};
 use reader::read_texts;
 use schema::NUMBERS;
 use schema::read::{SMALL_NUMBERS, numbers_for};
@@ -96,4 +97,25 @@ pub fn plan(texts: &Texts, area: &mut [u32]) -> Result<u32, TextRefusal>
         clear(area);
     }
     planned
+}
+
+// The same, as C has the two texts and the answer.
+pub fn planner_plan(catalog: &[u8], statement: &[u8], area: &mut [u32]) -> Outcome
+    ensures { Answers (plan catalog.now statement.now area.old) result area.new }
+{
+    Outcome::from(plan(&Texts { catalog, statement }, area))
+}
+
+// The number of the area's layout, which is the first of a plan's numbers.
+pub fn planner_layout() -> u32
+    ensures { result ≡ layout }
+{
+    LAYOUT
+}
+
+// The least numbers of an area.
+pub fn planner_area_length() -> usize
+    ensures { result ≡ least_area }
+{
+    LEAST_AREA
 }

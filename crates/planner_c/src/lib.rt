@@ -7,16 +7,14 @@ ghost use Rattle.rules.specs.Area.{layout};
 ghost use Rattle.rules.specs.Entry.{plan};
 ghost use Rattle.planner.specs.Outcomes.{Answers};
 
-use plan::finish::LAYOUT;
-use planner::{LEAST_AREA, Outcome, plan};
-use text::places::Texts;
+use planner::Outcome;
 
 // The plan of the statement over the catalog, in the area: whatever the texts are, and whatever the area holds.
 #[unsafe(no_mangle)]
 pub extern "C" fn planner_plan(catalog: &[u8], statement: &[u8], area: &mut [u32]) -> Outcome
     ensures { Answers (plan catalog.now statement.now area.old) result area.new }
 {
-    Outcome::from(plan(&Texts { catalog, statement }, area))
+    planner::planner_plan(catalog, statement, area)
 }
 
 // The number of the area's layout, which is the first of a plan's numbers.
@@ -24,7 +22,7 @@ pub extern "C" fn planner_plan(catalog: &[u8], statement: &[u8], area: &mut [u32
 pub extern "C" fn planner_layout() -> u32
     ensures { result ≡ layout }
 {
-    LAYOUT
+    planner::planner_layout()
 }
 
 // The least numbers of an area.
@@ -32,5 +30,5 @@ pub extern "C" fn planner_layout() -> u32
 pub extern "C" fn planner_area_length() -> usize
     ensures { result ≡ least_area }
 {
-    LEAST_AREA
+    planner::planner_area_length()
 }

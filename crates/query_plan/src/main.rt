@@ -19,7 +19,7 @@ use lines::line_at;
 use listing::{WINDOW, Window};
 use numbers::refusals::{Text, TextRefusal};
 use plan_listing::list_outcome;
-use planner::LEAST_AREA;
+use planner::{LEAST_AREA, Outcome};
 use std::fs::File;
 use std::io;
 use std::io::Write;
@@ -40,7 +40,7 @@ fn list(
         ≡ listing texts.now.catalog.now texts.now.statement.now }
     ensures { Holds (drop from (listing texts.now.catalog.now texts.now.statement.now)) out.new result }
 {
-    list_outcome(texts, planned, area, from, out)
+    list_outcome(texts, Outcome::from(planned), area, from, out)
 }
 
 // Writes a window of the listing; whether another is to follow.

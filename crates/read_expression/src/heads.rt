@@ -202,6 +202,6 @@ pub fn head(t: &[u8], p: usize, f: Line) -> Option<Row>
             1 => Some(plain_row(Kind::Star, 0, 0)),
             _ => None,
         },
-        _ => Some(literal_row(literal_at(t, MOST_BYTES, p, f)?)),
+        _ => Some(literal_row(literal_at(t, MOST_BYTES, p, &f)?)),
     }
 }

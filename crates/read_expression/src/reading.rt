@@ -71,7 +71,7 @@ fn read_is(
         at.rows k result }
 {
     let f = text::fields(t, at.position);
-    let literal = literal_at(t, MOST_BYTES, at.position, f);
+    let literal = literal_at(t, MOST_BYTES, at.position, &f);
     let v = literal.ok_or(Reason::WrongRecord.at(at.line))?;
     let h = Row {
         kind: Kind::Is,
@@ -115,7 +115,9 @@ fn read_deep(
         (cons e nil)) t.now at.position at.line at.rows k result }
 {
     let f = text::fields(t, at.position);
-    let h = head(t, at.position, f).ok_or(Reason::WrongRecord.at(at.line))?;
+    let Some(h) = head(t, at.position, f) else {
+        return Err(Reason::WrongRecord.at(at.line));
+    };
     if STATEMENT_ROWS <= at.rows {
         return Err(Reason::LimitPassed.at(at.line));
     }

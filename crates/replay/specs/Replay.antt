@@ -94,6 +94,9 @@ pub replay-begin : (t : Bytes) → Replaying t start
 unfolding replayed
 replay-begin t = record { cases = omega arith; agree = omega arith; fuel = length t; enough = omega arith; is = refl }
 
+pub replay-ready : (t : Bytes) (p : Progress) → Replaying t p → p.at < length t → Ready t p
+replay-ready t p h l = record { inside = l; cases = h.cases; agree = h.agree }
+
 module _ (t : Bytes) (p : Progress) (h : Replaying t p) (l : p.at < length t) {r : Option Progress} (s : Stepped t p r) where
   pub replay-more : (q : Progress) → r ≡ Some q → Replaying t q
   unfolding steps

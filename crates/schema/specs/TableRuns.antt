@@ -19,7 +19,7 @@ use Rattle.text.specs.Answers.{limit_at, prefixed, prefixed-none, prefixed-twice
 use Rattle.numbers.specs.Kept.{kept_set}
 use Rattle.schema.specs.Room.{least_column, numbers_for}
 use Rattle.schema.specs.Store.{Ranges, tables-kept, tables_more}
-use Rattle.schema.specs.Tables.{TableDone, TableMoves, TableRead, tables_from}
+use Rattle.schema.specs.Tables.{TableReady, TableDone, TableMoves, TableRead, tables_from}
 use Rattle.schema.specs.declared.read.Run.{Run}
 use Rattle.numbers.specs.declared.refusals.Reason.TheVariants.{LimitPassed}
 use Rattle.numbers.specs.declared.refusals.Refusal as code
@@ -83,6 +83,9 @@ nothing_left_lem p fuel n ns e = rw (tables, e) (ap (λ b. ok ([], record { text
 module _ {t : Bytes} {p l n f : ℕ} {s : List ℕ} (h : TableLoop t p l n f s) where
   turn : suc (length t) - n ≡ suc (suc (length t) - (n + 1))
   turn = omega (arith, h.passed, h.place.within)
+
+  pub table-ready : p < length t → TableReady t s p l n f
+  table-ready m = record { place = h.place; more = m; line = h.line; room = h.room; behind = h.behind; most = h.most; first = h.first; ranges = h.ranges }
 
   tables-past : length t ≤ p → (fuel : ℕ) → tables (suc fuel) n (names t s n) (here t p l) ≡ ok ([], here t p l)
   tables-past m fuel = nothing_left_lem (here t p l) fuel n _ (place_end catalog t p l 0 0 m)

@@ -130,6 +130,6 @@ pub fn default_record(catalog: &[u8], at: usize, f: Line) -> Option<Option<Liter
         }
         return Some(None);
     }
-    let v = literal_at(catalog, 0, at, f)?;
+    let v = literal_at(catalog, 0, at, &f)?;
     Some(Some(v))
 }

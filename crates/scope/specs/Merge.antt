@@ -1,6 +1,7 @@
 -- Two scopes merged: the other's labels and tables behind one's own.
-use Rattle.std.specs.Prelude.{ℕ, ◌+◌, ◌≤◌, ◌<◌, ◌≡◌, List, ◌++◌, map, length, get_or, take, drop}
-use Rattle.std.proofs.Common.{arith, ap, ◌∙◌, append_assoc, take_all, length-take-le, length-append, length-drop, take_at}
+use Rattle.std.specs.Prelude.{ℕ, suc, ◌+◌, ◌≤◌, ◌<◌, ◌≡◌, List, [], ◌∷◌, ◌++◌, map, length, get_or, set, take, drop}
+use Rattle.std.proofs.Common.{arith, add-one, add-zero, ap, ◌∙◌, append_assoc, append-nil, take_all, length-set, length-take-le, length-append, length-drop, take_at, take-suc-set, take-suc}
+use Rattle.std.proofs.lemmas.List.{map-append}
 use Rattle.rules.specs.Limits.{most_columns, most_from_tables}
 use Rattle.rules.specs.Lists.{Bytes}
 use Rattle.rules.specs.Ast.{Expr}
@@ -97,3 +98,21 @@ merged {s} {o} {j} r m a h g b em eh ew ec =
         ≡ columns_of c q (table_numbers s) (labels_of s) =
         kept-columns c q (table_numbers s) (table_numbers o) (rw ln m.valid.slots) in
         rw (el, et, columns-append, tables-append, k, j)
+
+-- NUMBERS STORED ONE BY ONE
+pub appending-begin : (f : ℕ → ℕ) (m : ℕ) (l : List ℕ) (n : ℕ) (xs : List ℕ) → length l ≡ m → Appending f m l n xs 0 l
+appending-begin f m l n xs h = record { room = h; stored = rw (add-zero n, append-nil) }
+
+pub appending-more : {f : ℕ → ℕ} {m : ℕ} {l : List ℕ} {n : ℕ} {xs : List ℕ} {j : ℕ} {ls : List ℕ} {v : ℕ}
+    → Appending f m l n xs j ls → n + j < m → j < length xs → v ≡ f (get_or xs j 0)
+    → Appending f m l n xs (j + 1) (set ls (n + j) v)
+appending-more {f} {m} {l} {n} {xs} {j} {ls} {v} a h g e =
+    let k : n + j < length ls = omega (arith, a.room) in
+    let z : n + suc j ≡ suc (n + j) = omega arith in
+    let y : map f (take j xs ++ (get_or xs j 0 ∷ [])) ≡ map f (take j xs) ++ (f (get_or xs j 0) ∷ []) =
+    map-append f (take j xs) (get_or xs j 0 ∷ []) in
+    record {
+      room = length-set ls (n + j) v ∙ a.room;
+      stored = rw (add-one j, z, take-suc-set ls (n + j) v k, a.stored, take-suc xs j 0 g, y, e)
+          (append_assoc (take n l) (map f (take j xs)) (f (get_or xs j 0) ∷ []));
+    }

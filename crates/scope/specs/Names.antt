@@ -2,8 +2,8 @@
 use Prim.Native.Nat.{ℕ, zero, suc, ◌-◌}
 use Rattle.std.proofs.Common.{arith, ◌∙◌, eqb-true}
 use Rattle.std.specs.List.{list_any}
-use Rattle.std.specs.Prelude.{◌≡◌, Bool, ◌&&◌, map, List, get_or}
-use Rattle.std.proofs.Math.Path.{refl}
+use Rattle.std.specs.Prelude.{◌≡◌, Bool, not, nat_eq, ◌&&◌, map, List, get_or}
+use Rattle.std.proofs.Math.Path.{refl, sym}
 use Rattle.std.proofs.Math.Bool.{true, false, and-false, and-true}
 use Rattle.std.proofs.Math.Dec.{eqb}
 use Rattle.std.proofs.lemmas.Bool.{eqb-false}
@@ -30,6 +30,21 @@ module _ (c q : Bytes) (ts : List ℕ) (x : ℕ) (w : Word) where
       go zero = refl
       go (suc k) = refl
 
+  -- 0 is the label of none, whatever name stands at its place
+  pub named-last : {b : Bool} → b ≡ same_name (name_at c q x) w → b ≡ true → not (nat_eq x 0) ≡ is_named w (label_at c q ts x)
+  named-last {b} h g = go (eqb x 0) refl
+    where
+      go : (z : Bool) → eqb x 0 ≡ z → not z ≡ is_named w (label_at c q ts x)
+      go true e = sym (named_none (eqb-true _ _ e))
+      go false e = sym (named_some (eqb-false _ _ e) ∙ sym h ∙ g)
+
+  pub named-other : {b : Bool} → b ≡ same_name (name_at c q x) w → b ≡ false → b ≡ is_named w (label_at c q ts x)
+  named-other {b} h g = go (eqb x 0) refl
+    where
+      go : (z : Bool) → eqb x 0 ≡ z → b ≡ is_named w (label_at c q ts x)
+      go true e = g ∙ sym (named_none (eqb-true _ _ e))
+      go false e = h ∙ sym (named_some (eqb-false _ _ e))
+
   pub qualified-none : (v : Word) → slot_of x ≡ 0 → is_qualified v w (label_at c q ts x) ≡ false
   unfolding is_qualified in_slot
   qualified-none v h = go (eqb x 0) refl
@@ -53,6 +68,15 @@ module _ (c q : Bytes) (ts : List ℕ) (x : ℕ) (w v : Word) (d : Bool) (h : sl
   pub qualified-both : (y : ℕ) → y ≡ get_or ts (slot_of x - 1) 0 → d ≡ true
       → is_qualified v w (label_at c q ts x) ≡ same_name (name_at c q y) v
   qualified-both y ey g = qualified-some c q ts x w v h ∙ rw (← e, g, ← ey) (and-true (same_name (name_at c q y) v))
+
+-- a label of another name, whether it has a table or not
+pub qualified-not : (c q : Bytes) (ts : List ℕ) (x : ℕ) (w v : Word) {d : Bool} → d ≡ same_name (name_at c q x) w → d ≡ false
+    → is_qualified v w (label_at c q ts x) ≡ false
+qualified-not c q ts x w v {d} e g = go (eqb (slot_of x) 0) refl
+  where
+    go : (z : Bool) → eqb (slot_of x) 0 ≡ z → is_qualified v w (label_at c q ts x) ≡ false
+    go true h = qualified-none c q ts x w v (eqb-true _ _ h)
+    go false h = qualified-other c q ts x w v d (eqb-false _ _ h) e g
 
 -- TABLES
 -- whether one of the tables has a name

@@ -31,6 +31,10 @@ pub record Retaining (e : ℕ → Expr) (rs : List ℕ) (s : Rows) (i : ℕ) (s'
   pub room : s'.used + length (drop i rs) ≤ length s'.rows.now
   pub rest : (u : Rows) → Listed (retained e (rows_in s') (drop i rs)) s' u → Listed (retained e (rows_in s) rs) s u
 
+-- none is looked at yet
+pub retain-begin : (e : ℕ → Expr) (rs : List ℕ) (s : Rows) → s.used + length rs ≤ length s.rows.now → Retaining e rs s 0 s
+retain-begin e rs s h = record { room = h; rest = λ u a. a }
+
 module _ {e : ℕ → Expr} {rs : List ℕ} {s : Rows} {i : ℕ} {s' : Rows} (k : Retaining e rs s i s') where
   module _ (h : i < length rs) {ks : List ℕ} (z : ks ≡ rows_in s') {b : Bool} (t : b ≡ has_equal e ks (e (get_or rs i 0))) where
     -- it is equal to one that is kept

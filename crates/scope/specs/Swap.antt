@@ -1,5 +1,7 @@
 -- A right join's columns swapped back: the first a behind the b that follow them.
-use Rattle.std.specs.Prelude.{ℕ, ◌+◌, ◌≤◌, ◌≡◌, List, ◌++◌, length, take, drop}
+use Rattle.std.proofs.lemmas.List.{append_assoc, drop-take, take-append-drop, take-append-le}
+use Rattle.std.proofs.lemmas.Slice.{drop-append-drop}
+use Rattle.std.specs.Prelude.{ℕ, ◌+◌, ◌-◌, ◌≤◌, ◌≡◌, List, ◌++◌, length, take, drop}
 use Rattle.std.proofs.Common.{arith, ap, sym, ◌∙◌, length-append, length-drop, take_at, take_all, length-take-le}
 use Rattle.rules.specs.Lists.{Bytes}
 use Rattle.rules.specs.Ast.{Expr}
@@ -10,6 +12,26 @@ use Rattle.scope.specs.Slots.{below-append, below-take, below-drop}
 use Rattle.scope.specs.Scopes.{scope_of, Valid, Plain, plain-scope, labels_of, table_numbers}
 use Rattle.scope.specs.Remap.{remap-swapped, columns-swapped}
 use Rattle.scope.specs.declared.Scope.{Scope}
+
+-- numbers of which the first a stand behind the b that follow them, by two writes over what a copy has
+pub rotated : (xs : List ℕ) {ys zs ps qs : List ℕ} (a b : ℕ) → a + b ≤ length xs → ps ≡ take (a + b - a) (drop a xs) → qs ≡ take a xs
+    → ys ≡ take 0 xs ++ (ps ++ drop (0 + length ps) xs) → zs ≡ take b ys ++ (qs ++ drop (b + length qs) ys)
+    → zs ≡ (drop a (take (a + b) xs) ++ take a (take (a + b) xs)) ++ drop (a + b) xs
+rotated xs {ys} {zs} {ps} {qs} a b h p q y z =
+    let n : a + b - a ≡ b = omega arith in
+    let p' : ps ≡ take b (drop a xs) = rw n at p in
+    let np : length ps ≡ b = rw p' (length-take-le b (drop a xs) (omega (arith, h, length-drop a xs))) in
+    let nq : length qs ≡ a = rw q (length-take-le a xs (omega (arith, h))) in
+    let e : 0 + b ≡ b = omega arith in
+    let y' : ys ≡ ps ++ drop b xs = y ∙ rw (np, e) in
+    let t : take b ys ≡ ps = rw y' (take_at ps (drop b xs) b np) in
+    let d : drop (b + length qs) ys ≡ drop (a + b) xs =
+    let m : b + length qs ≡ a + b = omega (arith, nq) in
+    rw (m, y') (drop-append-drop b xs ps (a + b) (omega arith) np) in
+    let f : take a (take (a + b) xs) ≡ take a xs =
+    sym (take-append-le a (take (a + b) xs) (drop (a + b) xs) (omega (arith, length-take-le (a + b) xs h)))
+    ∙ ap (take a) (take-append-drop (a + b) xs) in
+    z ∙ rw (t, d, f, drop-take a b xs, p', q) (sym (append_assoc (take b (drop a xs)) (take a xs) (drop (a + b) xs)))
 
 -- a join's scope, whose sides have a columns and b
 pub record Swappable (s : Scope) (a b : ℕ) : Type 0 where

@@ -2,8 +2,10 @@
 use Rattle.std.specs.Prelude.{ℕ, zero, suc, ◌+◌, ◌-◌, ◌≤◌, ◌<◌, ◌≡◌, refl, Bool, true, false, List, [], ◌∷◌, ◌++◌, map, eqb, length, get_or}
 use Rattle.std.proofs.Common.{arith, add-one, ap, sym, ◌∙◌, length-append, length-take-le, ne_eqb}
 use Rattle.std.proofs.Math.Option.{Option, none, some, none-ne-some}
+use Rattle.std.proofs.Math.Dec.{ltb}
+use Rattle.std.specs.Bool.{then_some}
 use Rattle.std.proofs.lemmas.List.{length-map}
-use Rattle.std.proofs.lemmas.Bool.{eqb-false}
+use Rattle.std.proofs.lemmas.Bool.{eqb-false, ltb-true, ltb-false}
 use Rattle.rules.specs.Lists.{Bytes, any, is_empty}
 use Rattle.rules.specs.Ast.{Expr}
 use Rattle.rules.specs.Scope as rules
@@ -11,6 +13,7 @@ use Rattle.rules.specs.Scope.{targets_from, remap_hidden}
 use Rattle.rules.specs.Area.{option_number}
 use Rattle.rules.specs.BuildFrom.{rising}
 use Rattle.claims.specs.Widths.Swapped.{length-rising}
+use Rattle.numbers.specs.Options.{option_of}
 use Rattle.scope.specs.Labels.{columns-length}
 use Rattle.scope.specs.Scopes.{up_to, scope_from, scope_of, Valid, labels_of, table_numbers}
 use Rattle.scope.specs.declared.Scope.{Scope}
@@ -133,6 +136,25 @@ target-shown w h k l =
 pub target-hidden : (w h k : ℕ) → w - h ≤ k → 0 ≡ get_or (target_numbers w h) k 0
 unfolding target_numbers
 target-hidden w h k l = sym (target_past 0 (w - h) k h l)
+
+-- a column's target, shown or hidden
+pub target-at : (w h i : ℕ) {x : ℕ} → x ≡ option_number (option_of (then_some (ltb i (w - h)) i))
+    → x ≡ get_or (target_numbers w h) i 0
+unfolding option_number
+target-at w h i {x} e = go (ltb i (w - h)) refl e
+  where
+    go : (b : Bool) → ltb i (w - h) ≡ b → x ≡ option_number (option_of (then_some b i)) → x ≡ get_or (target_numbers w h) i 0
+    go true t e = e ∙ target-shown w h i (ltb-true i (w - h) t)
+    go false t e = e ∙ target-hidden w h i (ltb-false i (w - h) t)
+
+-- and it can be said
+pub target-few : (n i : ℕ) → n < 4294967296 → option_number (option_of (then_some (ltb i n) i)) < 4294967296
+unfolding option_number
+target-few n i f = go (ltb i n) refl
+  where
+    go : (b : Bool) → ltb i n ≡ b → option_number (option_of (then_some b i)) < 4294967296
+    go true t = omega (arith, ltb-true i n t, f)
+    go false t = omega arith
 
 -- one for each column
 pub targets-length : (w h : ℕ) → h ≤ w → length (target_numbers w h) ≡ w

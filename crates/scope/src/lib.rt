@@ -3,6 +3,7 @@
 
 mod endings;
 pub mod expressions;
+pub mod hidden;
 pub mod labels;
 pub mod lookup;
 pub mod matched;
@@ -56,12 +57,14 @@ fn overwrite(s: &mut [u32], i: usize, xs: &[u32])
     s[i..i + xs.len()].copy_from_slice(xs);
 }
 
-// The first a numbers behind the b that follow them.
-fn rotate_first(s: &mut [u32], a: usize, b: usize)
+// The first a numbers behind the b that follow them. (By `rotate_left` the library would call `memmove`.)
+fn rotate_first(s: &mut [u32; COLUMNS], a: usize, b: usize)
     requires { a + b ≤ length s.old }
     ensures { s.new ≡ (drop a (take (a + b) s.old) ++ take a (take (a + b) s.old)) ++ drop (a + b) s.old }
 {
-    s[..a + b].rotate_left(a);
+    let from = *s;
+    overwrite(s, 0, &from[a..a + b]);
+    overwrite(s, b, &from[..a]);
 }
 
 impl Scope {

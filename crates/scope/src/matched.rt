@@ -10,7 +10,12 @@ use super::view::View;
 pub fn has_match(matches: &[u16]) -> bool
     ensures { result ≡ some_match matches.now }
 {
-    matches.iter().any(|m| *m != 0)
+    // no way out of the loop, so that several are compared at once
+    let mut found = false;
+    for m in matches {
+        found = found | (*m != 0);
+    }
+    found
 }
 
 impl<'s> View<'s> {

@@ -1,18 +1,21 @@
 -- Sections as they were read: the kinds by name, how many entries a section has, and each entry by its twelve numbers.
 use Prim.Native.Nat.{ℕ, zero, suc, ◌+◌, ◌*◌, ◌<◌}
 use native.Mathlib.Omega.{arith}
+use Rattle.std.proofs.Math.Decide.{dec_lt}
 use Rattle.std.specs.Prelude.{◌≡◌, Bool, true, false, List, [], ◌∷◌, length, get_or, drop, Option, Some, None}
 use Rattle.std.proofs.Math.Path.{ap}
 use Rattle.std.proofs.Common.{◌∙◌}
 use Rattle.std.proofs.Math.Option.{some, some-injective}
+use Rattle.std.proofs.Math.ListN.{get_or-eq_default}
 use Rattle.rules.specs.Lists.{Bytes, entry_after}
 use Rattle.numbers.specs.Codes.{coded}
 use Rattle.numbers.specs.Values.{is_one}
 use Rattle.numbers.specs.Datatypes.{datatype_at}
 use Rattle.text.specs.Places.{place_of}
 use Rattle.entries.specs.declared.NewColumn.{NewColumn}
-use Rattle.sections.specs.Layout.{start_of, entry_at, entries_at, section_at}
+use Rattle.sections.specs.Layout.{numbers, start_of, entry_at, entries_at, section_at}
 use Rattle.sections.specs.Store.{entries-length}
+use Rattle.sections.specs.Kinds.{start-within}
 use Rattle.sections.specs.OneEntry.{entry_start}
 use Rattle.sections.specs.declared.entry.Entry.{Entry}
 
@@ -53,6 +56,18 @@ set_kind = 10
 abbrev pub column_kind : ℕ
 column_kind = 11
 
+-- what is no kind has no section
+pub start-past : (k : ℕ) → column_kind < k → start_of k ≡ 0
+unfolding start_of
+start-past k h = get_or-eq_default
+    (8 ∷ 777 ∷ 790 ∷ 1559 ∷ 1572 ∷ 2341 ∷ 2354 ∷ 8 ∷ 21 ∷ 790 ∷ 8 ∷ 8 ∷ []) 0 h
+
+pub start_small : (k : ℕ) → start_of k < numbers
+start_small k = elim (dec_lt column_kind k) [
+  | yes y ↦ omega (arith, start-past k y)
+  | no y ↦ start-within k (omega (arith, y))
+]
+
 -- NUMBERS
 -- what a number says of nulls
 unfoldable pub null_of : ℕ → Option Bool
@@ -80,6 +95,11 @@ numbers_from parts i = record {
 
 unfoldable pub numbers_at : List ℕ → ℕ → ℕ → Entry
 numbers_at parts kind k = numbers_from parts (entry_start kind k)
+
+pub numbers-start : (parts : List ℕ) (kind k s : ℕ) → s ≡ start_of kind
+    → numbers_from parts (s + 1 + 12 * k) ≡ numbers_at parts kind k
+unfolding numbers_at entry_start
+numbers-start parts kind k s h = rw h
 
 -- whether key k of ORDER descends, and what new column k says
 abbrev pub descends : List ℕ → ℕ → Bool

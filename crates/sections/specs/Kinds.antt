@@ -64,6 +64,26 @@ module _ (kind : ℕ) (h : kind ≤ 11) where
       | no y ↦ absurd (let x = keyword-past (omega (arith, y)) in grind arith)
     ]
 
+-- NO KIND
+-- none of the numbers below n
+unfoldable pub Past : ℕ → ℕ → Type 0
+Past zero k = Unit {0}
+Past (suc n) k = Past n k × (k ≡ n → ⊥)
+
+past : (n k : ℕ) → Past n k → n ≤ k
+unfolding Past
+past zero k h = omega arith
+past (suc n) k h = next (past n k h.0) h.1
+  where
+    next : n ≤ k → (k ≡ n → ⊥) → suc n ≤ k
+    next l e = omega arith
+
+pub no_kind : (kind : ℕ) → kind ≤ 11 → Past 12 kind → ⊥
+no_kind kind h p = contra (past 12 kind p)
+  where
+    contra : 12 ≤ kind → ⊥
+    contra l = omega arith
+
 -- TURNS
 pub turns-once : (kind n : ℕ) → is_once kind ≡ true → turns_of kind n ≡ 1
 unfolding turns_of

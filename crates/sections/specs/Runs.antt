@@ -169,8 +169,8 @@ module _ {t : Bytes} {p₀ l₀ c₀ kind : ℕ} {cells₀ parts₀ : List ℕ} 
       unfolding EntryRead
       counted = (g 0).0
 
-      pub entry-moved : (p < e.at.position) × (e.at.position ≤ length t)
-      entry-moved = ((took 0).moved, (took 0).position.within)
+      pub entry-moved : (p < e.at.position) × (e.at.position ≤ length t) × (n < most_of kind)
+      entry-moved = ((took 0).moved, (took 0).position.within, (took 0).few)
 
       behind : (k : ℕ) → prefixed ((h k).value ++ ((took k).value ∷ [])) (entries kind (turns_at t kind p₀ - (n + 1)) (n + 1) (last_name t e.last) (here t e.at.position e.at.line e.at.rows k)) ≡ section kind (here t p₀ l₀ c₀ k)
       behind k =

@@ -38,6 +38,9 @@ pub record Packed (x : Bytes) (r : ℕ) : Type 0 where
   pub is : r ≡ short_number x
   pub only : (w : Bytes) → is_word w ≡ true → eqb r (number w) ≡ same w x
 
+pub packed-as : (x y : Bytes) (r : ℕ) → x ≡ y → Packed x r → Packed y r
+packed-as x y r e p = rw e at p
+
 -- NUMBERS
 number-some : (xs : Bytes) → 0 < number xs
 unfolding number

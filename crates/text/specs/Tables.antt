@@ -32,3 +32,7 @@ pub type-packed : {x : Bytes} {r : ℕ} → Packed x r → (k : ℕ) → find_nu
     → nth datatypes k ≡ named datatypes x
 unfolding bytes
 type-packed {x} {r} p k e = sym (named_by datatypes _ x k type-keys (packed-word _ _ x r k datatype-table p e))
+
+pub part-table : Keywords (bytes "item where group having order offset limit columns name row set column ") (6130332777 ∷ 1535222573175 ∷ 1582518202983 ∷ 395198890140008 ∷ 1590838981231 ∷ 409454053320303 ∷ 1599496612204 ∷ 104548632760184675 ∷ 5996634478 ∷ 24604530 ∷ 24405363 ∷ 402891377241955 ∷ [])
+unfolding words_of push bytes number numbers are_bytes is_word are_words
+part-table = record { are = refl; is = refl }

@@ -1,6 +1,6 @@
 -- Keywords: which of some words a byte string is.
 use Rattle.std.specs.Prelude.{ℕ, zero, suc, ◌+◌, ◌-◌, ◌≤◌, ◌<◌, ◌≡◌, refl, Bool, true, false, List, [], ◌∷◌, eqb, length, get_or, take, drop}
-use Rattle.std.proofs.Common.{arith, ◌∙◌, drop-drop}
+use Rattle.std.proofs.Common.{arith, add-zero, zero-add, ◌∙◌, drop_of_length-le, drop-drop}
 use Rattle.std.proofs.Math.Option.{Option, none, some}
 use Rattle.rules.specs.Lists.{Bytes, same, named}
 use Rattle.text.specs.Bytes.{run, stop_at, step}
@@ -77,3 +77,25 @@ words-at t p e l h =
     let k : e - p ≡ run 32 32 (drop p t) = omega arith in
     let d : e + 1 ≡ p + suc (run 32 32 (drop p t)) = omega arith in
     rw (k, d, ← drop-drop (suc (run 32 32 (drop p t))) p t) (rw (← step t p l) at (words-first (get_or t p 0) (drop (p + 1) t)))
+
+-- THE SEARCH
+-- n words passed, the next at i
+unfoldable pub Search : Bytes → Bytes → ℕ → ℕ → Type 0
+Search ws k i n = n + find (words_of (drop i ws)) k ≡ find (words_of ws) k
+
+pub search-begin : (ws k : Bytes) → Search ws k 0 0
+unfolding Search
+search-begin ws k = zero-add _
+
+module _ (ws k : Bytes) (i n : ℕ) where
+  pub search-hit : (e : ℕ) → i < length ws → e ≡ stop_at 32 32 ws i → Search ws k i n → same (take (e - i) (drop i ws)) k ≡ true → n ≡ find (words_of ws) k
+  unfolding Search find
+  search-hit e l h s x = rw (words-at ws i e l h, find, x, add-zero) at s
+
+  pub search-miss : (e : ℕ) → i < length ws → e ≡ stop_at 32 32 ws i → Search ws k i n → same (take (e - i) (drop i ws)) k ≡ false → Search ws k (e + 1) (n + 1)
+  unfolding Search find
+  search-miss e l h s x = (omega arith) ∙ (rw (words-at ws i e l h, find, x) at s)
+
+  pub search-end : length ws ≤ i → Search ws k i n → n ≡ find (words_of ws) k
+  unfolding Search find words_of
+  search-end h s = rw (drop_of_length-le ws h, add-zero) at s

@@ -7,6 +7,7 @@ ghost use Rattle.rules.specs.Lines as rules;
 ghost use Rattle.rules.specs.Reader as reader;
 ghost use Rattle.text.specs.Bytes.{stop_at};
 ghost use Rattle.text.specs.Lines.{line_end, nth_field, Fields, few_fields};
+ghost use Rattle.text.specs.Words.{find, words_of};
 ghost use Rattle.text.specs.Packed.{Packed};
 ghost use Rattle.text.specs.Numbers.{is_name};
 ghost use Rattle.numbers.specs.Options.{option_of};
@@ -230,6 +231,24 @@ pub fn compare(x: &[u8], y: &[u8]) -> Ordering
     ensures { result ≡ order_of x.now y.now }
 {
     x.cmp(&y)
+}
+
+// Which of some words, each closed by a blank, the n bytes at a are: its number, or how many words there are.
+pub fn which(words: &[u8], t: &[u8], a: usize, n: usize) -> usize
+    ensures { result ≡ find (words_of words.now) (take n (drop a t.now)) }
+{
+    let x = part(t, a, n);
+    let mut k = 0;
+    let mut i = 0;
+    while i < words.len() {
+        let e = stop_at(words, i, b' ', b' ');
+        if equal(&words[i..e], x) {
+            return k;
+        }
+        i = e + 1;
+        k += 1;
+    }
+    k
 }
 
 // Numbers below this have room for a byte more.

@@ -5,4 +5,4 @@ use Rattle.listing.specs.Listed.{held}
 use Rattle.listing.proofs.list_refusal.Goals as goal
 
 pub returns : goal.returns
-returns c = held _ (search rules) refl c.refusal.ensures.puts.put _ c.told.ensures
+returns c = held _ (search rules) refl c.refusal_line.ensures.puts.put _ c.told.ensures

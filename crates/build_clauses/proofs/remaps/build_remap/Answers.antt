@@ -1,7 +1,6 @@
 -- `remaps::build_remap`: nothing, or the targets between the head of the record and its length.
 use Rattle.build_clauses.specs.Remaps.{remap-nothing, remap-done}
 use Rattle.plan.specs.Records.{opened-remap}
-use Rattle.std.specs.Prelude.{◌-◌, ◌≡◌}
 use native.Mathlib.Omega.{arith}
 use Rattle.build_clauses.proofs.remaps.build_remap.Goals as goal
 
@@ -10,5 +9,4 @@ returns-then-scope-eq0 c = remap-nothing c.if-scope-eq0.true (omega (arith, c.re
 
 pub returns : goal.returns
 returns c = rw c.next.ensures (remap-done _ _ _ c.if-scope-eq0.false (opened-remap c.begin.ensures)
-    (let e : c.args.scope.now.width - (c.args.scope.now.width - c.args.scope.now.hidden) ≡ c.args.scope.now.hidden = omega (arith, c.requires.hidden_le_width) in
-    rw e at c.push_targets.ensures) c.requires.hidden_le_width c.end.ensures)
+    c.push_targets.ensures c.requires.hidden_le_width c.end.ensures)

@@ -11,15 +11,18 @@ returns-in_err-table c = rw (exit c.from_residual.result c.from_residual.ensures
 pub column_map-requires : goal.column_map-requires
 column_map-requires c = insert-names c.args.exprs.now.texts.catalog.now c.args.exprs.now.texts.statement.now c.args.tables.now c.args.exprs.now.table.now c.args.parts.now c.requires _ refl
 
+pub map_columns-map-requires : goal.map_columns-map-requires
+map_columns-map-requires c = c.in_ok-count.ensures.few
+
 pub build_mapped-requires : goal.build_mapped-requires
 build_mapped-requires c = record {
   free = c.requires.free;
-  insert_fits = insert-fits c.args.exprs.now.texts.catalog.now c.args.exprs.now.texts.statement.now c.args.tables.now c.args.exprs.now.table.now c.args.parts.now c.requires _ _ _ c.name-name.ensures.address c.name-name.ensures.length c.line.ensures c.find_table.ensures _ c.in_ok-table.was c.column_map.ensures _ c.in_ok-map.was;
+  insert_fits = rw c.map_columns-map.ensures (insert-fits c.args.exprs.now.texts.catalog.now c.args.exprs.now.texts.statement.now c.args.tables.now c.args.exprs.now.table.now c.args.parts.now c.requires _ _ _ c.name-name.ensures.address c.name-name.ensures.length c.line.ensures c.find_table.ensures _ c.in_ok-table.was c.column_map.ensures.map _ c.in_ok-count.was);
 }
 
-pub returns-in_err-map : goal.returns-in_err-map
-returns-in_err-map c = rw (exit c.from_residual-in_err-map.result c.from_residual-in_err-map.ensures.1)
-    (insert-map-refused c.args.exprs.now.texts.catalog.now c.args.exprs.now.texts.statement.now c.args.tables.now c.args.exprs.now.table.now c.args.parts.now c.requires _ _ _ c.name-name.ensures.address c.name-name.ensures.length c.line.ensures c.find_table.ensures _ c.in_ok-table.was c.column_map.ensures _ c.in_err-map.was)
+pub returns-in_err-count : goal.returns-in_err-count
+returns-in_err-count c = rw (exit c.from_residual-in_err-count.result c.from_residual-in_err-count.ensures.1)
+    (insert-map-refused c.args.exprs.now.texts.catalog.now c.args.exprs.now.texts.statement.now c.args.tables.now c.args.exprs.now.table.now c.args.parts.now c.requires _ _ _ c.name-name.ensures.address c.name-name.ensures.length c.line.ensures c.find_table.ensures _ c.in_ok-table.was c.column_map.ensures.map _ c.in_err-count.was)
 
 pub returns : goal.returns
-returns c = insert-planned c.args.exprs.now.texts.catalog.now c.args.exprs.now.texts.statement.now c.args.tables.now c.args.exprs.now.table.now c.args.parts.now c.requires _ _ _ c.name-name.ensures.address c.name-name.ensures.length c.line.ensures c.find_table.ensures _ c.in_ok-table.was c.column_map.ensures _ c.in_ok-map.was c.build_mapped.ensures
+returns c = insert-planned c.args.exprs.now.texts.catalog.now c.args.exprs.now.texts.statement.now c.args.tables.now c.args.exprs.now.table.now c.args.parts.now c.requires _ _ _ c.name-name.ensures.address c.name-name.ensures.length c.line.ensures c.find_table.ensures _ c.in_ok-table.was c.column_map.ensures.map _ c.in_ok-count.was (rw (← c.map_columns-map.ensures) c.build_mapped.ensures)
